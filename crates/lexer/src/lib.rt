@@ -1,0 +1,1 @@
+// Definitions only, in specs/: from the bytes of a source to its tokens.

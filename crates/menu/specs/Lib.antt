@@ -1,0 +1,2 @@
+-- The operation Menu.
+pub mod Menu

@@ -1,0 +1,73 @@
+-- How a source ends under Run's definition, as a value that a table can list.
+use Prim.Native.Nat.{ℕ}
+use mathlib.Core.List.{List, [], _∷_, _++_, map}
+use lib.IntN.{ℤ}
+use Rattle.base.specs.Bytes.{bytes}
+use Rattle.lexer.specs.Bytes as Bytes
+use Rattle.lexer.specs.Kinds as Kinds
+use Rattle.lexer.specs.Tokens as Tokens
+use Rattle.parser.specs.Measure as Measure
+use Rattle.parser.specs.Parse as Parse
+use Rattle.parser.specs.Read as Read
+use Rattle.parser.specs.Stream as Stream
+use Rattle.checker.specs.Check as Check
+use Rattle.checker.specs.ClassTable as ClassTable
+use Rattle.checker.specs.Declarations as Declarations
+use Rattle.checker.specs.Judge as Judge
+use Rattle.semantics.specs.Limits as Limits
+use Rattle.semantics.specs.Machine as Machine
+
+-- a refusal's number and position; 22 at one of these positions; the report of a run
+pub data End : Type 0 where
+  refusedAt : (number position : ℕ) → End
+  endlessAt : (positions : List ℕ) → End
+  ran : Limits.Report → End
+
+abbrev pub ofVerdict : Limits.Limits → Check.Verdict → End
+ofVerdict L (Check.Verdict.accept p) = ran (Limits.run p L)
+ofVerdict L (Check.Verdict.refuse n p) = refusedAt n p
+ofVerdict L (Check.Verdict.refuseEndless ps) = endlessAt ps
+
+-- what the end of a source depends on unfolds with it
+unfoldable pub endOf : List ℕ → Limits.Limits → End
+unfolding Bytes.isBlank Bytes.isLetter Bytes.isDigit Bytes.isNamePart Kinds.isName Kinds.words Kinds.wordKind Kinds.markKind Tokens.run Tokens.closing
+    Tokens.decimal Tokens.item Tokens.turn Tokens.tokensFrom Tokens.tokens Measure.deep Measure.methodsDeep Measure.classesDeep Measure.programDeep
+    Parse.beginsStatement Parse.step Parse.run Parse.typeFrom Parse.variableFrom Parse.beginsVariable Parse.variablesFrom Parse.someParameters
+    Parse.parametersFrom Parse.methodFrom Parse.methodsFrom Parse.parentFrom Parse.classFrom Parse.classesFrom Parse.programFrom Parse.parse Read.reading
+    Stream.operatorOf Check.bodies Check.classBodies Check.allBodies Check.judged Check.checking ClassTable.classNamed ClassTable.methodNamed
+    ClassTable.variableNamed ClassTable.chainWithin ClassTable.chain ClassTable.endsWithin ClassTable.sameType ClassTable.known ClassTable.among
+    ClassTable.onChain ClassTable.fits ClassTable.layout ClassTable.fieldsOf ClassTable.nearestField ClassTable.nearestMethod ClassTable.methodOf
+    ClassTable.meaning Declarations.occurs Declarations.distinctClasses Declarations.knownParents Declarations.endless Declarations.fields
+    Declarations.variables Declarations.sameTypes Declarations.heads Declarations.declarations Judge.arity Judge.judge Limits.guard Limits.runWith
+    Limits.run Machine.readName Machine.writeName Machine.begin Machine.beginStatement Machine.second Machine.callMethod Machine.nextArgument
+    Machine.nextStatement Machine.nextOfBody Machine.newArrayOf Machine.newObjectOf Machine.go Machine.plan
+endOf s L = ofVerdict L (Check.checking s)
+
+-- an end with a result number and a position, steps, heap words and printed numbers
+abbrev pub ends : (number position steps words : ℕ) → List ℤ → End
+ends n p steps words printed = ran (record { ending = Limits.Ending.ended n p; steps = steps; words = words; printed = printed })
+
+-- bayrun's limits, with another budget or call limit where a row says so
+abbrev pub limits : (budget calls : ℕ) → Limits.Limits
+limits budget calls = record { budget = budget; calls = calls; heap = 4096; printed = 256 }
+
+abbrev pub usual : Limits.Limits
+usual = limits 100000 64
+
+-- the frame of document 01 with E in its place, at position 63; it is 67 bytes long without E
+abbrev pub printing : List ℕ → List ℕ
+printing e = bytes "class M{public static void main(String[] a){System.out.println(" ++ e ++ bytes ");}}"
+
+pub record Row : Type 0 where
+  pub source : List ℕ
+  pub limits : Limits.Limits
+  pub end : End
+
+abbrev pub row : List ℕ → Limits.Limits → End → Row
+row s L e = record { source = s; limits = L; end = e }
+
+abbrev pub found : List Row → List End
+found rows = map (λ r. endOf (r .source) (r .limits)) rows
+
+abbrev pub expected : List Row → List End
+expected rows = map (λ r. r .end) rows

@@ -1,0 +1,59 @@
+-- Rows of our own, for the rules that the starred rows do not touch; the ends are worked out by hand from document 01.
+use Prim.Native.Nat.{ℕ, zero, suc, _+_}
+use mathlib.Core.Path.{_≡_, refl}
+use mathlib.Core.List.{List, [], _∷_, _++_}
+use lib.IntN.{pos}
+use lib.ListN.{replicate}
+use Rattle.base.specs.Bytes.{bytes}
+use Rattle.rows.specs.Ends.{Row, row, endOf, found, expected, refusedAt, endlessAt, ends, limits, usual, printing}
+
+-- the frame with the expression 1, 68 bytes long, then classes
+abbrev pub declaring : List ℕ → List ℕ
+declaring classes = printing (bytes "1") ++ classes
+
+-- so many times
+abbrev pub times : ℕ → List ℕ → List ℕ
+times zero s = []
+times (suc n) s = s ++ times n s
+
+-- int a,int aa,.. : n + 1 parameters
+abbrev pub parameters : ℕ → List ℕ
+parameters zero = bytes "int a"
+parameters (suc n) = parameters n ++ bytes ",int " ++ replicate (n + 2) 97
+
+abbrev pub furtherRows : List Row
+furtherRows =
+    -- 63 sums: the leftmost 1 has depth 65
+    row (printing (times 63 (bytes "1+") ++ bytes "1")) usual (refusedAt 17 63) ∷
+    row (declaring (bytes " class A{} class A{}")) usual (refusedAt 20 85) ∷
+    row (declaring (bytes " class A extends M{}")) usual (refusedAt 21 85) ∷
+    -- a class that only leads into a loop counts
+    row (declaring (bytes " class A extends B{} class B extends A{} class C extends A{}")) usual (endlessAt (75 ∷ 95 ∷ 115 ∷ [])) ∷
+    row (declaring (bytes " class A{int x;boolean x;}")) usual (refusedAt 23 91) ∷
+    -- main's name is no type
+    row (declaring (bytes " class A{M x;}")) usual (refusedAt 24 77) ∷
+    -- a field may share a method's name
+    row (declaring (bytes " class A{int m;public int m(){return 1;}public int m(){return 2;}}")) usual (refusedAt 25 119) ∷
+    row (declaring (bytes " class A{public int m(int x){return x;}} class B extends A{public int m(boolean y){return 1;}}")) usual (refusedAt 26 138) ∷
+    row (declaring (bytes " class A{public int m(int x,int x){return x;}}")) usual (refusedAt 27 100) ∷
+    row (declaring (bytes " class A{public int m(" ++ parameters 32 ++ bytes "){return a;}}")) usual (refusedAt 28 782) ∷
+    row (printing (bytes "new A().m()") ++ bytes " class A{}") usual (refusedAt 32 71) ∷
+    -- the count is tested before the arguments
+    row (printing (bytes "new A().m(1,x)") ++ bytes " class A{public int m(int y){return y;}}") usual (refusedAt 33 71) ∷
+    -- null is tested after the arguments: the array is made
+    row (printing (bytes "new A().m()") ++ bytes " class A{A n;public int m(){return n.k(new int[3].length);}public int k(int x){return x;}}") usual
+    (ends 40 113 8 6 []) ∷
+    row (printing (bytes "new A().m()") ++ bytes " class A{public int m(){return this.m();}}") (limits 100000 2) (ends 52 109 7 1 []) ∷
+    -- the method is the object's own, not that of the declared type
+    row (printing (bytes "new C().k(new B())") ++ bytes " class A{public int m(){return 1;}} class B extends A{public int m(){return 2;}} class C{public int k(A a){return a.m();}}")
+    usual (ends 0 0 7 2 (pos 2 ∷ [])) ∷
+    -- the object holds both fields x, and a method's name x means the one seen from its own class
+    row (printing (bytes "new B().b()") ++ bytes " class A{int x;public int a(){return x;}} class B extends A{int x;public int b(){x=5;return this.a()*10+x;}}")
+    usual (ends 0 0 12 3 (pos 5 ∷ [])) ∷
+    -- four tests, three rounds, and one step for the `while` itself
+    row (printing (bytes "new A().m()") ++ bytes " class A{public int m(){int i;while(i<3)i=i+1;return i;}}") usual (ends 0 0 29 1 (pos 3 ∷ [])) ∷
+    []
+
+pub further : found furtherRows ≡ expected furtherRows
+unfolding endOf
+further = refl

@@ -1,0 +1,1 @@
+// Definitions only, in specs/: the machine, and the operation Run.
