@@ -5,3 +5,5 @@ pub mod Grammar
 pub mod Parse
 pub mod Measure
 pub mod Read
+pub mod Layout
+pub mod Post

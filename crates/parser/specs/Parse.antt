@@ -8,7 +8,7 @@ use lib.ListN.{length}
 use lib.Dec.{eqb}
 use Rattle.base.specs.Choice.{if_then_else_, option}
 use Rattle.lexer.specs.Tokens.{Token, decimal}
-use Rattle.lexer.specs.Kinds.{kEnd, kOut, kPrintln, kLiteral, kBoolean, kClass, kElse, kExtends, kFalse, kIf, kInt, kLength, kMain, kNew, kPublic, kReturn, kStatic, kString, kSystem, kThis, kTrue, kVoid, kWhile}
+use Rattle.lexer.specs.Kinds.{kEnd, kName, kOut, kPrintln, kLiteral, kBoolean, kClass, kElse, kExtends, kFalse, kIf, kInt, kLength, kMain, kNew, kPublic, kReturn, kStatic, kString, kSystem, kThis, kTrue, kVoid, kWhile}
 use Rattle.lexer.specs.Kinds.{kNot, kAssign, kDot, kComma, kSemicolon, kOpen, kClose, kOpenBracket, kCloseBracket, kOpenBrace, kCloseBrace, isName}
 use Rattle.parser.specs.Tree.{Name, Operator, Sort, Part, Expression, Statement, Ty, TypeUse, Variable, Method, Class, Program}
 use Rattle.parser.specs.Tree.{Sort.expression, Sort.arguments, Sort.statement, Sort.statements, Ty.int, Ty.boolean, Ty.intArray, Ty.class}
@@ -33,6 +33,14 @@ expect ts kind i k = if eqb (kindAt ts i) kind then (λ _. k (i + 1)) else λ _.
 
 abbrev pub expectName : {A : Type 0} → List Token → ℕ → (ℕ → Parsed A) → Parsed A
 expectName ts i k = if isName (kindAt ts i) then (λ _. k (i + 1)) else λ _. bad i
+
+-- the tokens from i on are of these kinds, where `kName` stands for any name
+abbrev pub accepts : (wanted kind : ℕ) → Bool
+accepts wanted kind = if eqb wanted kName then (λ _. isName kind) else λ _. eqb kind wanted
+
+abbrev pub expectAll : {A : Type 0} → List Token → (kinds : List ℕ) → ℕ → (ℕ → Parsed A) → Parsed A
+expectAll ts [] i k = k i
+expectAll ts (q ∷ qs) i k = if accepts q (kindAt ts i) then (λ _. expectAll ts qs (i + 1) k) else λ _. bad i
 
 -- EXPRESSIONS AND STATEMENTS
 
@@ -59,6 +67,17 @@ operand product = unary
 
 unfoldable pub beginsStatement : ℕ → Bool
 beginsStatement k = eqb k kOpenBrace || eqb k kIf || eqb k kWhile || eqb k kSystem || isName k
+
+-- `.out.println(` after `System`, and `);` after what is printed
+abbrev pub printHead : List ℕ
+printHead = kDot ∷ kOut ∷ kDot ∷ kPrintln ∷ kOpen ∷ []
+
+abbrev pub printEnd : List ℕ
+printEnd = kClose ∷ kSemicolon ∷ []
+
+-- `]=` after the index of an assignment's target
+abbrev pub elementEnd : List ℕ
+elementEnd = kCloseBracket ∷ kAssign ∷ []
 
 -- the parser of each mode, over the parsers that it calls
 module _ (ts : List Token) (P : (s : Sort) → Mode s → ℕ → Parsed (Part s)) where
@@ -109,24 +128,27 @@ module _ (ts : List Token) (P : (s : Sort) → Mode s → ℕ → Parsed (Part s
   abbrev pub blockFrom : ℕ → Parsed Statement
   blockFrom i = bind (P statements statementList (i + 1)) λ ss j. expect ts kCloseBrace j λ j. ok (block (placeAt ts i i) ss) j
 
+  -- `s else t` and `s`, after the test of an `if` or a `while` that begins at token i
+  abbrev pub branchesFrom : (i : ℕ) → Expression → ℕ → Parsed Statement
+  branchesFrom i e j =
+      bind (P statement aStatement j) λ s j. expect ts kElse j λ j. bind (P statement aStatement j) λ t j. ok (conditional (placeAt ts i i) e s t) j
+
+  abbrev pub repeatedFrom : (i : ℕ) → Expression → ℕ → Parsed Statement
+  repeatedFrom i e j = bind (P statement aStatement j) λ s j. ok (loop (placeAt ts i i) e s) j
+
   abbrev pub conditionalFrom : ℕ → Parsed Statement
-  conditionalFrom i =
-      expect ts kOpen (i + 1) λ j. bind (P expression anExpression j) λ e j. expect ts kClose j λ j. bind (P statement aStatement j) λ s j.
-      expect ts kElse j λ j. bind (P statement aStatement j) λ t j. ok (conditional (placeAt ts i i) e s t) j
+  conditionalFrom i = expect ts kOpen (i + 1) λ j. bind (P expression anExpression j) λ e j. expect ts kClose j λ j. branchesFrom i e j
 
   abbrev pub loopFrom : ℕ → Parsed Statement
-  loopFrom i =
-      expect ts kOpen (i + 1) λ j. bind (P expression anExpression j) λ e j. expect ts kClose j λ j. bind (P statement aStatement j) λ s j.
-      ok (loop (placeAt ts i i) e s) j
+  loopFrom i = expect ts kOpen (i + 1) λ j. bind (P expression anExpression j) λ e j. expect ts kClose j λ j. repeatedFrom i e j
 
   abbrev pub printFrom : ℕ → Parsed Statement
   printFrom i =
-      expect ts kDot (i + 1) λ j. expect ts kOut j λ j. expect ts kDot j λ j. expect ts kPrintln j λ j. expect ts kOpen j λ j.
-      bind (P expression anExpression j) λ e j. expect ts kClose j λ j. expect ts kSemicolon j λ j. ok (print (placeAt ts i i) e) j
+      expectAll ts printHead (i + 1) λ j. bind (P expression anExpression j) λ e j. expectAll ts printEnd j λ j. ok (print (placeAt ts i i) e) j
 
   abbrev pub assignElementFrom : ℕ → Parsed Statement
   assignElementFrom i =
-      bind (P expression anExpression (i + 2)) λ n j. expect ts kCloseBracket j λ j. expect ts kAssign j λ j.
+      bind (P expression anExpression (i + 2)) λ n j. expectAll ts elementEnd j λ j.
       bind (P expression anExpression j) λ e j. expect ts kSemicolon j λ j. ok (assignElement (placeAt ts i i) (tokenAt ts i .text) n e) j
 
   abbrev pub assignFrom : ℕ → Parsed Statement
@@ -211,12 +233,16 @@ someParameters (suc f) ts i =
 unfoldable pub parametersFrom : (fuel : ℕ) → List Token → ℕ → Parsed (List Variable)
 parametersFrom f ts i = if eqb (kindAt ts i) kClose then (λ _. ok [] (i + 1)) else λ _. someParameters f ts i
 
+-- `;}` after a return expression
+abbrev pub methodEnd : List ℕ
+methodEnd = kSemicolon ∷ kCloseBrace ∷ []
+
 -- from `public` to the `}` of its body
 unfoldable pub methodFrom : (fuel : ℕ) → List Token → ℕ → Parsed Method
 methodFrom f ts i =
     expect ts kPublic i λ j. bind (variableFrom ts j) λ head j. expect ts kOpen j λ j. bind (parametersFrom f ts j) λ ps j.
     expect ts kOpenBrace j λ j. bind (variablesFrom f false ts j) λ ls j. bind (run f ts statementList j) λ ss j.
-    expect ts kReturn j λ j. bind (run f ts anExpression j) λ e j. expect ts kSemicolon j λ j. expect ts kCloseBrace j λ j.
+    expect ts kReturn j λ j. bind (run f ts anExpression j) λ e j. expectAll ts methodEnd j λ j.
     ok (record { result = head .type; name = head .name; parameters = ps; locals = ls; body = ss; value = e }) j
 
 unfoldable pub methodsFrom : (fuel : ℕ) → List Token → ℕ → Parsed (List Method)
@@ -240,14 +266,19 @@ classesFrom (suc f) ts i =
     if eqb (kindAt ts i) kEnd then (λ _. ok [] i) else λ _.
     bind (classFrom f ts i) λ c j. bind (classesFrom f ts j) λ cs j. ok (c ∷ cs) j
 
+-- `class M { public static void main ( String [ ] a ) {`, and the two closing braces after the statement
+abbrev pub mainHead : List ℕ
+mainHead =
+    kClass ∷ kName ∷ kOpenBrace ∷ kPublic ∷ kStatic ∷ kVoid ∷ kMain ∷ kOpen ∷ kString ∷ kOpenBracket ∷ kCloseBracket ∷ kName ∷ kClose ∷ kOpenBrace ∷ []
+
+abbrev pub mainEnd : List ℕ
+mainEnd = kCloseBrace ∷ kCloseBrace ∷ []
+
 -- Main holds exactly one statement.
 unfoldable pub programFrom : (fuel : ℕ) → List Token → Parsed Program
 programFrom f ts =
-    expect ts kClass 0 λ n. expectName ts n λ j. expect ts kOpenBrace j λ j. expect ts kPublic j λ j. expect ts kStatic j λ j. expect ts kVoid j λ j.
-    expect ts kMain j λ j. expect ts kOpen j λ j. expect ts kString j λ j. expect ts kOpenBracket j λ j. expect ts kCloseBracket j λ p.
-    expectName ts p λ j. expect ts kClose j λ j. expect ts kOpenBrace j λ j. bind (run f ts aStatement j) λ s j.
-    expect ts kCloseBrace j λ j. expect ts kCloseBrace j λ j. bind (classesFrom f ts j) λ cs j.
-    ok (record { main = nameAt ts n; parameter = nameAt ts p; statement = s; classes = cs }) j
+    expectAll ts mainHead 0 λ j. bind (run f ts aStatement j) λ s j. expectAll ts mainEnd j λ j. bind (classesFrom f ts j) λ cs j.
+    ok (record { main = nameAt ts 1; parameter = nameAt ts 11; statement = s; classes = cs }) j
 
 -- At most 16 parsers are open for each token read.
 unfoldable pub parse : List Token → Parsed Program

@@ -1,1 +1,6 @@
-// Definitions only, in specs/: from tokens to the tree, and the operation Read.
+// From tokens to the tree, and the operation Read.
+pub mod answer;
+pub mod expr;
+pub mod kinds;
+pub mod stmt;
+pub mod table;

@@ -1,0 +1,9 @@
+pub mod Proper
+pub mod Machine
+pub mod Reads
+pub mod Parts
+pub mod Declarations
+pub mod Completion
+pub mod Complete
+pub mod Whole
+pub mod Agreement

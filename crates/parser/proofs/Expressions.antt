@@ -1,0 +1,227 @@
+-- What each return of the functions on expressions shows: from what the callees ensure and the kinds of the tokens read, what the function ensures.
+use Prim.Native.Nat.{ℕ, zero, suc, _+_, _*_, _-_, _≤_, _<_}
+use mathlib.Core.Path.{_≡_, refl, sym, ap, _∙_, subst}
+use mathlib.Core.List.{List}
+use mathlib.Core.Logic.{_≢_}
+use mathlib.Core.Bool.{Bool, true, false, _&&_}
+use mathlib.Core.Option.{Option, none, some}
+use native.Mathlib.Omega.{arith}
+use lib.Dec.{eqb}
+use borrow.Author.Tests.{eq-eqb, ne-eqb}
+use Rattle.base.specs.Choice.{if_then_else_, option}
+use Rattle.base.specs.Table.{col, put}
+use Rattle.lexer.specs.Kinds.{isName}
+use Rattle.lexer.specs.Tokens.{Token, decimal}
+use Rattle.parser.specs.declared.answer.Answer.{Answer}
+use Rattle.parser.specs.declared.answer.Answer.the-variants.{At, Bad}
+use Rattle.parser.specs.Tree.{Place, Operator, Sort, Sort.expression, Sort.arguments, Part, Expression}
+use Rattle.parser.specs.Tree.{Part.literal, Part.truth, Part.variable, Part.this, Part.newArray, Part.newObject, Part.negation, Part.binary, Part.element, Part.arrayLength, Part.call, Part.noArguments, Part.argument}
+use Rattle.parser.specs.Stream.{tokenAt, kindAt, startAt, placeAt, nameAt, Level, Level.conjunction, Level.comparison, Level.sum, Level.product, operatorOf}
+use Rattle.parser.specs.Parse.{Parsed, ok, bad, out, bind, Mode, operation, operations, operand, unary, postfix, primary, suffixes, argumentList, someArguments, anExpression, step, run}
+use Rattle.parser.specs.Layout.{absent, rowOf, node, given, store}
+use Rattle.parser.specs.Post.{kindIn, TokensIn, part, Met, met-ok, met-bad, Within, ModePost, RestPost, Rest, restMode, moreOperations, moreSuffixes, levelAt, isOperator, isAtom, startsArray, rank, fuel}
+use Rattle.parser.proofs.Laws.{there, there-by, same-kind, tokens-kept, given-put, given-node, kind-of, is, is-not, passes, at-result, bind-ok, bind-bad, stepped, within-ok, within-more}
+
+-- a node as the code writes it
+pub made : {T : List ℕ} {n : ℕ} {ts : List Token} (T₂ : List ℕ) (i first l r : ℕ) → TokensIn T n ts → first < n → T₂ ≡ node T i (col T 1 first) l r → T₂ ≡ node T i (startAt ts first) l r
+made {T} T₂ i first l r h lt e = e ∙ ap (λ (b : ℕ). node T i b l r) (h .starts first lt)
+
+-- LEVELS
+
+rank-operand : (L : Level) → rank (operand L) < rank (operation L)
+rank-operand conjunction = omega arith
+rank-operand comparison = omega arith
+rank-operand sum = omega arith
+rank-operand product = omega arith
+
+rank-small : (L : Level) → rank (operand L) < 6
+rank-small conjunction = omega arith
+rank-small comparison = omega arith
+rank-small sum = omega arith
+rank-small product = omega arith
+
+next-level : (k : ℕ) → k < 3 → operand (levelAt k) ≡ operation (levelAt (k + 1))
+unfolding levelAt
+next-level zero h = refl
+next-level (suc zero) h = refl
+next-level (suc (suc zero)) h = refl
+next-level (suc (suc (suc k))) h = absurd (omega arith)
+
+last-level : (k : ℕ) → k ≤ 3 → 3 ≤ k → operand (levelAt k) ≡ unary
+unfolding levelAt
+last-level zero h h′ = absurd (omega arith)
+last-level (suc zero) h h′ = absurd (omega arith)
+last-level (suc (suc zero)) h h′ = absurd (omega arith)
+last-level (suc (suc (suc zero))) h h′ = refl
+last-level (suc (suc (suc (suc k)))) h h′ = absurd (omega arith)
+
+module _ {n i : ℕ} {T T₁ : List ℕ} {r : Answer} where
+  pub operand-next : (k : ℕ) → k < 3 → ModePost (operation (levelAt (k + 1))) n n i T r T₁ → ModePost (operand (levelAt k)) n n i T r T₁
+  operand-next k h p = subst (λ (m : Mode expression). ModePost m n n i T r T₁) (sym (next-level k h)) p
+
+  pub operand-last : (k : ℕ) → k ≤ 3 → 3 ≤ k → ModePost unary n n i T r T₁ → ModePost (operand (levelAt k)) n n i T r T₁
+  operand-last k h h′ p = subst (λ (m : Mode expression). ModePost m n n i T r T₁) (sym (last-level k h h′)) p
+
+-- the operator that a test found, or none
+found : (o : Option Operator) → option o false (λ _. true) ≡ true → (x : Operator) × (o ≡ some x)
+found none e = absurd (let z : _≡_ {A = ℕ} 0 1 = cc in omega arith)
+found (some x) e = (x, refl)
+
+not-found : (o : Option Operator) → option o false (λ _. true) ≡ false → o ≡ none
+not-found none e = refl
+not-found (some x) e = absurd (let z : _≡_ {A = ℕ} 0 1 = cc in omega arith)
+
+operator-of : (level k : ℕ) → isOperator level k ≡ true → (o : Operator) × (operatorOf (levelAt level) k ≡ some o)
+unfolding isOperator
+operator-of level k e = found (operatorOf (levelAt level) k) e
+
+no-operator : (level k : ℕ) → isOperator level k ≡ false → operatorOf (levelAt level) k ≡ none
+unfolding isOperator
+no-operator level k e = not-found (operatorOf (levelAt level) k) e
+
+zero-no-operator : (L : Level) → option (operatorOf L 0) false (λ _. true) ≡ false
+unfolding operatorOf
+zero-no-operator conjunction = refl
+zero-no-operator comparison = refl
+zero-no-operator sum = refl
+zero-no-operator product = refl
+
+-- an operator's token is there
+pub operator-there : (T : List ℕ) (n i k level : ℕ) {b : Bool} → k ≡ kindIn T n i → b ≡ isOperator level k → b ≡ true → i < n
+unfolding isOperator
+operator-there T n i k level e eb t = there-by (isOperator level) (zero-no-operator (levelAt level)) T n i k e (sym eb ∙ t)
+
+-- A WHOLE: its first part, and what follows it
+module _ (whole first : Mode expression) (rest : Rest) {n i : ℕ} {T : List ℕ}
+    (steps : (ts : List Token) → TokensIn T n ts → (P : (s : Sort) → Mode s → ℕ → Parsed (Part s))
+    → step ts P whole i ≡ bind (P expression first i) (λ l j. P expression (restMode rest l) j))
+    (low : rank first < rank whole) (few : n ≤ 2048) where
+  whole-ok : {x j : ℕ} {T₁ T₂ : List ℕ} {r₁ r : Answer} → ModePost first n n i T r₁ T₁ → r₁ ≡ At x j → RestPost rest n x j T₁ r T₂ → ModePost whole n n i T r T₂
+  whole-ok {x} {j} {T₁} {T₂} {r₁} {r} p e q =
+      let w = within-ok e (p .within) in
+      record {
+        kept = q .kept ∙ p .kept;
+        within = within-more j (i + 1) n n n r (w .0) (omega arith) (q .within);
+        says = λ ts h. stepped whole ts i (fuel whole n i) (λ f enough. at-result (steps ts h _)
+            (bind-ok _ e (p .says ts h f (omega arith)) (λ a ea ta. q .says a T ea ta ts (tokens-kept few (p .kept) h) f (omega arith))));
+      }
+
+  whole-bad : {k : ℕ} {T₁ : List ℕ} {r₁ : Answer} → ModePost first n n i T r₁ T₁ → r₁ ≡ Bad k → ModePost whole n n i T (Bad k) T₁
+  whole-bad {k} {T₁} {r₁} p e =
+      record {
+        kept = p .kept;
+        within = tt;
+        says = λ ts h. stepped whole ts i (fuel whole n i) (λ f enough. at-result (steps ts h _) (bind-bad _ e (p .says ts h f (omega arith))));
+      }
+
+pub operation-ok : {L : Level} {n i x j : ℕ} {T T₁ T₂ : List ℕ} {r₁ r : Answer} → n ≤ 2048 → ModePost (operand L) n n i T r₁ T₁ → r₁ ≡ At x j
+    → RestPost (moreOperations L i) n x j T₁ r T₂ → ModePost (operation L) n n i T r T₂
+unfolding step
+operation-ok {L} {i = i} few p e q = whole-ok (operation L) (operand L) (moreOperations L i) (λ ts h P. refl) (rank-operand L) few p e q
+
+pub operation-bad : {L : Level} {n i k : ℕ} {T T₁ : List ℕ} {r₁ : Answer} → n ≤ 2048 → ModePost (operand L) n n i T r₁ T₁ → r₁ ≡ Bad k
+    → ModePost (operation L) n n i T (Bad k) T₁
+unfolding step
+operation-bad {L} {i = i} few p e = whole-bad (operation L) (operand L) (moreOperations L i) (λ ts h P. refl) (rank-operand L) few p e
+
+-- what is no `new int` is a primary and its suffixes
+not-array : (T : List ℕ) (n i : ℕ) → startsArray T n i ≡ false → (ts : List Token) → TokensIn T n ts → (P : (s : Sort) → Mode s → ℕ → Parsed (Part s))
+    → step ts P postfix i ≡ bind (P expression primary i) (λ l j. P expression (suffixes true i l) j)
+unfolding step startsArray
+not-array T n i t ts h P = rw (← h .kinds i, ← h .kinds (i + 1), t) refl
+
+pub postfix-ok : {n i x j : ℕ} {b : Bool} {T T₁ T₂ : List ℕ} {r₁ r : Answer} → n ≤ 2048 → b ≡ startsArray T n i → b ≡ false
+    → ModePost primary n n i T r₁ T₁ → r₁ ≡ At x j → RestPost (moreSuffixes true i) n x j T₁ r T₂ → ModePost postfix n n i T r T₂
+postfix-ok {n} {i} {T = T} few eb t p e q = whole-ok postfix primary (moreSuffixes true i) (not-array T n i (sym eb ∙ t)) (omega arith) few p e q
+
+pub postfix-bad : {n i k : ℕ} {b : Bool} {T T₁ : List ℕ} {r₁ : Answer} → n ≤ 2048 → b ≡ startsArray T n i → b ≡ false
+    → ModePost primary n n i T r₁ T₁ → r₁ ≡ Bad k → ModePost postfix n n i T (Bad k) T₁
+postfix-bad {n} {i} {T = T} few eb t p e = whole-bad postfix primary (moreSuffixes true i) (not-array T n i (sym eb ∙ t)) (omega arith) few p e
+
+-- WHAT FOLLOWS AN OPERAND
+is-binary : (p : Place) (o : Operator) (l r : Expression) (t : List ℕ) → store (binary p o l r) t ≡ node (store r (store l t)) (p .row) (p .start) (rowOf l) (rowOf r)
+unfolding store
+is-binary p o l r t = refl
+
+module _ (level : ℕ) {n first left i k : ℕ} {T : List ℕ} {b : Bool} (ek : k ≡ kindIn T n i) (eb : b ≡ isOperator level k) where
+  pub operations-ok : {x j : ℕ} {T₁ T₂ T₃ : List ℕ} {r₁ r : Answer} → n ≤ 2048 → first < n → b ≡ true
+      → ModePost (operand (levelAt level)) n n (i + 1) T r₁ T₁ → r₁ ≡ At x j → T₂ ≡ node T₁ i (col T₁ 1 first) left x
+      → RestPost (moreOperations (levelAt level) first) n i j T₂ r T₃ → RestPost (moreOperations (levelAt level) first) n left i T r T₃
+  unfolding step
+  operations-ok {x} {j} {T₁} {T₂} {T₃} {r₁} {r} few lt t p e eT q =
+      let L = levelAt level in
+      let o = operator-of level k (sym eb ∙ t) in
+      let il : i < n = operator-there T n i k level ek eb t in
+      let w = within-ok e (p .within) in
+      let same : given T₂ ≡ given T = ap given eT ∙ given-node T₁ i (col T₁ 1 first) left x ∙ p .kept in
+      record {
+        kept = q .kept ∙ same;
+        within = within-more j i n n n r (omega arith) (omega arith) (q .within);
+        says = λ l base el et ts h. stepped (operations L first l) ts i (16 * (n - i)) (λ f enough.
+            rw (ap (operatorOf L) (kind-of h i ek) ∙ o .1)
+            (bind-ok _ e (p .says ts h f (omega (arith, rank-small L)))
+            (λ a ea ta. q .says (binary (placeAt ts first i) (o .0) l a) base refl
+            (made T₂ i first left x (tokens-kept few (p .kept) h) lt eT ∙ cc (is-binary (placeAt ts first i) (o .0) l a base))
+            ts (tokens-kept few same h) f (omega arith))));
+      }
+
+  pub operations-bad : {z : ℕ} {T₁ : List ℕ} {r₁ : Answer} → b ≡ true → ModePost (operand (levelAt level)) n n (i + 1) T r₁ T₁ → r₁ ≡ Bad z
+      → RestPost (moreOperations (levelAt level) first) n left i T (Bad z) T₁
+  unfolding step
+  operations-bad {z} {T₁} {r₁} t p e =
+      let L = levelAt level in
+      let il : i < n = operator-there T n i k level ek eb t in
+      record {
+        kept = p .kept;
+        within = tt;
+        says = λ l base el et ts h. stepped (operations L first l) ts i (16 * (n - i)) (λ f enough.
+            rw (ap (operatorOf L) (kind-of h i ek) ∙ operator-of level k (sym eb ∙ t) .1) (bind-bad _ e (p .says ts h f (omega (arith, rank-small L)))));
+      }
+
+  pub operations-none : i ≤ n → left < n → b ≡ false → RestPost (moreOperations (levelAt level) first) n left i T (At left i) T
+  unfolding step
+  operations-none le lt t =
+      record {
+        kept = refl;
+        within = (omega arith, le, lt);
+        says = λ l base el et ts h. stepped (operations (levelAt level) first l) ts i (16 * (n - i)) (λ f enough.
+            rw (ap (operatorOf (levelAt level)) (kind-of h i ek) ∙ no-operator level k (sym eb ∙ t)) (met-ok el et));
+      }
+
+-- UNARY
+is-negation : (p : Place) (e : Expression) (t : List ℕ) → store (negation p e) t ≡ node (store e t) (p .row) (p .start) (rowOf e) absent
+unfolding store
+is-negation p e t = refl
+
+module _ {n i k : ℕ} {T : List ℕ} (ek : k ≡ kindIn T n i) where
+  pub negation-ok : {x j : ℕ} {T₁ T₂ : List ℕ} {r₁ : Answer} → n ≤ 2048 → k ≡ 29 → ModePost unary n n (i + 1) T r₁ T₁ → r₁ ≡ At x j
+      → T₂ ≡ node T₁ i (col T₁ 1 i) x 2048 → ModePost unary n n i T (At i j) T₂
+  unfolding step
+  negation-ok {x} {j} {T₁} {T₂} {r₁} few z p e eT =
+      let il = there T n i k 29 ek z (omega arith) in
+      let w = within-ok e (p .within) in
+      record {
+        kept = ap given eT ∙ given-node T₁ i (col T₁ 1 i) x 2048 ∙ p .kept;
+        within = (omega arith, omega arith, omega arith);
+        says = λ ts h. stepped unary ts i (fuel unary n i) (λ f enough. rw (is h i ek z) (bind-ok _ e (p .says ts h f (omega arith))
+            (λ a ea ta. met-ok refl (made T₂ i i x 2048 (tokens-kept few (p .kept) h) il eT ∙ cc (is-negation (placeAt ts i i) a T)))));
+      }
+
+  pub negation-bad : {z : ℕ} {T₁ : List ℕ} {r₁ : Answer} → k ≡ 29 → ModePost unary n n (i + 1) T r₁ T₁ → r₁ ≡ Bad z → ModePost unary n n i T (Bad z) T₁
+  unfolding step
+  negation-bad {z} {T₁} {r₁} q p e =
+      let il = there T n i k 29 ek q (omega arith) in
+      record {
+        kept = p .kept;
+        within = tt;
+        says = λ ts h. stepped unary ts i (fuel unary n i) (λ f enough. rw (is h i ek q) (bind-bad _ e (p .says ts h f (omega arith))));
+      }
+
+  pub to-postfix : {T₁ : List ℕ} {r : Answer} → k ≢ 29 → ModePost postfix n n i T r T₁ → ModePost unary n n i T r T₁
+  unfolding step
+  to-postfix q p =
+      record {
+        kept = p .kept;
+        within = p .within;
+        says = λ ts h. stepped unary ts i (fuel unary n i) (λ f enough. rw (is-not h i ek q) (p .says ts h f (omega arith)));
+      }

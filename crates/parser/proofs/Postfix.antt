@@ -1,0 +1,521 @@
+-- What each return of the functions on postfix forms, primaries and arguments shows: from what the callees ensure and the kinds of the tokens read, what the
+-- function ensures.
+use Prim.Native.Nat.{ℕ, zero, suc, _+_, _*_, _-_, _≤_, _<_}
+use mathlib.Core.Path.{_≡_, refl, sym, ap, _∙_, subst}
+use mathlib.Core.List.{List}
+use mathlib.Core.Logic.{_≢_}
+use mathlib.Core.Bool.{Bool, true, false, _&&_, _||_}
+use native.Mathlib.Omega.{arith}
+use lib.Dec.{eqb, eqb→eq, leb, leb→le, T}
+use borrow.Author.Tests.{eq-eqb, ne-eqb}
+use Rattle.base.specs.Choice.{if_then_else_}
+use Rattle.base.specs.Table.{col, put}
+use Rattle.lexer.specs.Kinds.{isName}
+use Rattle.lexer.specs.Tokens.{Token, decimal}
+use Rattle.parser.specs.declared.answer.Answer.{Answer}
+use Rattle.parser.specs.declared.answer.Answer.the-variants.{At, Bad}
+use Rattle.parser.specs.Tree.{Place, Name, Sort, Sort.expression, Sort.arguments, Part, Expression}
+use Rattle.parser.specs.Tree.{Part.literal, Part.truth, Part.variable, Part.this, Part.newArray, Part.newObject, Part.element, Part.arrayLength, Part.call, Part.noArguments, Part.argument}
+use Rattle.parser.specs.Stream.{tokenAt, kindAt, startAt, placeAt, nameAt}
+use Rattle.parser.specs.Parse.{Parsed, ok, bad, bind, Mode, operation, postfix, primary, suffixes, argumentList, someArguments, step, run}
+use Rattle.parser.specs.Layout.{absent, rowOf, node, given, store}
+use Rattle.parser.specs.Post.{kindIn, TokensIn, part, Met, met-ok, met-bad, Within, ModePost, RestPost, moreOperations, moreSuffixes, levelAt, isAtom, startsArray, fuel}
+use Rattle.parser.proofs.Laws.{plus-two, plus-three, plus-four, there, there-by, tokens-kept, given-put, given-node, kind-of, is, is-not, passes, at-result, bind-ok, bind-bad, stepped, within-ok, within-more}
+use Rattle.parser.proofs.Expressions.{made}
+
+-- a conjunction of tests
+both : (a b : Bool) → (a && b) ≡ true → (a ≡ true) × (b ≡ true)
+both true true e = (refl, refl)
+both true false e = absurd (let z : _≡_ {A = ℕ} 0 1 = cc in omega arith)
+both false b e = absurd (let z : _≡_ {A = ℕ} 0 1 = cc in omega arith)
+
+pub neither : (a b : Bool) → (a || b) ≡ false → (a ≡ false) × (b ≡ false)
+neither true b e = absurd (let z : _≡_ {A = ℕ} 0 1 = cc in omega arith)
+neither false b e = (refl, e)
+
+-- a name's token is there
+pub name-there : (T : List ℕ) (n i k : ℕ) {b : Bool} → k ≡ kindIn T n i → b ≡ isName k → b ≡ true → i < n
+unfolding isName
+name-there T n i k e eb t = there-by isName refl T n i k e (sym eb ∙ t)
+
+-- `new int[e]`
+is-new-array : (p : Place) (e : Expression) (t : List ℕ) → store (newArray p e) t ≡ node (store e t) (p .row) (p .start) (rowOf e) absent
+unfolding store
+is-new-array p e t = refl
+
+module _ (T : List ℕ) (n i k : ℕ) (ek : k ≡ kindIn T n i) where
+  pub new-int : (k′ : ℕ) → k ≡ 14 → k′ ≡ kindIn T n (i + 1) → eqb k′ 11 ≡ startsArray T n i
+  unfolding startsArray
+  new-int k′ z ek′ = rw (← ek, z, ← ek′) refl
+
+  pub no-new : k ≢ 14 → false ≡ startsArray T n i
+  unfolding startsArray
+  no-new z = rw (← ek, ne-eqb k 14 z) refl
+
+module _ (T : List ℕ) (n i : ℕ) (pre : startsArray T n i ≡ true) where
+  array-tests : {ts : List Token} → TokensIn T n ts → (eqb (kindAt ts i) 14 && eqb (kindAt ts (i + 1)) 11) ≡ true
+  unfolding startsArray
+  array-tests h = rw (← h .kinds i, ← h .kinds (i + 1)) pre
+
+  pub array-ok : {k x j k′ : ℕ} {T₁ T₂ T₃ : List ℕ} {r₁ r : Answer} → n ≤ 2048 → k ≡ kindIn T n (i + 2) → k ≡ 36
+      → ModePost (operation (levelAt 0)) n n (i + 3) T r₁ T₁ → r₁ ≡ At x j → k′ ≡ kindIn T₁ n j → k′ ≡ 37 → T₂ ≡ node T₁ i (col T₁ 1 i) x 2048
+      → RestPost (moreSuffixes false i) n i (j + 1) T₂ r T₃ → ModePost postfix n n i T r T₃
+  unfolding step levelAt
+  array-ok {k} {x} {j} {k′} {T₁} {T₂} {T₃} {r₁} {r} few ek z p e ek′ z′ eT q =
+      let il = there T n (i + 2) k 36 ek z (omega arith) in
+      let jl = there T₁ n j k′ 37 ek′ z′ (omega arith) in
+      let w = within-ok e (p .within) in
+      let same : given T₂ ≡ given T = ap given eT ∙ given-node T₁ i (col T₁ 1 i) x 2048 ∙ p .kept in
+      record {
+        kept = q .kept ∙ same;
+        within = within-more (j + 1) (i + 1) n n n r (omega arith) (omega arith) (q .within);
+        says = λ ts h. stepped postfix ts i (fuel postfix n i) (λ f enough. rw (array-tests h, is h (i + 2) ek z, plus-three i)
+            (bind-ok _ e (p .says ts h f (omega arith)) (λ a ea ta. rw (is (tokens-kept few (p .kept) h) j ek′ z′)
+            (q .says (newArray (placeAt ts i i) a) T refl
+            (made T₂ i i x 2048 (tokens-kept few (p .kept) h) (omega arith) eT ∙ cc (is-new-array (placeAt ts i i) a T))
+            ts (tokens-kept few same h) f (omega arith)))));
+      }
+
+  pub array-close : {k x j k′ : ℕ} {T₁ : List ℕ} {r₁ : Answer} → n ≤ 2048 → k ≡ kindIn T n (i + 2) → k ≡ 36
+      → ModePost (operation (levelAt 0)) n n (i + 3) T r₁ T₁ → r₁ ≡ At x j → k′ ≡ kindIn T₁ n j → k′ ≢ 37 → ModePost postfix n n i T (Bad j) T₁
+  unfolding step levelAt
+  array-close {k} {x} {j} {k′} {T₁} {r₁} few ek z p e ek′ z′ =
+      let il = there T n (i + 2) k 36 ek z (omega arith) in
+      record {
+        kept = p .kept;
+        within = tt;
+        says = λ ts h. stepped postfix ts i (fuel postfix n i) (λ f enough. rw (array-tests h, is h (i + 2) ek z, plus-three i)
+            (bind-ok _ e (p .says ts h f (omega arith)) (λ a ea ta. rw (is-not (tokens-kept few (p .kept) h) j ek′ z′) met-bad)));
+      }
+
+  pub array-bad : {k z : ℕ} {T₁ : List ℕ} {r₁ : Answer} → k ≡ kindIn T n (i + 2) → k ≡ 36
+      → ModePost (operation (levelAt 0)) n n (i + 3) T r₁ T₁ → r₁ ≡ Bad z → ModePost postfix n n i T (Bad z) T₁
+  unfolding step levelAt
+  array-bad {k} {z} {T₁} {r₁} ek q p e =
+      let il = there T n (i + 2) k 36 ek q (omega arith) in
+      record {
+        kept = p .kept;
+        within = tt;
+        says = λ ts h. stepped postfix ts i (fuel postfix n i) (λ f enough. rw (array-tests h, is h (i + 2) ek q, plus-three i) (bind-bad _ e (p .says ts h f (omega arith))));
+      }
+
+  pub array-open : {k : ℕ} → k ≡ kindIn T n (i + 2) → k ≢ 36 → ModePost postfix n n i T (Bad (i + 2)) T
+  unfolding step
+  array-open ek q =
+      record {
+        kept = refl;
+        within = tt;
+        says = λ ts h. stepped postfix ts i (fuel postfix n i) (λ f enough. rw (array-tests h, is-not h (i + 2) ek q) met-bad);
+      }
+
+-- SUFFIXES
+is-length : (p : Place) (a : Expression) (t : List ℕ) → store (arrayLength p a) t ≡ node (store a t) (p .row) (p .start) (rowOf a) absent
+unfolding store
+is-length p a t = refl
+
+is-element : (p : Place) (a i : Expression) (t : List ℕ) → store (element p a i) t ≡ node (store i (store a t)) (p .row) (p .start) (rowOf a) (rowOf i)
+unfolding store
+is-element p a i t = refl
+
+is-call : (p : Place) (e : Expression) (m : Name) (es : Part arguments) (t : List ℕ)
+    → store (call p e m es) t ≡ node (store es (store e t)) (p .row) (p .start) (rowOf e) (rowOf es)
+unfolding store
+is-call p e m es t = refl
+
+module _ {n first left i : ℕ} {T : List ℕ} where
+  pub suffix-element : {T₁ : List ℕ} {r : Answer} {b : Bool} → b ≡ true → RestPost (moreSuffixes true first) n left i T r T₁
+      → RestPost (moreSuffixes b first) n left i T r T₁
+  suffix-element {T₁} {r} e p = subst (λ (b : Bool). RestPost (moreSuffixes b first) n left i T r T₁) (sym e) p
+
+  pub suffix-closed : {k : ℕ} {b : Bool} → k ≡ kindIn T n i → k ≡ 36 → b ≡ false → RestPost (moreSuffixes b first) n left i T (Bad i) T
+  unfolding step
+  suffix-closed {k} {b} ek z t =
+      record {
+        kept = refl;
+        within = tt;
+        says = λ l base el et ts h. stepped (suffixes b first l) ts i (16 * (n - i)) (λ f enough. rw (is h i ek z, t) met-bad);
+      }
+
+  pub suffix-length : {k k′ : ℕ} {b : Bool} {T₁ T₂ : List ℕ} {r : Answer} → n ≤ 2048 → first < n → k ≡ kindIn T n i → k ≡ 31 → k′ ≡ kindIn T n (i + 1) → k′ ≡ 12
+      → T₁ ≡ node T i (col T 1 first) left 2048 → RestPost (moreSuffixes true first) n i (i + 2) T₁ r T₂ → RestPost (moreSuffixes b first) n left i T r T₂
+  unfolding step
+  suffix-length {k} {k′} {b} {T₁} {T₂} {r} few lt ek z ek′ z′ eT q =
+      let jl = there T n (i + 1) k′ 12 ek′ z′ (omega arith) in
+      let same : given T₁ ≡ given T = ap given eT ∙ given-node T i (col T 1 first) left 2048 in
+      record {
+        kept = q .kept ∙ same;
+        within = within-more (i + 2) i n n n r (omega arith) (omega arith) (q .within);
+        says = λ l base el et ts h. stepped (suffixes b first l) ts i (16 * (n - i)) (λ f enough. rw (is h i ek z, is h (i + 1) ek′ z′)
+            (q .says (arrayLength (placeAt ts first i) l) base refl (made T₁ i first left 2048 h lt eT ∙ cc (is-length (placeAt ts first i) l base))
+            ts (tokens-kept few same h) f (omega arith)));
+      }
+
+  pub suffix-none : {k : ℕ} {b : Bool} → i ≤ n → left < n → k ≡ kindIn T n i → k ≢ 36 → k ≢ 31 → RestPost (moreSuffixes b first) n left i T (At left i) T
+  unfolding step
+  suffix-none {k} {b} le lt ek z z′ =
+      record {
+        kept = refl;
+        within = (omega arith, le, lt);
+        says = λ l base el et ts h. stepped (suffixes b first l) ts i (16 * (n - i)) (λ f enough. rw (is-not h i ek z, is-not h i ek z′) (met-ok el et));
+      }
+
+  -- `[e]`
+  pub element-ok : {x j k : ℕ} {T₁ T₂ T₃ : List ℕ} {r₁ r : Answer} → n ≤ 2048 → first < n → kindIn T n i ≡ 36
+      → ModePost (operation (levelAt 0)) n n (i + 1) T r₁ T₁ → r₁ ≡ At x j → k ≡ kindIn T₁ n j → k ≡ 37 → T₂ ≡ node T₁ i (col T₁ 1 first) left x
+      → RestPost (moreSuffixes true first) n i (j + 1) T₂ r T₃ → RestPost (moreSuffixes true first) n left i T r T₃
+  unfolding step levelAt
+  element-ok {x} {j} {k} {T₁} {T₂} {T₃} {r₁} {r} few lt z p e ek z′ eT q =
+      let il = there T n i _ 36 refl z (omega arith) in
+      let jl = there T₁ n j k 37 ek z′ (omega arith) in
+      let w = within-ok e (p .within) in
+      let same : given T₂ ≡ given T = ap given eT ∙ given-node T₁ i (col T₁ 1 first) left x ∙ p .kept in
+      record {
+        kept = q .kept ∙ same;
+        within = within-more (j + 1) i n n n r (omega arith) (omega arith) (q .within);
+        says = λ l base el et ts h. stepped (suffixes true first l) ts i (16 * (n - i)) (λ f enough. rw (is h i refl z)
+            (bind-ok _ e (p .says ts h f (omega arith)) (λ a ea ta. rw (is (tokens-kept few (p .kept) h) j ek z′)
+            (q .says (element (placeAt ts first i) l a) base refl
+            (made T₂ i first left x (tokens-kept few (p .kept) h) lt eT ∙ cc (is-element (placeAt ts first i) l a base))
+            ts (tokens-kept few same h) f (omega arith)))));
+      }
+
+  pub element-close : {x j k : ℕ} {T₁ : List ℕ} {r₁ : Answer} → n ≤ 2048 → kindIn T n i ≡ 36
+      → ModePost (operation (levelAt 0)) n n (i + 1) T r₁ T₁ → r₁ ≡ At x j → k ≡ kindIn T₁ n j → k ≢ 37
+      → RestPost (moreSuffixes true first) n left i T (Bad j) T₁
+  unfolding step levelAt
+  element-close {x} {j} {k} {T₁} {r₁} few z p e ek z′ =
+      let il = there T n i _ 36 refl z (omega arith) in
+      record {
+        kept = p .kept;
+        within = tt;
+        says = λ l base el et ts h. stepped (suffixes true first l) ts i (16 * (n - i)) (λ f enough. rw (is h i refl z)
+            (bind-ok _ e (p .says ts h f (omega arith)) (λ a ea ta. rw (is-not (tokens-kept few (p .kept) h) j ek z′) met-bad)));
+      }
+
+  pub element-bad : {k : ℕ} {T₁ : List ℕ} {r₁ : Answer} → kindIn T n i ≡ 36 → ModePost (operation (levelAt 0)) n n (i + 1) T r₁ T₁ → r₁ ≡ Bad k
+      → RestPost (moreSuffixes true first) n left i T (Bad k) T₁
+  unfolding step levelAt
+  element-bad {k} {T₁} {r₁} z p e =
+      let il = there T n i _ 36 refl z (omega arith) in
+      record {
+        kept = p .kept;
+        within = tt;
+        says = λ l base el et ts h. stepped (suffixes true first l) ts i (16 * (n - i)) (λ f enough. rw (is h i refl z) (bind-bad _ e (p .says ts h f (omega arith))));
+      }
+
+  -- `.m(e, ..)`
+  module _ {b : Bool} (z : kindIn T n i ≡ 31) (z₁ : kindIn T n (i + 1) ≡ 12 → ⊥) where
+    pub call-ok : {k k₂ x j : ℕ} {c : Bool} {T₁ T₂ T₃ : List ℕ} {r₁ r : Answer} → n ≤ 2048 → first < n → k ≡ kindIn T n (i + 1) → c ≡ isName k → c ≡ true
+        → k₂ ≡ kindIn T n (i + 2) → k₂ ≡ 34 → ModePost argumentList n 2049 (i + 3) T r₁ T₁ → r₁ ≡ At x j → T₂ ≡ node T₁ i (col T₁ 1 first) left x
+        → RestPost (moreSuffixes true first) n i j T₂ r T₃ → RestPost (moreSuffixes b first) n left i T r T₃
+    unfolding step
+    call-ok {k} {k₂} {x} {j} {c} {T₁} {T₂} {T₃} {r₁} {r} few lt ek ec t ek₂ z₂ p e eT q =
+        let il = there T n (i + 2) k₂ 34 ek₂ z₂ (omega arith) in
+        let w = within-ok e (p .within) in
+        let same : given T₂ ≡ given T = ap given eT ∙ given-node T₁ i (col T₁ 1 first) left x ∙ p .kept in
+        record {
+          kept = q .kept ∙ same;
+          within = within-more j i n n n r (omega arith) (omega arith) (q .within);
+          says = λ l base el et ts h. stepped (suffixes b first l) ts i (16 * (n - i)) (λ f enough.
+              rw (is h i refl z, is-not h (i + 1) refl z₁, passes h isName (i + 1) ek (sym ec ∙ t), plus-two i, is h (i + 2) ek₂ z₂, plus-three i)
+              (bind-ok _ e (p .says ts h f (omega arith)) (λ a ea ta. q .says (call (placeAt ts first i) l (nameAt ts (i + 1)) a) base refl
+              (made T₂ i first left x (tokens-kept few (p .kept) h) lt eT ∙ cc (is-call (placeAt ts first i) l (nameAt ts (i + 1)) a base))
+              ts (tokens-kept few same h) f (omega arith))));
+        }
+
+    pub call-bad : {k k₂ y : ℕ} {c : Bool} {T₁ : List ℕ} {r₁ : Answer} → k ≡ kindIn T n (i + 1) → c ≡ isName k → c ≡ true
+        → k₂ ≡ kindIn T n (i + 2) → k₂ ≡ 34 → ModePost argumentList n 2049 (i + 3) T r₁ T₁ → r₁ ≡ Bad y → RestPost (moreSuffixes b first) n left i T (Bad y) T₁
+    unfolding step
+    call-bad {k} {k₂} {y} {c} {T₁} {r₁} ek ec t ek₂ z₂ p e =
+        let il = there T n (i + 2) k₂ 34 ek₂ z₂ (omega arith) in
+        record {
+          kept = p .kept;
+          within = tt;
+          says = λ l base el et ts h. stepped (suffixes b first l) ts i (16 * (n - i)) (λ f enough.
+              rw (is h i refl z, is-not h (i + 1) refl z₁, passes h isName (i + 1) ek (sym ec ∙ t), plus-two i, is h (i + 2) ek₂ z₂, plus-three i) (bind-bad _ e (p .says ts h f (omega arith))));
+        }
+
+    pub call-open : {k k₂ : ℕ} {c : Bool} → k ≡ kindIn T n (i + 1) → c ≡ isName k → c ≡ true → k₂ ≡ kindIn T n (i + 2) → k₂ ≢ 34
+        → RestPost (moreSuffixes b first) n left i T (Bad (i + 2)) T
+    unfolding step
+    call-open {k} {k₂} {c} ek ec t ek₂ z₂ =
+        record {
+          kept = refl;
+          within = tt;
+          says = λ l base el et ts h. stepped (suffixes b first l) ts i (16 * (n - i)) (λ f enough.
+              rw (is h i refl z, is-not h (i + 1) refl z₁, passes h isName (i + 1) ek (sym ec ∙ t), plus-two i, is-not h (i + 2) ek₂ z₂) met-bad);
+        }
+
+    pub call-name : {k : ℕ} {c : Bool} → k ≡ kindIn T n (i + 1) → c ≡ isName k → c ≡ false → RestPost (moreSuffixes b first) n left i T (Bad (i + 1)) T
+    unfolding step
+    call-name {k} {c} ek ec t =
+        record {
+          kept = refl;
+          within = tt;
+          says = λ l base el et ts h. stepped (suffixes b first l) ts i (16 * (n - i)) (λ f enough.
+              rw (is h i refl z, is-not h (i + 1) refl z₁, passes h isName (i + 1) ek (sym ec ∙ t)) met-bad);
+        }
+
+-- PRIMARIES
+
+-- what an expression of one token is
+data Atom (k : ℕ) : Type 0 where
+  a-literal : k ≡ 4 → Atom k
+  a-true : k ≡ 21 → Atom k
+  a-false : k ≡ 9 → Atom k
+  a-this : k ≡ 20 → Atom k
+  a-name : isName k ≡ true → Atom k
+
+atom : (k : ℕ) → isAtom k ≡ true → Atom k
+unfolding isAtom
+atom k = go (eqb k 4) refl (eqb k 21) refl (eqb k 9) refl (eqb k 20) refl
+  where
+    go : (a : Bool) → eqb k 4 ≡ a → (b : Bool) → eqb k 21 ≡ b → (c : Bool) → eqb k 9 ≡ c → (d : Bool) → eqb k 20 ≡ d
+        → (a || b || c || d || isName k) ≡ true → Atom k
+    go true e b _ c _ d _ t = a-literal (eqb→eq k 4 (subst T (sym e) tt))
+    go false _ true e c _ d _ t = a-true (eqb→eq k 21 (subst T (sym e) tt))
+    go false _ false _ true e d _ t = a-false (eqb→eq k 9 (subst T (sym e) tt))
+    go false _ false _ false _ true e t = a-this (eqb→eq k 20 (subst T (sym e) tt))
+    go false _ false _ false _ false _ t = a-name t
+
+-- a name is of a small kind
+pub small-name : (k : ℕ) → isName k ≡ true → k ≤ 3
+unfolding isName
+small-name k e = leb→le k 3 (subst T (sym (both (leb 1 k) (leb k 3) e .1)) tt)
+
+this-no-name : isName 20 ≡ false
+unfolding isName
+this-no-name = refl
+
+-- a node of one token, as the definition makes it
+record OneToken (ts : List Token) (P : (s : Sort) → Mode s → ℕ → Parsed (Part s)) (i : ℕ) : Type 0 where
+  pub tree : Expression
+  pub read : step ts P primary i ≡ ok tree (i + 1)
+  pub row : i ≡ rowOf tree
+  pub lies : (t : List ℕ) → store tree t ≡ node t i (startAt ts i) 2048 2048
+
+one-token : (ts : List Token) (P : (s : Sort) → Mode s → ℕ → Parsed (Part s)) (i : ℕ) → Atom (kindAt ts i) → OneToken ts P i
+unfolding step store
+one-token ts P i (a-literal e) =
+    record { tree = literal (placeAt ts i i) (decimal 0 (tokenAt ts i .text)); read = rw e refl; row = refl; lies = λ t. refl }
+one-token ts P i (a-true e) = record { tree = truth (placeAt ts i i) true; read = rw e refl; row = refl; lies = λ t. refl }
+one-token ts P i (a-false e) = record { tree = truth (placeAt ts i i) false; read = rw e refl; row = refl; lies = λ t. refl }
+one-token ts P i (a-this e) = record { tree = this (placeAt ts i i); read = rw (e, this-no-name) refl; row = refl; lies = λ t. refl }
+one-token ts P i (a-name e) =
+    let s = small-name (kindAt ts i) e in
+    record {
+      tree = variable (placeAt ts i i) (tokenAt ts i .text);
+      read = rw (ne-eqb (kindAt ts i) 4 (omega arith), ne-eqb (kindAt ts i) 21 (omega arith), ne-eqb (kindAt ts i) 9 (omega arith), e) refl;
+      row = refl;
+      lies = λ t. refl;
+    }
+
+zero-no-atom : isAtom 0 ≡ false
+unfolding isAtom isName
+zero-no-atom = refl
+
+-- the token of an atom is there
+pub atom-there : (T : List ℕ) (n i k : ℕ) {b : Bool} → k ≡ kindIn T n i → b ≡ isAtom k → b ≡ true → i < n
+atom-there T n i k e eb t = there-by isAtom zero-no-atom T n i k e (sym eb ∙ t)
+
+is-new-object : (p : Place) (c : Name) (t : List ℕ) → store (newObject p c) t ≡ node t (p .row) (p .start) absent absent
+unfolding store
+is-new-object p c t = refl
+
+module _ {n i : ℕ} {T : List ℕ} where
+  pub an-atom : {k : ℕ} {b : Bool} {T₁ : List ℕ} → k ≡ kindIn T n i → b ≡ isAtom k → b ≡ true → T₁ ≡ node T i (col T 1 i) 2048 2048
+      → ModePost primary n n i T (At i (i + 1)) T₁
+  an-atom {k} {b} {T₁} ek eb t eT =
+      let il = atom-there T n i k ek eb t in
+      record {
+        kept = ap given eT ∙ given-node T i (col T 1 i) 2048 2048;
+        within = (omega arith, omega arith, omega arith);
+        says = λ ts h. stepped primary ts i (fuel primary n i) (λ f enough.
+            let o = one-token ts (λ s m j. run f ts m j) i (atom (kindAt ts i) (passes h isAtom i ek (sym eb ∙ t))) in
+            at-result (o .read) (met-ok (o .row) (made T₁ i i 2048 2048 h il eT ∙ sym (o .lies T))));
+      }
+
+  pub no-primary : {k : ℕ} {b : Bool} → k ≡ kindIn T n i → b ≡ isAtom k → b ≡ false → k ≢ 14 → k ≢ 34 → ModePost primary n n i T (Bad i) T
+  unfolding step isAtom
+  no-primary {k} {b} ek eb t z z′ =
+      let q₄ = neither (eqb k 4 || eqb k 21 || eqb k 9 || eqb k 20) (isName k) (sym eb ∙ t) in
+      let q₃ = neither (eqb k 4 || eqb k 21 || eqb k 9) (eqb k 20) (q₄ .0) in
+      let q₂ = neither (eqb k 4 || eqb k 21) (eqb k 9) (q₃ .0) in
+      let q₁ = neither (eqb k 4) (eqb k 21) (q₂ .0) in
+      record {
+        kept = refl;
+        within = tt;
+        says = λ ts h. stepped primary ts i (fuel primary n i) (λ f enough.
+            rw (kind-of h i ek, q₁ .0, q₁ .1, q₂ .1, q₄ .1, q₃ .1, ne-eqb k 14 z, ne-eqb k 34 z′) met-bad);
+      }
+
+  -- `new C()`
+  module _ (z : kindIn T n i ≡ 14) {k₁ : ℕ} {c : Bool} (ek : k₁ ≡ kindIn T n (i + 1)) (ec : c ≡ isName k₁) where
+    pub object-ok : {k₂ k₃ : ℕ} {T₁ : List ℕ} → c ≡ true → k₂ ≡ kindIn T n (i + 2) → k₂ ≡ 34 → k₃ ≡ kindIn T n (i + 3) → k₃ ≡ 35
+        → T₁ ≡ node T i (col T 1 i) 2048 2048 → ModePost primary n n i T (At i (i + 4)) T₁
+    unfolding step isName
+    object-ok {k₂} {k₃} {T₁} t ek₂ z₂ ek₃ z₃ eT =
+        let il = there T n (i + 3) k₃ 35 ek₃ z₃ (omega arith) in
+        record {
+          kept = ap given eT ∙ given-node T i (col T 1 i) 2048 2048;
+          within = (omega arith, omega arith, omega arith);
+          says = λ ts h. stepped primary ts i (fuel primary n i) (λ f enough.
+              rw (is h i refl z, passes h isName (i + 1) ek (sym ec ∙ t), plus-two i, is h (i + 2) ek₂ z₂, plus-three i, is h (i + 3) ek₃ z₃, plus-four i)
+              (met-ok refl (made T₁ i i 2048 2048 h (omega arith) eT ∙ sym (is-new-object (placeAt ts i i) (nameAt ts (i + 1)) T))));
+        }
+
+    pub object-close : {k₂ k₃ : ℕ} → c ≡ true → k₂ ≡ kindIn T n (i + 2) → k₂ ≡ 34 → k₃ ≡ kindIn T n (i + 3) → k₃ ≢ 35 → ModePost primary n n i T (Bad (i + 3)) T
+    unfolding step isName
+    object-close t ek₂ z₂ ek₃ z₃ =
+        record {
+          kept = refl;
+          within = tt;
+          says = λ ts h. stepped primary ts i (fuel primary n i) (λ f enough.
+              rw (is h i refl z, passes h isName (i + 1) ek (sym ec ∙ t), plus-two i, is h (i + 2) ek₂ z₂, plus-three i, is-not h (i + 3) ek₃ z₃) met-bad);
+        }
+
+    pub object-open : {k₂ : ℕ} → c ≡ true → k₂ ≡ kindIn T n (i + 2) → k₂ ≢ 34 → ModePost primary n n i T (Bad (i + 2)) T
+    unfolding step isName
+    object-open t ek₂ z₂ =
+        record {
+          kept = refl;
+          within = tt;
+          says = λ ts h. stepped primary ts i (fuel primary n i) (λ f enough.
+              rw (is h i refl z, passes h isName (i + 1) ek (sym ec ∙ t), plus-two i, is-not h (i + 2) ek₂ z₂) met-bad);
+        }
+
+    pub object-name : c ≡ false → ModePost primary n n i T (Bad (i + 1)) T
+    unfolding step isName
+    object-name t =
+        record {
+          kept = refl;
+          within = tt;
+          says = λ ts h. stepped primary ts i (fuel primary n i) (λ f enough. rw (is h i refl z, passes h isName (i + 1) ek (sym ec ∙ t)) met-bad);
+        }
+
+  -- `(e)`
+  module _ (z : kindIn T n i ≡ 34) where
+    pub parentheses-ok : {x j k : ℕ} {T₁ : List ℕ} {r₁ : Answer} → n ≤ 2048 → ModePost (operation (levelAt 0)) n n (i + 1) T r₁ T₁ → r₁ ≡ At x j
+        → k ≡ kindIn T₁ n j → k ≡ 35 → ModePost primary n n i T (At x (j + 1)) T₁
+    unfolding step levelAt isName
+    parentheses-ok {x} {j} {k} {T₁} {r₁} few p e ek z′ =
+        let il = there T n i _ 34 refl z (omega arith) in
+        let jl = there T₁ n j k 35 ek z′ (omega arith) in
+        let w = within-ok e (p .within) in
+        record {
+          kept = p .kept;
+          within = (omega arith, omega arith, w .2);
+          says = λ ts h. stepped primary ts i (fuel primary n i) (λ f enough. rw (is h i refl z)
+              (bind-ok _ e (p .says ts h f (omega arith)) (λ a ea ta. rw (is (tokens-kept few (p .kept) h) j ek z′) (met-ok ea ta))));
+        }
+
+    pub parentheses-close : {x j k : ℕ} {T₁ : List ℕ} {r₁ : Answer} → n ≤ 2048 → ModePost (operation (levelAt 0)) n n (i + 1) T r₁ T₁ → r₁ ≡ At x j
+        → k ≡ kindIn T₁ n j → k ≢ 35 → ModePost primary n n i T (Bad j) T₁
+    unfolding step levelAt isName
+    parentheses-close {x} {j} {k} {T₁} {r₁} few p e ek z′ =
+        let il = there T n i _ 34 refl z (omega arith) in
+        record {
+          kept = p .kept;
+          within = tt;
+          says = λ ts h. stepped primary ts i (fuel primary n i) (λ f enough. rw (is h i refl z)
+              (bind-ok _ e (p .says ts h f (omega arith)) (λ a ea ta. rw (is-not (tokens-kept few (p .kept) h) j ek z′) met-bad)));
+        }
+
+    pub parentheses-bad : {k : ℕ} {T₁ : List ℕ} {r₁ : Answer} → ModePost (operation (levelAt 0)) n n (i + 1) T r₁ T₁ → r₁ ≡ Bad k → ModePost primary n n i T (Bad k) T₁
+    unfolding step levelAt isName
+    parentheses-bad p e =
+        let il = there T n i _ 34 refl z (omega arith) in
+        record {
+          kept = p .kept;
+          within = tt;
+          says = λ ts h. stepped primary ts i (fuel primary n i) (λ f enough. rw (is h i refl z) (bind-bad _ e (p .says ts h f (omega arith))));
+        }
+
+-- ARGUMENTS
+is-argument : (e : Expression) (es : Part arguments) (t : List ℕ) → store (argument e es) t ≡ put (store es (store e t)) 6 (rowOf e) (rowOf es)
+unfolding store
+is-argument e es t = refl
+
+is-no-argument : (t : List ℕ) → store noArguments t ≡ t
+unfolding store
+is-no-argument t = refl
+
+module _ {n i k : ℕ} {T : List ℕ} (ek : k ≡ kindIn T n i) where
+  pub arguments-none : k ≡ 35 → ModePost argumentList n 2049 i T (At 2048 (i + 1)) T
+  unfolding step
+  arguments-none z =
+      let il = there T n i k 35 ek z (omega arith) in
+      record {
+        kept = refl;
+        within = (omega arith, omega arith, omega arith);
+        says = λ ts h. stepped argumentList ts i (fuel argumentList n i) (λ f enough. rw (is h i ek z) (met-ok refl (sym (is-no-argument T))));
+      }
+
+  pub arguments-some : {T₁ : List ℕ} {r : Answer} → k ≢ 35 → ModePost someArguments n 2049 i T r T₁ → ModePost argumentList n 2049 i T r T₁
+  unfolding step
+  arguments-some z p =
+      record {
+        kept = p .kept;
+        within = p .within;
+        says = λ ts h. stepped argumentList ts i (fuel argumentList n i) (λ f enough. rw (is-not h i ek z) (p .says ts h f (omega arith)));
+      }
+
+module _ {n i : ℕ} {T T₁ : List ℕ} {r₁ : Answer} (p : ModePost (operation (levelAt 0)) n n i T r₁ T₁) where
+  pub argument-bad : {y : ℕ} → r₁ ≡ Bad y → ModePost someArguments n 2049 i T (Bad y) T₁
+  unfolding step levelAt
+  argument-bad e =
+      record {
+        kept = p .kept;
+        within = tt;
+        says = λ ts h. stepped someArguments ts i (fuel someArguments n i) (λ f enough. bind-bad _ e (p .says ts h f (omega arith)));
+      }
+
+  module _ {x j k : ℕ} (e : r₁ ≡ At x j) (few : n ≤ 2048) (ek : k ≡ kindIn T₁ n j) where
+    pub argument-last : {T₂ : List ℕ} → k ≡ 35 → T₂ ≡ put T₁ 6 x 2048 → ModePost someArguments n 2049 i T (At x (j + 1)) T₂
+    unfolding step levelAt
+    argument-last {T₂} z eT =
+        let jl = there T₁ n j k 35 ek z (omega arith) in
+        let w = within-ok e (p .within) in
+        record {
+          kept = ap given eT ∙ given-put T₁ 6 x 2048 (omega arith) ∙ p .kept;
+          within = (omega arith, omega arith, omega arith);
+          says = λ ts h. stepped someArguments ts i (fuel someArguments n i) (λ f enough. bind-ok _ e (p .says ts h f (omega arith))
+              (λ a ea ta. rw (is (tokens-kept few (p .kept) h) j ek z) (met-ok {a = argument a noArguments} ea (cc (is-argument a noArguments T, is-no-argument (store a T))))));
+        }
+
+    pub argument-other : k ≢ 35 → k ≢ 32 → ModePost someArguments n 2049 i T (Bad j) T₁
+    unfolding step levelAt
+    argument-other z z′ =
+        record {
+          kept = p .kept;
+          within = tt;
+          says = λ ts h. stepped someArguments ts i (fuel someArguments n i) (λ f enough. bind-ok _ e (p .says ts h f (omega arith))
+              (λ a ea ta. rw (is-not (tokens-kept few (p .kept) h) j ek z, is-not (tokens-kept few (p .kept) h) j ek z′) met-bad));
+        }
+
+    module _ {T₂ : List ℕ} {r₂ : Answer} (z : k ≡ 32) (q : ModePost someArguments n 2049 (j + 1) T₁ r₂ T₂) where
+      pub arguments-more : {y m : ℕ} {T₃ : List ℕ} → r₂ ≡ At y m → T₃ ≡ put T₂ 6 x y → ModePost someArguments n 2049 i T (At x m) T₃
+      unfolding step levelAt
+      arguments-more {y} {m} {T₃} e₂ eT =
+          let jl = there T₁ n j k 32 ek z (omega arith) in
+          let w = within-ok e (p .within) in
+          let w₂ = within-ok e₂ (q .within) in
+          record {
+            kept = ap given eT ∙ given-put T₂ 6 x y (omega arith) ∙ q .kept ∙ p .kept;
+            within = (omega arith, omega arith, omega arith);
+            says = λ ts h. stepped someArguments ts i (fuel someArguments n i) (λ f enough. bind-ok _ e (p .says ts h f (omega arith))
+                (λ a ea ta. rw (is (tokens-kept few (p .kept) h) j ek z) (bind-ok _ e₂ (q .says ts (tokens-kept few (p .kept) h) f (omega arith))
+                (λ b eb tb. met-ok {a = argument a b} ea (cc (is-argument a b T))))));
+          }
+
+      pub arguments-bad : {y : ℕ} → r₂ ≡ Bad y → ModePost someArguments n 2049 i T (Bad y) T₂
+      unfolding step levelAt
+      arguments-bad e₂ =
+          let jl = there T₁ n j k 32 ek z (omega arith) in
+          let w = within-ok e (p .within) in
+          record {
+            kept = q .kept ∙ p .kept;
+            within = tt;
+            says = λ ts h. stepped someArguments ts i (fuel someArguments n i) (λ f enough. bind-ok _ e (p .says ts h f (omega arith))
+                (λ a ea ta. rw (is (tokens-kept few (p .kept) h) j ek z) (bind-bad _ e₂ (q .says ts (tokens-kept few (p .kept) h) f (omega arith)))));
+          }

@@ -1,0 +1,309 @@
+// Expressions, by recursive descent. A level is that of the binary operators looked for, 0 the loosest. What goes on after an operand or a primary has the
+// number of the token where the whole begins and the row of what stands before.
+use crate::answer::Answer;
+use crate::kinds::CLOSE;
+use crate::kinds::CLOSE_BRACKET;
+use crate::kinds::COMMA;
+use crate::kinds::DOT;
+use crate::kinds::INT;
+use crate::kinds::LENGTH;
+use crate::kinds::NEW;
+use crate::kinds::NOT;
+use crate::kinds::OPEN;
+use crate::kinds::OPEN_BRACKET;
+use crate::kinds::is_atom;
+use crate::kinds::is_name;
+use crate::kinds::is_operator;
+use crate::table::kind;
+use crate::table::link;
+use crate::table::node;
+ghost use mathlib.Core.Path.{_≡_};
+ghost use mathlib.Core.Bool.{true};
+ghost use Prim.Native.Nat.{_+_, _<_, _≤_};
+ghost use lib.ListN.{length};
+ghost use Rattle.parser.specs.Parse as Parse;
+ghost use Rattle.parser.specs.Post.{Ready, ModePost, RestPost, moreOperations, moreSuffixes, levelAt, kindIn, startsArray};
+
+// Operands of a level, joined by its operators.
+pub fn operation(table: &mut [u32], n: usize, level: u32, i: usize) -> Answer
+    requires { ⌜ Ready (now table) n i × (level ≤ 3) ⌝ }
+    ensures { λ r. ⌜ ModePost (Parse.operation (levelAt level)) n n i (now (table .entry)) r (now (table .exit)) ⌝ }
+{
+    let a = operand(table, n, level, i);
+    match a {
+        Answer::At(row, next) => operations(table, n, level, i, row, next),
+        Answer::Bad(at) => Answer::Bad(at),
+    }
+}
+
+// An operand of a level: of the next one, or a unary expression.
+fn operand(table: &mut [u32], n: usize, level: u32, i: usize) -> Answer
+    requires { ⌜ Ready (now table) n i × (level ≤ 3) ⌝ }
+    ensures { λ r. ⌜ ModePost (Parse.operand (levelAt level)) n n i (now (table .entry)) r (now (table .exit)) ⌝ }
+{
+    if level < 3 {
+        operation(table, n, level + 1, i)
+    } else {
+        unary(table, n, i)
+    }
+}
+
+// What follows the first operand of a level.
+fn operations(
+    table: &mut [u32],
+    n: usize,
+    level: u32,
+    first: usize,
+    left: usize,
+    i: usize,
+) -> Answer
+    requires { ⌜ Ready (now table) n i × (level ≤ 3) × (first < n) × (left < n) ⌝ }
+    ensures { λ r. ⌜ RestPost (moreOperations (levelAt level) first) n left i (now (table .entry)) r (now (table .exit)) ⌝ }
+{
+    let k = kind(table, n, i);
+    if is_operator(level, k) {
+        let a = operand(table, n, level, i + 1);
+        match a {
+            Answer::At(right, next) => {
+                node(table, i, first, left, right);
+                operations(table, n, level, first, i, next)
+            }
+            Answer::Bad(at) => Answer::Bad(at),
+        }
+    } else {
+        Answer::At(left, i)
+    }
+}
+
+fn unary(table: &mut [u32], n: usize, i: usize) -> Answer
+    requires { ⌜ Ready (now table) n i ⌝ }
+    ensures { λ r. ⌜ ModePost Parse.unary n n i (now (table .entry)) r (now (table .exit)) ⌝ }
+{
+    if kind(table, n, i) == NOT {
+        let a = unary(table, n, i + 1);
+        match a {
+            Answer::At(row, next) => {
+                node(table, i, i, row, 2048);
+                Answer::At(i, next)
+            }
+            Answer::Bad(at) => Answer::Bad(at),
+        }
+    } else {
+        postfix(table, n, i)
+    }
+}
+
+// Whether `new int` begins here.
+fn starts_array(table: &[u32], n: usize, i: usize) -> bool
+    requires { ⌜ (n ≤ 2048) × (i ≤ n) × (n ≤ length (now table)) ⌝ }
+    ensures { λ r. ⌜ r ≡ startsArray (now (table .entry)) n i ⌝ }
+{
+    if kind(table, n, i) == NEW {
+        return kind(table, n, i + 1) == INT;
+    }
+    false
+}
+
+// A primary, or `new int[e]`, and what follows it.
+fn postfix(table: &mut [u32], n: usize, i: usize) -> Answer
+    requires { ⌜ Ready (now table) n i ⌝ }
+    ensures { λ r. ⌜ ModePost Parse.postfix n n i (now (table .entry)) r (now (table .exit)) ⌝ }
+{
+    if starts_array(table, n, i) {
+        return new_array(table, n, i);
+    }
+    let a = primary(table, n, i);
+    match a {
+        Answer::At(row, next) => suffixes(table, n, true, i, row, next),
+        Answer::Bad(at) => Answer::Bad(at),
+    }
+}
+
+// `new int[e]`, which a `[` does not directly follow.
+fn new_array(table: &mut [u32], n: usize, i: usize) -> Answer
+    requires { ⌜ Ready (now table) n i × (startsArray (now table) n i ≡ true) ⌝ }
+    ensures { λ r. ⌜ ModePost Parse.postfix n n i (now (table .entry)) r (now (table .exit)) ⌝ }
+{
+    if kind(table, n, i + 2) == OPEN_BRACKET {
+        let a = operation(table, n, 0, i + 3);
+        match a {
+            Answer::At(row, next) => {
+                if kind(table, n, next) == CLOSE_BRACKET {
+                    node(table, i, i, row, 2048);
+                    return suffixes(table, n, false, i, i, next + 1);
+                }
+                return Answer::Bad(next);
+            }
+            Answer::Bad(at) => {
+                return Answer::Bad(at);
+            }
+        }
+    }
+    Answer::Bad(i + 2)
+}
+
+// Indexes, `.length` and calls; the first is no index where it is not indexable.
+fn suffixes(
+    table: &mut [u32],
+    n: usize,
+    indexable: bool,
+    first: usize,
+    left: usize,
+    i: usize,
+) -> Answer
+    requires { ⌜ Ready (now table) n i × (first < n) × (left < n) ⌝ }
+    ensures { λ r. ⌜ RestPost (moreSuffixes indexable first) n left i (now (table .entry)) r (now (table .exit)) ⌝ }
+{
+    let k = kind(table, n, i);
+    if k == OPEN_BRACKET {
+        if indexable {
+            return element(table, n, first, left, i);
+        }
+        return Answer::Bad(i);
+    }
+    if k == DOT {
+        if kind(table, n, i + 1) == LENGTH {
+            node(table, i, first, left, 2048);
+            return suffixes(table, n, true, first, i, i + 2);
+        }
+        return call(table, n, indexable, first, left, i);
+    }
+    Answer::At(left, i)
+}
+
+// `[e]` and what follows it.
+fn element(table: &mut [u32], n: usize, first: usize, left: usize, i: usize) -> Answer
+    requires { ⌜ Ready (now table) n i × (first < n) × (left < n) × (kindIn (now table) n i ≡ 36) ⌝ }
+    ensures { λ r. ⌜ RestPost (moreSuffixes true first) n left i (now (table .entry)) r (now (table .exit)) ⌝ }
+{
+    let a = operation(table, n, 0, i + 1);
+    match a {
+        Answer::At(row, next) => {
+            if kind(table, n, next) == CLOSE_BRACKET {
+                node(table, i, first, left, row);
+                return suffixes(table, n, true, first, i, next + 1);
+            }
+            Answer::Bad(next)
+        }
+        Answer::Bad(at) => Answer::Bad(at),
+    }
+}
+
+// `.m(e, ..)` and what follows it.
+fn call(table: &mut [u32], n: usize, indexable: bool, first: usize, left: usize, i: usize) -> Answer
+    requires { ⌜ Ready (now table) n i × (first < n) × (left < n) × (kindIn (now table) n i ≡ 31) × (kindIn (now table) n (i + 1) ≡ 12 → ⊥) ⌝ }
+    ensures { λ r. ⌜ RestPost (moreSuffixes indexable first) n left i (now (table .entry)) r (now (table .exit)) ⌝ }
+{
+    if is_name(kind(table, n, i + 1)) {
+        if kind(table, n, i + 2) == OPEN {
+            let a = arguments(table, n, i + 3);
+            match a {
+                Answer::At(row, next) => {
+                    node(table, i, first, left, row);
+                    return suffixes(table, n, true, first, i, next);
+                }
+                Answer::Bad(at) => {
+                    return Answer::Bad(at);
+                }
+            }
+        }
+        return Answer::Bad(i + 2);
+    }
+    Answer::Bad(i + 1)
+}
+
+fn primary(table: &mut [u32], n: usize, i: usize) -> Answer
+    requires { ⌜ Ready (now table) n i ⌝ }
+    ensures { λ r. ⌜ ModePost Parse.primary n n i (now (table .entry)) r (now (table .exit)) ⌝ }
+{
+    let k = kind(table, n, i);
+    if is_atom(k) {
+        node(table, i, i, 2048, 2048);
+        return Answer::At(i, i + 1);
+    }
+    if k == NEW {
+        return new_object(table, n, i);
+    }
+    if k == OPEN {
+        return parentheses(table, n, i);
+    }
+    Answer::Bad(i)
+}
+
+// `new C()`.
+fn new_object(table: &mut [u32], n: usize, i: usize) -> Answer
+    requires { ⌜ Ready (now table) n i × (kindIn (now table) n i ≡ 14) ⌝ }
+    ensures { λ r. ⌜ ModePost Parse.primary n n i (now (table .entry)) r (now (table .exit)) ⌝ }
+{
+    if is_name(kind(table, n, i + 1)) {
+        if kind(table, n, i + 2) == OPEN {
+            if kind(table, n, i + 3) == CLOSE {
+                node(table, i, i, 2048, 2048);
+                return Answer::At(i, i + 4);
+            }
+            return Answer::Bad(i + 3);
+        }
+        return Answer::Bad(i + 2);
+    }
+    Answer::Bad(i + 1)
+}
+
+// `(e)`, which makes no node.
+fn parentheses(table: &mut [u32], n: usize, i: usize) -> Answer
+    requires { ⌜ Ready (now table) n i × (kindIn (now table) n i ≡ 34) ⌝ }
+    ensures { λ r. ⌜ ModePost Parse.primary n n i (now (table .entry)) r (now (table .exit)) ⌝ }
+{
+    let a = operation(table, n, 0, i + 1);
+    match a {
+        Answer::At(row, next) => {
+            if kind(table, n, next) == CLOSE {
+                return Answer::At(row, next + 1);
+            }
+            Answer::Bad(next)
+        }
+        Answer::Bad(at) => Answer::Bad(at),
+    }
+}
+
+// The arguments of a call, with the `)` that ends them.
+fn arguments(table: &mut [u32], n: usize, i: usize) -> Answer
+    requires { ⌜ Ready (now table) n i ⌝ }
+    ensures { λ r. ⌜ ModePost Parse.argumentList n 2049 i (now (table .entry)) r (now (table .exit)) ⌝ }
+{
+    if kind(table, n, i) == CLOSE {
+        Answer::At(2048, i + 1)
+    } else {
+        some_arguments(table, n, i)
+    }
+}
+
+// One or more arguments.
+fn some_arguments(table: &mut [u32], n: usize, i: usize) -> Answer
+    requires { ⌜ Ready (now table) n i ⌝ }
+    ensures { λ r. ⌜ ModePost Parse.someArguments n 2049 i (now (table .entry)) r (now (table .exit)) ⌝ }
+{
+    let a = operation(table, n, 0, i);
+    match a {
+        Answer::At(row, next) => {
+            let k = kind(table, n, next);
+            if k == CLOSE {
+                link(table, row, 2048);
+                return Answer::At(row, next + 1);
+            }
+            if k == COMMA {
+                let b = some_arguments(table, n, next + 1);
+                match b {
+                    Answer::At(more, end) => {
+                        link(table, row, more);
+                        return Answer::At(row, end);
+                    }
+                    Answer::Bad(at) => {
+                        return Answer::Bad(at);
+                    }
+                }
+            }
+            Answer::Bad(next)
+        }
+        Answer::Bad(at) => Answer::Bad(at),
+    }
+}
