@@ -134,6 +134,12 @@ unfolding run
 stepped m ts i enough h zero lt = absurd (not-suc-le-zero lt)
 stepped m ts i enough h (suc f) lt = h f (le-of-suc-le-suc lt)
 
+-- enough fuel is more than none
+pub at-suc : {A : Type 0} {S : Stored A} (P : ℕ → Parsed A) {enough : ℕ} {t₀ t : List ℕ} {r : Answer}
+    → ((f : ℕ) → enough ≤ f → Met S t₀ t r (P (suc f))) → (f : ℕ) → enough < f → Met S t₀ t r (P f)
+at-suc P h zero lt = absurd (not-suc-le-zero lt)
+at-suc P h (suc f) lt = h f (le-of-suc-le-suc lt)
+
 -- bounds of an answer
 pub within-ok : {low n top x j : ℕ} {r : Answer} → r ≡ At x j → Within low n top r → (low ≤ j) × (j ≤ n) × (x < top)
 within-ok {low} {n} {top} e h = subst (λ (r : Answer). Within low n top r) e h

@@ -5,3 +5,5 @@ pub mod Expressions
 pub mod Postfix
 pub mod Matched
 pub mod Statements
+pub mod Variables
+pub mod Methods

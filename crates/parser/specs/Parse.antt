@@ -238,12 +238,21 @@ abbrev pub methodEnd : List ℕ
 methodEnd = kSemicolon ∷ kCloseBrace ∷ []
 
 -- from `public` to the `}` of its body
+-- after its `return`, after its locals, and after its parameters
+abbrev pub returnedFrom : (fuel : ℕ) → List Token → (head : Variable) (parameters locals : List Variable) → Part statements → ℕ → Parsed Method
+returnedFrom f ts head ps ls ss j =
+    bind (run f ts anExpression j) λ e j. expectAll ts methodEnd j λ j.
+    ok (record { result = head .type; name = head .name; parameters = ps; locals = ls; body = ss; value = e }) j
+
+abbrev pub bodyFrom : (fuel : ℕ) → List Token → (head : Variable) (parameters locals : List Variable) → ℕ → Parsed Method
+bodyFrom f ts head ps ls j = bind (run f ts statementList j) λ ss j. expect ts kReturn j λ j. returnedFrom f ts head ps ls ss j
+
+abbrev pub localsFrom : (fuel : ℕ) → List Token → (head : Variable) (parameters : List Variable) → ℕ → Parsed Method
+localsFrom f ts head ps j = expect ts kOpenBrace j λ j. bind (variablesFrom f false ts j) λ ls j. bodyFrom f ts head ps ls j
+
 unfoldable pub methodFrom : (fuel : ℕ) → List Token → ℕ → Parsed Method
 methodFrom f ts i =
-    expect ts kPublic i λ j. bind (variableFrom ts j) λ head j. expect ts kOpen j λ j. bind (parametersFrom f ts j) λ ps j.
-    expect ts kOpenBrace j λ j. bind (variablesFrom f false ts j) λ ls j. bind (run f ts statementList j) λ ss j.
-    expect ts kReturn j λ j. bind (run f ts anExpression j) λ e j. expectAll ts methodEnd j λ j.
-    ok (record { result = head .type; name = head .name; parameters = ps; locals = ls; body = ss; value = e }) j
+    expect ts kPublic i λ j. bind (variableFrom ts j) λ head j. expect ts kOpen j λ j. bind (parametersFrom f ts j) λ ps j. localsFrom f ts head ps j
 
 unfoldable pub methodsFrom : (fuel : ℕ) → List Token → ℕ → Parsed (List Method)
 methodsFrom zero ts i = out
@@ -253,11 +262,16 @@ methodsFrom (suc f) ts i =
 unfoldable pub parentFrom : List Token → ℕ → Parsed (Option Name)
 parentFrom ts i = if eqb (kindAt ts i) kExtends then (λ _. expectName ts (i + 1) λ j. ok (some (nameAt ts (i + 1))) j) else λ _. ok none i
 
+-- after its fields, and after its parent
+abbrev pub classMethodsFrom : (fuel : ℕ) → List Token → Name → (parent : Option Name) → (fields : List Variable) → ℕ → Parsed Class
+classMethodsFrom f ts name parent fs j =
+    bind (methodsFrom f ts j) λ ms j. expect ts kCloseBrace j λ j. ok (record { name = name; parent = parent; fields = fs; methods = ms }) j
+
+abbrev pub membersFrom : (fuel : ℕ) → List Token → Name → (parent : Option Name) → ℕ → Parsed Class
+membersFrom f ts name parent j = expect ts kOpenBrace j λ j. bind (variablesFrom f true ts j) λ fs j. classMethodsFrom f ts name parent fs j
+
 unfoldable pub classFrom : (fuel : ℕ) → List Token → ℕ → Parsed Class
-classFrom f ts i =
-    expect ts kClass i λ n. expectName ts n λ j. bind (parentFrom ts j) λ parent j. expect ts kOpenBrace j λ j.
-    bind (variablesFrom f true ts j) λ fs j. bind (methodsFrom f ts j) λ ms j. expect ts kCloseBrace j λ j.
-    ok (record { name = nameAt ts n; parent = parent; fields = fs; methods = ms }) j
+classFrom f ts i = expect ts kClass i λ n. expectName ts n λ j. bind (parentFrom ts j) λ parent j. membersFrom f ts (nameAt ts n) parent j
 
 -- up to the end of the tokens
 unfoldable pub classesFrom : (fuel : ℕ) → List Token → ℕ → Parsed (List Class)

@@ -1,5 +1,6 @@
 // From tokens to the tree, and the operation Read.
 pub mod answer;
+pub mod decl;
 pub mod expr;
 pub mod kinds;
 pub mod stmt;

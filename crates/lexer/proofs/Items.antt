@@ -1,0 +1,173 @@
+-- What begins at a position, case by case: a law for each way in which the scanner answers.
+use Prim.Native.Nat.{ℕ, _+_, _-_, _≤_, _<_}
+use native.Mathlib.Nat.{add-zero}
+use native.Mathlib.Decide.{decLt}
+use native.Mathlib.Omega.{arith}
+use mathlib.Core.List.{List, [], _∷_}
+use mathlib.Core.Logic.{_≢_}
+use mathlib.Core.Bool.{Bool, true, false, _&&_, not}
+use mathlib.Core.Option.{Option, none, some}
+use mathlib.Core.Path.{_≡_, refl, sym, ap, _∙_}
+use lib.ListN.{length, getD, take, drop, List·getD-eq-default}
+use lib.Seq.{getD-drop, drop-drop}
+use lib.Dec.{eqb}
+use borrow.Author.Tests.{eq-eqb, ne-eqb}
+use Rattle.lexer.specs.Bytes.{isBlank, isLetter, isDigit, isNamePart}
+use Rattle.lexer.specs.Kinds.{kLiteral, kAnd, wordKind, markKind}
+use Rattle.lexer.specs.Tokens.{gap, nothing, token, run, begins, closing, comment, mark, item}
+use Rattle.lexer.specs.ItemLaws.{run-front, begins-cons, chosen}
+use Rattle.lexer.specs.Scan.{member, closingOf, pieceOf, Letter, Mark}
+use Rattle.lexer.specs.declared.scan.Class.the-variants.{Line, Word}
+use Rattle.lexer.specs.declared.scan.Closing.{Closing}
+use Rattle.lexer.specs.declared.scan.Closing.the-variants.{At, Never}
+use Rattle.lexer.specs.declared.scan.Piece.{Piece}
+use Rattle.lexer.specs.declared.scan.Piece.the-variants.{Gap, Unclosed, Nothing, Token}
+use Rattle.lexer.proofs.Runs.{rest}
+
+-- a byte other than 0 stands within the source
+pub byte-inside : (s : List ℕ) (i v : ℕ) → getD s i 0 ≡ v → 0 < v → i < length s
+byte-inside s i v e h =
+    elim (decLt i (length s)) [ yes lt ↦ lt | no ge ↦ absurd (omega (arith, e, List·getD-eq-default s 0 (past ge))) ]
+  where
+    past : (i < length s → ⊥) → length s ≤ i
+    past ge = omega arith
+
+-- a comment's end as the scanner's answer
+abbrev pub onClosing : Closing → Piece
+onClosing (At e) = Gap e
+onClosing Never = Unclosed
+
+on-comment : (i : ℕ) (o : Option ℕ) → onClosing (closingOf o) ≡ pieceOf i (comment o)
+on-comment i none = refl
+on-comment i (some e) = refl
+
+module _ (s : List ℕ) (i : ℕ) (h : i < length s) where
+  -- the byte at i, the bytes after it, and the first of those, which is 0 where there is none
+  abbrev first : ℕ
+  first = getD s i 0
+
+  abbrev more : List ℕ
+  more = drop (i + 1) s
+
+  abbrev second : ℕ
+  second = getD s (i + 1) 0
+
+  next : getD more 0 0 ≡ second
+  next = getD-drop (i + 1) s 0 0 ∙ ap (λ (n : ℕ). getD s n 0) (add-zero (i + 1))
+
+  opens : (x y : ℕ) → eqb y 0 ≡ false → {a b : Bool} → eqb x first ≡ a → eqb y second ≡ b → begins x y (first ∷ more) ≡ a && b
+  opens x y z p q = begins-cons x y first more z ∙ (λ j. p j && (ap (eqb y) next ∙ q) j)
+
+  choice : {a b c d e f : Bool} → isBlank first ≡ a → begins 47 47 (first ∷ more) ≡ b → begins 47 42 (first ∷ more) ≡ c → isLetter first ≡ d
+      → isDigit first ≡ e → begins 38 38 (first ∷ more) ≡ f → item i (drop i s) ≡ chosen i first more a b c d e f
+  unfolding item
+  choice p q r t u v = ap (item i) (rest s i h) ∙ (λ j. chosen i first more (p j) (q j) (r j) (t j) (u j) (v j))
+
+  back : (p : ℕ → Bool) → run p (first ∷ more) ≡ run p (drop i s)
+  back p = ap (run p) (sym (rest s i h))
+
+  pub at-blank : isBlank first ≡ true → item i (drop i s) ≡ gap (i + 1)
+  at-blank e = choice e refl refl refl refl refl
+
+  pub at-line : first ≡ 47 → second ≡ 47 → item i (drop i s) ≡ gap (i + length (run (λ c. not (eqb c 10)) (drop i s)))
+  unfolding isBlank
+  at-line e n =
+      choice (ap isBlank e) (opens 47 47 refl (ap (eqb 47) e) (ap (eqb 47) n)) refl refl refl refl
+      ∙ ap (λ (l : List ℕ). gap (i + length l)) (back (λ c. not (eqb c 10)))
+
+  pub at-block : first ≡ 47 → second ≡ 42 → item i (drop i s) ≡ comment (closing 1 (i + 2) (drop (i + 2) s))
+  unfolding isBlank
+  at-block e n =
+      choice
+      (ap isBlank e)
+      (opens 47 47 refl (ap (eqb 47) e) (ap (eqb 47) n))
+      (opens 47 42 refl (ap (eqb 47) e) (ap (eqb 42) n))
+      refl
+      refl
+      refl
+      ∙ ap (λ (l : List ℕ). comment (closing 1 (i + 2) l)) (ap (drop 2) (sym (rest s i h)) ∙ drop-drop 2 i s)
+
+  pub at-slash : first ≡ 47 → second ≢ 47 → second ≢ 42 → item i (drop i s) ≡ nothing
+  unfolding isBlank isLetter isDigit markKind
+  at-slash e n m =
+      choice
+      (ap isBlank e)
+      (opens 47 47 refl (ap (eqb 47) e) (ne-eqb 47 second (λ q. n (sym q))))
+      (opens 47 42 refl (ap (eqb 47) e) (ne-eqb 42 second (λ q. m (sym q))))
+      (ap isLetter e)
+      (ap isDigit e)
+      (opens 38 38 refl (ap (eqb 38) e) refl)
+      ∙ ap (λ (b : ℕ). mark b (markKind b)) e
+
+  not-slash : (y : ℕ) → eqb y 0 ≡ false → first ≢ 47 → begins 47 y (first ∷ more) ≡ false
+  not-slash y z n = opens 47 y z (ne-eqb 47 first (λ q. n (sym q))) refl
+
+  pub at-letter : isBlank first ≡ false → first ≢ 47 → isLetter first ≡ true
+      → item i (drop i s) ≡ token (wordKind (run isNamePart (drop i s))) (run isNamePart (drop i s))
+  at-letter e n l =
+      choice e (not-slash 47 refl n) (not-slash 42 refl n) l refl refl ∙ ap (λ (t : List ℕ). token (wordKind t) t) (back isNamePart)
+
+  pub at-digit : isBlank first ≡ false → first ≢ 47 → isLetter first ≡ false → isDigit first ≡ true
+      → item i (drop i s) ≡ token kLiteral (run isDigit (drop i s))
+  at-digit e n l d = choice e (not-slash 47 refl n) (not-slash 42 refl n) l d refl ∙ ap (token kLiteral) (back isDigit)
+
+  pub at-and : first ≡ 38 → second ≡ 38 → item i (drop i s) ≡ token kAnd (38 ∷ 38 ∷ [])
+  unfolding isBlank isLetter isDigit
+  at-and e n =
+      choice
+      (ap isBlank e)
+      (opens 47 47 refl (ap (eqb 47) e) refl)
+      (opens 47 42 refl (ap (eqb 47) e) refl)
+      (ap isLetter e)
+      (ap isDigit e)
+      (opens 38 38 refl (ap (eqb 38) e) (ap (eqb 38) n))
+
+  pub at-lone-and : first ≡ 38 → second ≢ 38 → item i (drop i s) ≡ nothing
+  unfolding isBlank isLetter isDigit markKind
+  at-lone-and e n =
+      choice
+      (ap isBlank e)
+      (opens 47 47 refl (ap (eqb 47) e) refl)
+      (opens 47 42 refl (ap (eqb 47) e) refl)
+      (ap isLetter e)
+      (ap isDigit e)
+      (opens 38 38 refl (ap (eqb 38) e) (ne-eqb 38 second (λ q. n (sym q))))
+      ∙ ap (λ (b : ℕ). mark b (markKind b)) e
+
+  pub at-mark : {b : ℕ} → Mark s i b → b ≢ 38 → item i (drop i s) ≡ mark b (markKind b)
+  at-mark m n =
+      let e = m .is in
+      choice
+      (ap isBlank (sym e) ∙ m .blank)
+      (not-slash 47 refl (λ q. m .slash (e ∙ q)))
+      (not-slash 42 refl (λ q. m .slash (e ∙ q)))
+      (ap isLetter (sym e) ∙ m .letter)
+      (ap isDigit (sym e) ∙ m .digit)
+      (opens 38 38 refl (ne-eqb 38 first (λ q. n (e ∙ sym q))) refl)
+      ∙ ap (λ (b : ℕ). mark b (markKind b)) (sym e)
+
+  -- ---- the same of the scanner's answers
+
+  pub piece-line : {e : ℕ} → first ≡ 47 → second ≡ 47 → e ≡ i + length (run (member Line) (drop i s)) → Gap e ≡ pieceOf i (item i (drop i s))
+  piece-line p n l = ap Gap l ∙ sym (ap (pieceOf i) (at-line p n))
+
+  pub piece-block : {k : Closing} → first ≡ 47 → second ≡ 42 → k ≡ closingOf (closing 1 (i + 2) (drop (i + 2) s)) → onClosing k ≡ pieceOf i (item i (drop i s))
+  piece-block p n e = ap onClosing e ∙ on-comment i (closing 1 (i + 2) (drop (i + 2) s)) ∙ sym (ap (pieceOf i) (at-block p n))
+
+  pub piece-word : {e k : ℕ} → Letter s i → e ≡ i + length (run (member Word) (drop i s)) → k ≡ wordKind (take (e - i) (drop i s))
+      → Token k e ≡ pieceOf i (item i (drop i s))
+  piece-word {e} {k} l p q =
+      let t = run isNamePart (drop i s) in
+      let n : e - i ≡ length t = omega arith in
+      (λ j. Token ((q ∙ ap (λ (m : ℕ). wordKind (take m (drop i s))) n ∙ ap wordKind (run-front isNamePart (drop i s))) j) (p j))
+      ∙ sym (ap (pieceOf i) (at-letter (l .blank) (l .slash) (l .letter)))
+
+  pub piece-mark : {b k : ℕ} → Mark s i b → b ≢ 38 → k ≡ markKind b → k ≢ 0 → Token k (i + 1) ≡ pieceOf i (item i (drop i s))
+  piece-mark {b} {k} m n e z =
+      let q : mark b (markKind b) ≡ token (markKind b) (b ∷ []) = rw (ne-eqb (markKind b) 0 (λ y. z (e ∙ y))) refl in
+      (λ j. Token (e j) (i + 1)) ∙ sym (ap (pieceOf i) (at-mark m n ∙ q))
+
+  pub piece-no-mark : {b k : ℕ} → Mark s i b → b ≢ 38 → k ≡ markKind b → k ≡ 0 → Nothing ≡ pieceOf i (item i (drop i s))
+  piece-no-mark {b} {k} m n e z =
+      let q : mark b (markKind b) ≡ nothing = rw (eq-eqb (markKind b) 0 (sym e ∙ z)) refl in
+      sym (ap (pieceOf i) (at-mark m n ∙ q))

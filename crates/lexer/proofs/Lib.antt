@@ -1,0 +1,9 @@
+-- What the proofs of several functions use.
+pub mod Runs
+pub mod Comments
+pub mod Items
+pub mod Folds
+pub mod Chains
+pub mod Stores
+pub mod Verdicts
+pub mod Lexing

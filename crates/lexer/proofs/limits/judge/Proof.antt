@@ -1,0 +1,71 @@
+-- `lexer::limits::judge` meets its contract: the tests of the definition in their order.
+use borrow.Author.Needs.{needs}
+use mathlib.Core.Path.{sym, ap, _∙_}
+use Rattle.lexer.proofs.Verdicts.{verdict-many, verdict-long, verdict-name, verdict-literal, verdict-plain, onLiteral}
+use Rattle.lexer.proofs.limits.judge.Statement.{statement}
+use Rattle.lexer.proofs.limits.judge.Tie as tie
+
+returns : tie.Need-returns
+returns c =
+    let g = c .before .before in
+    let a = g .args in
+    verdict-many (a .count) (a .kind) (a .text .now) (c .if1 .taken)
+
+returns-2 : tie.Need-returns-2
+returns-2 c =
+    let g = c .before .before .before .before in
+    let a = g .args in
+    verdict-long (a .count) (a .kind) (a .text .now) (c .before .before .if1 .left) (g .pre) (c .before .if2 .taken) (c .if3 .taken)
+
+returns-3 : tie.Need-returns-3
+returns-3 c =
+    let g = c .before .before .before .before in
+    let a = g .args in
+    verdict-name (a .count) (a .kind) (a .text .now) (c .before .before .if1 .left) (g .pre) (c .before .if2 .taken) (c .if3 .left)
+
+value-of-requires : tie.Need-value-of-requires
+value-of-requires c κs = search needs
+
+enum-known-v : tie.Need-enum-known-v
+enum-known-v c = c .match .keys1
+
+enum-told : tie.Need-enum-told
+enum-told c = c .match .keys2
+
+returns-4 : tie.Need-returns-4
+returns-4 c =
+    let v = c .before .before .before in
+    let f = v .before in
+    let g = f .before .before .before .before in
+    let a = g .args in
+    ap onLiteral (sym (c .before .v .given .1))
+    ∙ verdict-literal (a .count) (a .kind) (a .text .now) (f .before .before .if1 .left) (f .if4 .taken) (v .value-of .ensures)
+
+returns-5 : tie.Need-returns-5
+returns-5 c =
+    let v = c .before .before in
+    let f = v .before in
+    let g = f .before .before .before .before in
+    let a = g .args in
+    ap onLiteral (sym (c .enum-told .given .1))
+    ∙ verdict-literal (a .count) (a .kind) (a .text .now) (f .before .before .if1 .left) (f .if4 .taken) (v .value-of .ensures)
+
+returns-6 : tie.Need-returns-6
+returns-6 c =
+    let g = c .before .before .before .before in
+    let a = g .args in
+    verdict-plain (a .count) (a .kind) (a .text .now) (c .before .before .if1 .left) (c .before .if2 .left) (c .if4 .left)
+
+pub judge-spec : {M : Type 1} → statement M
+judge-spec =
+    tie.close
+    (tie.spec
+    returns
+    returns-2
+    returns-3
+    value-of-requires
+    enum-known-v
+    enum-told
+    returns-4
+    returns-5
+    returns-6)

@@ -1,0 +1,43 @@
+-- `lexer::scan::delimiter_of` meets its contract: the tests of the definition, byte by byte.
+use Prim.Native.Nat.{ℕ}
+use mathlib.Core.Logic.{_≢_}
+use mathlib.Core.Path.{_≡_}
+use borrow.Author.Tests.{ne-eqb}
+use Rattle.lexer.specs.Scan.{delimiterOf}
+use Rattle.lexer.specs.declared.scan.Delimiter.the-variants.{Open, Close, Other}
+use Rattle.lexer.proofs.scan.delimiter_of.Statement.{statement}
+use Rattle.lexer.proofs.scan.delimiter_of.Tie as tie
+
+module _ (a b : ℕ) where
+  opens : a ≡ 47 → b ≡ 42 → Open ≡ delimiterOf a b
+  opens p q = rw (p, q)
+
+  half-open : a ≡ 47 → b ≢ 42 → Other ≡ delimiterOf a b
+  half-open p q = rw (p, ne-eqb b 42 q)
+
+  close : a ≡ 42 → b ≡ 47 → Close ≡ delimiterOf a b
+  close p q = rw (p, q)
+
+  half-close : a ≡ 42 → b ≢ 47 → Other ≡ delimiterOf a b
+  half-close p q = rw (p, ne-eqb b 47 q)
+
+  other : a ≢ 47 → a ≢ 42 → Other ≡ delimiterOf a b
+  other p q = rw (ne-eqb a 47 p, ne-eqb a 42 q)
+
+returns : tie.Need-returns
+returns c = opens _ _ (c .before .if1 .taken) (c .if2 .taken)
+
+returns-2 : tie.Need-returns-2
+returns-2 c = half-open _ _ (c .before .if1 .taken) (c .if2 .left)
+
+returns-3 : tie.Need-returns-3
+returns-3 c = close _ _ (c .before .if3 .taken) (c .if4 .taken)
+
+returns-4 : tie.Need-returns-4
+returns-4 c = half-close _ _ (c .before .if3 .taken) (c .if4 .left)
+
+returns-5 : tie.Need-returns-5
+returns-5 c = other (c .before .before .args .a) (c .before .before .args .b) (c .before .if1 .left) (c .if3 .left)
+
+pub delimiter-of-spec : {M : Type 1} → statement M
+delimiter-of-spec = tie.close (tie.spec returns returns-2 returns-3 returns-4 returns-5)

@@ -1,0 +1,69 @@
+-- `lexer::scan::mark` meets its contract.
+use borrow.Author.Needs.{needs}
+use native.Mathlib.Omega.{arith}
+use mathlib.Core.Path.{sym, ap, _∙_}
+use Rattle.lexer.specs.Scan.{pieceOf}
+use Rattle.lexer.proofs.Items.{byte-inside, at-and, at-lone-and, piece-mark, piece-no-mark}
+use Rattle.lexer.proofs.scan.mark.Statement.{statement}
+use Rattle.lexer.proofs.scan.mark.Tie as tie
+
+add-byte-at : tie.Need-add-byte-at
+add-byte-at c = let p = c .before .before .pre .inside in omega arith
+
+byte-at-requires : tie.Need-byte-at-requires
+byte-at-requires c κs = search needs
+
+add-t9 : tie.Need-add-t9
+add-t9 c =
+    let g = c .before .before .before .before in
+    let s = g .args .source .now in
+    let i = g .args .at in
+    let q = byte-inside s _ 38 (sym (c .before .byte-at .ensures) ∙ c .if2 .taken) (omega arith) in omega arith
+
+returns : tie.Need-returns
+returns c =
+    let g = c .before .before .before .before in
+    let s = g .args .source .now in
+    let i = g .args .at in
+    sym (ap (pieceOf i) (at-and s i (g .pre .inside) (sym (g .pre .is) ∙ c .before .before .if1 .taken) (sym (c .before .byte-at .ensures) ∙ c .if2 .taken)))
+
+returns-2 : tie.Need-returns-2
+returns-2 c =
+    let g = c .before .before .before .before in
+    let s = g .args .source .now in
+    let i = g .args .at in
+    sym (ap (pieceOf i) (at-lone-and s i (g .pre .inside) (sym (g .pre .is) ∙ c .before .before .if1 .taken) (λ q. c .if2 .left (c .before .byte-at .ensures ∙ q))))
+
+mark-kind-requires : tie.Need-mark-kind-requires
+mark-kind-requires c κs = search needs
+
+returns-3 : tie.Need-returns-3
+returns-3 c =
+    let g = c .before .before .before .before in
+    let s = g .args .source .now in
+    let i = g .args .at in
+    piece-no-mark s i (g .pre .inside) (g .pre) (c .before .before .if1 .left) (c .before .mark-kind .ensures) (c .if3 .taken)
+
+add-t10 : tie.Need-add-t10
+add-t10 c = let p = c .before .before .before .before .pre .inside in omega arith
+
+returns-4 : tie.Need-returns-4
+returns-4 c =
+    let g = c .before .before .before .before in
+    let s = g .args .source .now in
+    let i = g .args .at in
+    piece-mark s i (g .pre .inside) (g .pre) (c .before .before .if1 .left) (c .before .mark-kind .ensures) (c .if3 .left)
+
+pub mark-spec : {M : Type 1} → statement M
+mark-spec =
+    tie.close
+    (tie.spec
+    add-byte-at
+    byte-at-requires
+    add-t9
+    returns
+    returns-2
+    mark-kind-requires
+    returns-3
+    add-t10
+    returns-4)

@@ -1,0 +1,47 @@
+-- `lexer::scan::word` meets its contract: the run of letters, digits and underscores is the part whose kind is asked.
+use borrow.Author.Needs.{needs}
+use native.Mathlib.Omega.{arith}
+use lib.ListN.{drop, length-drop}
+use Rattle.lexer.specs.Bytes.{isNamePart}
+use Rattle.lexer.specs.ItemLaws.{run-short}
+use Rattle.lexer.proofs.Items.{piece-word}
+use Rattle.lexer.proofs.scan.word.Statement.{statement}
+use Rattle.lexer.proofs.scan.word.Tie as tie
+
+run-end-requires : tie.Need-run-end-requires
+run-end-requires c κs = let p = c .before .pre .inside in omega arith
+
+sub-word-kind : tie.Need-sub-word-kind
+sub-word-kind c = search needs
+
+part-word-kind-start : tie.Need-part-word-kind-start
+part-word-kind-start c = search needs
+
+part-word-kind-end : tie.Need-part-word-kind-end
+part-word-kind-end c =
+    let g = c .before .before in
+    let s = g .args .source .now in
+    let i = g .args .at in
+    let p = g .pre .inside in
+    omega (arith, c .run-end .ensures, run-short isNamePart (drop i s), length-drop i s)
+
+word-kind-requires : tie.Need-word-kind-requires
+word-kind-requires c κs = search needs
+
+returns : tie.Need-returns
+returns c =
+    let g = c .before .before .before .before in
+    let s = g .args .source .now in
+    let i = g .args .at in
+    piece-word s i (g .pre .inside) (g .pre) (c .before .before .run-end .ensures) (c .word-kind .ensures)
+
+pub word-spec : {M : Type 1} → statement M
+word-spec =
+    tie.close
+    (tie.spec
+    run-end-requires
+    sub-word-kind
+    part-word-kind-start
+    part-word-kind-end
+    word-kind-requires
+    returns)

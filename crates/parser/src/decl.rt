@@ -1,0 +1,452 @@
+// Declarations, by recursive descent.
+use crate::answer::Answer;
+use crate::expr::operation;
+use crate::kinds::BOOLEAN;
+use crate::kinds::CLASS;
+use crate::kinds::CLOSE;
+use crate::kinds::CLOSE_BRACE;
+use crate::kinds::CLOSE_BRACKET;
+use crate::kinds::COMMA;
+use crate::kinds::EXTENDS;
+use crate::kinds::INT;
+use crate::kinds::OPEN;
+use crate::kinds::OPEN_BRACE;
+use crate::kinds::OPEN_BRACKET;
+use crate::kinds::PUBLIC;
+use crate::kinds::RETURN;
+use crate::kinds::SEMICOLON;
+use crate::kinds::is_name;
+use crate::stmt::list;
+use crate::stmt::single;
+use crate::table::kind;
+use crate::table::link;
+use crate::table::matched;
+use crate::table::put;
+ghost use mathlib.Core.Path.{_≡_};
+ghost use mathlib.Core.Bool.{true};
+ghost use Prim.Native.Nat.{_+_, _<_, _≤_};
+ghost use lib.ListN.{length};
+ghost use Rattle.parser.specs.Layout.{methodRow, classRow};
+ghost use Rattle.parser.specs.Post.{Ready, kindIn};
+ghost use Rattle.parser.specs.DeclarationPost.{DeclPost, LocalsPost, BodyPost, ReturnedPost, MembersPost, ClassMethodsPost, ProgramPost, aType, aVariable, variableList, parameterList, formals, aMethod, methodList, aParent, aClass, classList, startsVariable, EndsThere};
+
+// A type; its row is that of its first token.
+fn type_use(table: &[u32], n: usize, i: usize) -> Answer
+    requires { ⌜ (n ≤ 2048) × (i ≤ n) × (n ≤ length (now table)) ⌝ }
+    ensures { λ r. ⌜ DeclPost aType n i (now (table .entry)) r (now (table .entry)) ⌝ }
+{
+    let k = kind(table, n, i);
+    if k == INT {
+        if kind(table, n, i + 1) == OPEN_BRACKET {
+            if kind(table, n, i + 2) == CLOSE_BRACKET {
+                return Answer::At(i, i + 3);
+            }
+            return Answer::Bad(i + 2);
+        }
+        return Answer::At(i, i + 1);
+    }
+    if k == BOOLEAN {
+        return Answer::At(i, i + 1);
+    }
+    if is_name(k) {
+        return Answer::At(i, i + 1);
+    }
+    Answer::Bad(i)
+}
+
+// A type and a name.
+fn variable(table: &mut [u32], n: usize, i: usize) -> Answer
+    requires { ⌜ Ready (now table) n i ⌝ }
+    ensures { λ r. ⌜ DeclPost aVariable n i (now (table .entry)) r (now (table .exit)) × EndsThere r ⌝ }
+{
+    let a = type_use(table, n, i);
+    match a {
+        Answer::At(row, next) => {
+            if is_name(kind(table, n, next)) {
+                put(table, 3, next, row);
+                return Answer::At(next, next + 1);
+            }
+            Answer::Bad(next)
+        }
+        Answer::Bad(at) => Answer::Bad(at),
+    }
+}
+
+// Whether a variable begins here: in a body a name does so only where another name follows.
+fn starts_variable(table: &[u32], in_class: bool, n: usize, i: usize) -> bool
+    requires { ⌜ (n ≤ 2048) × (i ≤ n) × (n ≤ length (now table)) ⌝ }
+    ensures { λ r. ⌜ r ≡ startsVariable (now (table .entry)) «in_class» n i ⌝ }
+{
+    let k = kind(table, n, i);
+    if k == INT {
+        return true;
+    }
+    if k == BOOLEAN {
+        return true;
+    }
+    if is_name(k) {
+        if in_class {
+            return true;
+        }
+        return is_name(kind(table, n, i + 1));
+    }
+    false
+}
+
+// Fields or locals, each with its `;`.
+fn variables(table: &mut [u32], in_class: bool, n: usize, i: usize) -> Answer
+    requires { ⌜ Ready (now table) n i ⌝ }
+    ensures { λ r. ⌜ DeclPost (variableList «in_class») n i (now (table .entry)) r (now (table .exit)) ⌝ }
+{
+    if starts_variable(table, in_class, n, i) {
+        return some_variables(table, in_class, n, i);
+    }
+    Answer::At(2048, i)
+}
+
+// One or more of them.
+fn some_variables(table: &mut [u32], in_class: bool, n: usize, i: usize) -> Answer
+    requires { ⌜ Ready (now table) n i × (startsVariable (now table) «in_class» n i ≡ true) ⌝ }
+    ensures { λ r. ⌜ DeclPost (variableList «in_class») n i (now (table .entry)) r (now (table .exit)) ⌝ }
+{
+    let a = variable(table, n, i);
+    match a {
+        Answer::At(row, next) => {
+            if kind(table, n, next) == SEMICOLON {
+                let b = variables(table, in_class, n, next + 1);
+                match b {
+                    Answer::At(more, end) => {
+                        link(table, row, more);
+                        return Answer::At(row, end);
+                    }
+                    Answer::Bad(at) => {
+                        return Answer::Bad(at);
+                    }
+                }
+            }
+            Answer::Bad(next)
+        }
+        Answer::Bad(at) => Answer::Bad(at),
+    }
+}
+
+// Parameters, with the `)` that ends them.
+fn parameters(table: &mut [u32], n: usize, i: usize) -> Answer
+    requires { ⌜ Ready (now table) n i ⌝ }
+    ensures { λ r. ⌜ DeclPost formals n i (now (table .entry)) r (now (table .exit)) ⌝ }
+{
+    if kind(table, n, i) == CLOSE {
+        return Answer::At(2048, i + 1);
+    }
+    some_parameters(table, n, i)
+}
+
+// One or more of them.
+fn some_parameters(table: &mut [u32], n: usize, i: usize) -> Answer
+    requires { ⌜ Ready (now table) n i ⌝ }
+    ensures { λ r. ⌜ DeclPost parameterList n i (now (table .entry)) r (now (table .exit)) ⌝ }
+{
+    let a = variable(table, n, i);
+    match a {
+        Answer::At(row, next) => {
+            let k = kind(table, n, next);
+            if k == CLOSE {
+                link(table, row, 2048);
+                return Answer::At(row, next + 1);
+            }
+            if k == COMMA {
+                let b = some_parameters(table, n, next + 1);
+                match b {
+                    Answer::At(more, end) => {
+                        link(table, row, more);
+                        return Answer::At(row, end);
+                    }
+                    Answer::Bad(at) => {
+                        return Answer::Bad(at);
+                    }
+                }
+            }
+            Answer::Bad(next)
+        }
+        Answer::Bad(at) => Answer::Bad(at),
+    }
+}
+
+// A method, from `public` to the `}` of its body.
+fn method(table: &mut [u32], n: usize, i: usize) -> Answer
+    requires { ⌜ Ready (now table) n i × (kindIn (now table) n i ≡ 15) ⌝ }
+    ensures { λ r. ⌜ DeclPost aMethod n i (now (table .entry)) r (now (table .exit)) ⌝ }
+{
+    let a = variable(table, n, i + 1);
+    match a {
+        Answer::At(name, next) => {
+            if kind(table, n, next) == OPEN {
+                let b = parameters(table, n, next + 1);
+                match b {
+                    Answer::At(first, end) => {
+                        return locals(table, n, name, first, end);
+                    }
+                    Answer::Bad(at) => {
+                        return Answer::Bad(at);
+                    }
+                }
+            }
+            Answer::Bad(next)
+        }
+        Answer::Bad(at) => Answer::Bad(at),
+    }
+}
+
+// A method after its parameters.
+fn locals(table: &mut [u32], n: usize, name: usize, first: usize, j: usize) -> Answer
+    requires { ⌜ Ready (now table) n j × (name + 1 < n) × (first ≤ 2048) ⌝ }
+    ensures { λ r. ⌜ LocalsPost n name first j (now (table .entry)) r (now (table .exit)) ⌝ }
+{
+    if kind(table, n, j) == OPEN_BRACE {
+        let a = variables(table, false, n, j + 1);
+        match a {
+            Answer::At(second, next) => {
+                return body(table, n, name, first, second, next);
+            }
+            Answer::Bad(at) => {
+                return Answer::Bad(at);
+            }
+        }
+    }
+    Answer::Bad(j)
+}
+
+// A method after its locals.
+fn body(table: &mut [u32], n: usize, name: usize, first: usize, second: usize, j: usize) -> Answer
+    requires { ⌜ Ready (now table) n j × (name + 1 < n) × (first ≤ 2048) × (second ≤ 2048) ⌝ }
+    ensures { λ r. ⌜ BodyPost n name first second j (now (table .entry)) r (now (table .exit)) ⌝ }
+{
+    let a = list(table, n, j);
+    match a {
+        Answer::At(start, next) => {
+            if kind(table, n, next) == RETURN {
+                return returned(table, n, name, first, second, start, next + 1);
+            }
+            Answer::Bad(next)
+        }
+        Answer::Bad(at) => Answer::Bad(at),
+    }
+}
+
+// A method after its `return`.
+fn returned(
+    table: &mut [u32],
+    n: usize,
+    name: usize,
+    first: usize,
+    second: usize,
+    start: usize,
+    j: usize,
+) -> Answer
+    requires { ⌜ Ready (now table) n j × (name + 1 < n) × (first ≤ 2048) × (second ≤ 2048) × (start ≤ 2048) ⌝ }
+    ensures { λ r. ⌜ ReturnedPost n name first second start j (now (table .entry)) r (now (table .exit)) ⌝ }
+{
+    let a = operation(table, n, 0, j);
+    match a {
+        Answer::At(value, next) => {
+            let end = [33u32, 39];
+            let m = matched(table, n, next, &end);
+            if m < 2 {
+                return Answer::Bad(next + m);
+            }
+            method_row(table, name, first, second, start, value);
+            Answer::At(name, next + 2)
+        }
+        Answer::Bad(at) => Answer::Bad(at),
+    }
+}
+
+// A method's columns: its parameters, locals, statements and return expression.
+fn method_row(
+    table: &mut [u32],
+    name: usize,
+    first: usize,
+    second: usize,
+    start: usize,
+    value: usize,
+)
+    requires { ⌜ (16384 ≤ length (now table)) × (name + 1 < 2048) × (first ≤ 2048) × (second ≤ 2048) × (start ≤ 2048) × (value ≤ 2048) ⌝ }
+    ensures { λ _. ⌜ now (table .exit) ≡ methodRow (now (table .entry)) name first second start value ⌝ }
+{
+    put(table, 4, name, first);
+    put(table, 5, name, second);
+    put(table, 4, name + 1, start);
+    put(table, 5, name + 1, value);
+}
+
+// Methods, as many as there are.
+fn methods(table: &mut [u32], n: usize, i: usize) -> Answer
+    requires { ⌜ Ready (now table) n i ⌝ }
+    ensures { λ r. ⌜ DeclPost methodList n i (now (table .entry)) r (now (table .exit)) ⌝ }
+{
+    if kind(table, n, i) == PUBLIC {
+        let a = method(table, n, i);
+        match a {
+            Answer::At(row, next) => {
+                let b = methods(table, n, next);
+                match b {
+                    Answer::At(more, end) => {
+                        link(table, row, more);
+                        return Answer::At(row, end);
+                    }
+                    Answer::Bad(at) => {
+                        return Answer::Bad(at);
+                    }
+                }
+            }
+            Answer::Bad(at) => {
+                return Answer::Bad(at);
+            }
+        }
+    }
+    Answer::At(2048, i)
+}
+
+// `extends` and a name, or nothing; the row is that of the name.
+fn parent(table: &[u32], n: usize, i: usize) -> Answer
+    requires { ⌜ (n ≤ 2048) × (i ≤ n) × (n ≤ length (now table)) ⌝ }
+    ensures { λ r. ⌜ DeclPost aParent n i (now (table .entry)) r (now (table .entry)) ⌝ }
+{
+    if kind(table, n, i) == EXTENDS {
+        if is_name(kind(table, n, i + 1)) {
+            return Answer::At(i + 1, i + 2);
+        }
+        return Answer::Bad(i + 1);
+    }
+    Answer::At(2048, i)
+}
+
+fn class(table: &mut [u32], n: usize, i: usize) -> Answer
+    requires { ⌜ Ready (now table) n i ⌝ }
+    ensures { λ r. ⌜ DeclPost aClass n i (now (table .entry)) r (now (table .exit)) ⌝ }
+{
+    if kind(table, n, i) == CLASS {
+        if is_name(kind(table, n, i + 1)) {
+            let a = parent(table, n, i + 2);
+            match a {
+                Answer::At(row, next) => {
+                    return members(table, n, i + 1, row, next);
+                }
+                Answer::Bad(at) => {
+                    return Answer::Bad(at);
+                }
+            }
+        }
+        return Answer::Bad(i + 1);
+    }
+    Answer::Bad(i)
+}
+
+// A class after its parent.
+fn members(table: &mut [u32], n: usize, name: usize, above: usize, j: usize) -> Answer
+    requires { ⌜ Ready (now table) n j × (name < n) × (above ≤ 2048) ⌝ }
+    ensures { λ r. ⌜ MembersPost n name above j (now (table .entry)) r (now (table .exit)) ⌝ }
+{
+    if kind(table, n, j) == OPEN_BRACE {
+        let a = variables(table, true, n, j + 1);
+        match a {
+            Answer::At(first, next) => {
+                return class_methods(table, n, name, above, first, next);
+            }
+            Answer::Bad(at) => {
+                return Answer::Bad(at);
+            }
+        }
+    }
+    Answer::Bad(j)
+}
+
+// A class after its fields.
+fn class_methods(
+    table: &mut [u32],
+    n: usize,
+    name: usize,
+    above: usize,
+    first: usize,
+    j: usize,
+) -> Answer
+    requires { ⌜ Ready (now table) n j × (name < n) × (above ≤ 2048) × (first ≤ 2048) ⌝ }
+    ensures { λ r. ⌜ ClassMethodsPost n name above first j (now (table .entry)) r (now (table .exit)) ⌝ }
+{
+    let a = methods(table, n, j);
+    match a {
+        Answer::At(second, next) => {
+            if kind(table, n, next) == CLOSE_BRACE {
+                class_row(table, name, above, first, second);
+                return Answer::At(name, next + 1);
+            }
+            Answer::Bad(next)
+        }
+        Answer::Bad(at) => Answer::Bad(at),
+    }
+}
+
+// A class's columns: its parent's name, its fields and methods.
+fn class_row(table: &mut [u32], name: usize, above: usize, first: usize, second: usize)
+    requires { ⌜ (16384 ≤ length (now table)) × (name < 2048) × (above ≤ 2048) × (first ≤ 2048) × (second ≤ 2048) ⌝ }
+    ensures { λ _. ⌜ now (table .exit) ≡ classRow (now (table .entry)) name above first second ⌝ }
+{
+    put(table, 3, name, above);
+    put(table, 4, name, first);
+    put(table, 5, name, second);
+}
+
+// Classes, up to the last token.
+fn classes(table: &mut [u32], n: usize, i: usize) -> Answer
+    requires { ⌜ Ready (now table) n i ⌝ }
+    ensures { λ r. ⌜ DeclPost classList n i (now (table .entry)) r (now (table .exit)) ⌝ }
+{
+    if kind(table, n, i) == 0 {
+        return Answer::At(2048, i);
+    }
+    let a = class(table, n, i);
+    match a {
+        Answer::At(row, next) => {
+            let b = classes(table, n, next);
+            match b {
+                Answer::At(more, end) => {
+                    link(table, row, more);
+                    Answer::At(row, end)
+                }
+                Answer::Bad(at) => Answer::Bad(at),
+            }
+        }
+        Answer::Bad(at) => Answer::Bad(at),
+    }
+}
+
+// A program: main's head, its statement, its end, and the other classes, the first of which is kept in row 0.
+pub fn program(table: &mut [u32], n: usize) -> Answer
+    requires { ⌜ Ready (now table) n 0 ⌝ }
+    ensures { λ r. ⌜ ProgramPost n (now (table .entry)) r (now (table .exit)) ⌝ }
+{
+    let head = [6u32, 1, 38, 15, 17, 22, 13, 34, 18, 36, 37, 1, 35, 38];
+    let m = matched(table, n, 0, &head);
+    if m < 14 {
+        return Answer::Bad(m);
+    }
+    let a = single(table, n, 14);
+    match a {
+        Answer::At(_, next) => {
+            let end = [39u32, 39];
+            let e = matched(table, n, next, &end);
+            if e < 2 {
+                return Answer::Bad(next + e);
+            }
+            let b = classes(table, n, next + 2);
+            match b {
+                Answer::At(first, last) => {
+                    link(table, 0, first);
+                    Answer::At(first, last)
+                }
+                Answer::Bad(at) => Answer::Bad(at),
+            }
+        }
+        Answer::Bad(at) => Answer::Bad(at),
+    }
+}
