@@ -1,0 +1,1 @@
+// Definitions only so far, in specs/: what the work table holds after reading.
