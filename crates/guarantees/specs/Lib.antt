@@ -1,0 +1,4 @@
+-- What holds of every source that Check accepts.
+pub mod Literals
+pub mod Accepted
+pub mod Demand

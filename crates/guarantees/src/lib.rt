@@ -1,0 +1,1 @@
+// Theorems only, in specs/: what holds of every source that Check accepts.

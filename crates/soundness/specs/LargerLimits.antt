@@ -1,0 +1,148 @@
+-- Larger limits change nothing of a run but an end by a limit: two runs stay in step until the smaller limits stop one, and since `plan` sees neither limits nor
+-- meters only the eight requests are looked at. More fuel changes nothing of a run that ended, so this holds of `run`, which has fuel by its budget.
+use Prim.Native.Nat.{ℕ, zero, suc, _+_, _*_, _≤_}
+use native.Mathlib.Omega.{arith}
+use native.Mathlib.Nat.{not-suc-le-zero, le-of-suc-le-suc}
+use mathlib.Core.Bool.{Bool, true, false}
+use mathlib.Core.List.{List, [], _∷_, _++_, append-assoc, append-nil}
+use mathlib.Core.Path.{_≡_, refl, sym, ap, _∙_, subst}
+use lib.ListN.{length}
+use lib.Dec.{ltb, leb}
+use lib.IntN.{ℤ}
+use borrow.Author.Tests.{ltb-true, leb-true, lt-ltb, le-leb}
+use Rattle.base.specs.Codes.{budgetSpent, heapFull, callsFull, outputFull}
+use Rattle.parser.specs.Tree.{Class, Program}
+use Rattle.semantics.specs.Machine.{Core, Request, Request.charge, Request.allocate, Request.enter, Request.output, Request.move, Request.fault, Request.done, Request.stuck, plan, start}
+use Rattle.semantics.specs.Limits.{Limits, Meters, meters, printedOf, ended, Outcome, next, stop, within, guard, Report, after, runWith, run}
+use Rattle.soundness.specs.Results.{Finish, ByLimit, by-budget, by-heap, by-calls, by-output, finish-or-limit, Over}
+use Rattle.soundness.specs.Ending.{run-ends}
+
+infix 20 _⊑_
+pub record _⊑_ (L M : Limits) : Type 0 where
+  pub budget : L .budget ≤ M .budget
+  pub calls : L .calls ≤ M .calls
+  pub heap : L .heap ≤ M .heap
+  pub printed : L .printed ≤ M .printed
+
+-- one list begins another
+pub record Begins (a b : List ℤ) : Type 0 where
+  pub rest : List ℤ
+  pub is : b ≡ a ++ rest
+
+pub begins-refl : (a : List ℤ) → Begins a a
+begins-refl a = record { rest = []; is = sym (append-nil a) }
+
+begins-trans : {a b c : List ℤ} → Begins a b → Begins b c → Begins a c
+begins-trans {a} p q =
+    record { rest = p .rest ++ q .rest; is = q .is ∙ ap (λ (l : List ℤ). l ++ q .rest) (p .is) ∙ append-assoc a (p .rest) (q .rest) }
+
+-- ---- the printed list only grows
+
+abbrev Grows : Meters → Outcome → Type 0
+Grows m (next c n) = Begins (printedOf m) (printedOf n)
+Grows m (stop e) = Unit {0}
+
+within-grows : (m : Meters) (b : Bool) (k p : ℕ) (c : Core) (n : Meters) → Begins (printedOf m) (printedOf n) → Grows m (within b k p λ _. next c n)
+within-grows m true k p c n h = h
+within-grows m false k p c n h = tt
+
+guard-grows : (L : Limits) (m : Meters) (r : Request) → Grows m (guard L m r)
+unfolding guard
+guard-grows L (meters s o) (charge p c) = within-grows (meters s o) (ltb s (L .budget)) budgetSpent p c (meters (s + 1) o) (begins-refl o)
+guard-grows L (meters s o) (allocate p n c) = within-grows (meters s o) (leb n (L .heap)) heapFull p (c tt) (meters s o) (begins-refl o)
+guard-grows L (meters s o) (enter p n c) = within-grows (meters s o) (leb n (L .calls)) callsFull p c (meters s o) (begins-refl o)
+guard-grows L (meters s o) (output p z c) = within-grows (meters s o) (ltb (length o) (L .printed)) outputFull p c (meters s (o ++ z ∷ [])) (record { rest = z ∷ []; is = refl })
+guard-grows L (meters s o) (move c) = begins-refl o
+guard-grows L (meters s o) (fault k p) = tt
+guard-grows L (meters s o) done = tt
+guard-grows L (meters s o) stuck = tt
+
+after-grows : (k : Core → Meters → Report) → ((c : Core) (n : Meters) → Begins (printedOf n) (k c n .printed))
+    → (c : Core) (m : Meters) (o : Outcome) → Grows m o → Begins (printedOf m) (after k c m o .printed)
+after-grows k h c m (next d n) g = begins-trans g (h d n)
+after-grows k h c m (stop e) g = begins-refl (printedOf m)
+
+pub run-grows : (f : ℕ) (G : List Class) (L : Limits) (c : Core) (m : Meters) → Begins (printedOf m) (runWith f G L c m .printed)
+unfolding runWith
+run-grows zero G L c m = begins-refl (printedOf m)
+run-grows (suc f) G L c m =
+    after-grows (λ d n. runWith f G L d n) (λ d n. run-grows f G L d n) c m (guard L m (plan G c)) (guard-grows L m (plan G c))
+
+-- ---- two runs in step
+
+-- the outcome of a request under limits and under larger ones: the same, or an end by a limit
+data Alike : Outcome → Outcome → Type 0 where
+  alike : {o : Outcome} → Alike o o
+  stopped : {k p : ℕ} {o : Outcome} → ByLimit k → Alike (stop (ended k p)) o
+
+within-alike : (a b : Bool) {k : ℕ} (p : ℕ) (o : Unit {0} → Outcome) → ByLimit k → (a ≡ true → b ≡ true) → Alike (within a k p o) (within b k p o)
+within-alike true true p o l h = alike
+within-alike true false p o l h = absurd (let e = h refl in let z : _≡_ {A = ℕ} 0 1 = cc in omega arith)
+within-alike false b p o l h = stopped l
+
+guard-alike : (L M : Limits) → L ⊑ M → (m : Meters) (r : Request) → Alike (guard L m r) (guard M m r)
+unfolding guard
+guard-alike L M h (meters s o) (charge p c) =
+    within-alike _ _ p _ by-budget (λ e. lt-ltb s (M .budget) (omega (arith, h .budget, ltb-true s (L .budget) e)))
+guard-alike L M h (meters s o) (allocate p n c) = within-alike _ _ p _ by-heap (λ e. le-leb n (M .heap) (omega (arith, h .heap, leb-true n (L .heap) e)))
+guard-alike L M h (meters s o) (enter p n c) = within-alike _ _ p _ by-calls (λ e. le-leb n (M .calls) (omega (arith, h .calls, leb-true n (L .calls) e)))
+guard-alike L M h (meters s o) (output p z c) =
+    within-alike _ _ p _ by-output (λ e. lt-ltb (length o) (M .printed) (omega (arith, h .printed, ltb-true (length o) (L .printed) e)))
+guard-alike L M h (meters s o) (move c) = alike
+guard-alike L M h (meters s o) (fault k p) = alike
+guard-alike L M h (meters s o) done = alike
+guard-alike L M h (meters s o) stuck = alike
+
+-- a run under limits and one under larger limits: they report the same, or a limit stopped the first and its printed list begins the other's
+pub data Agree : Report → Report → Type 0 where
+  agree : {r : Report} → Agree r r
+  cut : {k p : ℕ} {r s : Report} → ByLimit k → r .ending ≡ ended k p → Begins (r .printed) (s .printed) → Agree r s
+
+after-agree : (j k : Core → Meters → Report) (c : Core) (m : Meters) {o q : Outcome} → Alike o q
+    → ((d : Core) (n : Meters) → Agree (j d n) (k d n)) → Begins (printedOf m) (after k c m q .printed) → Agree (after j c m o) (after k c m q)
+after-agree j k c m (alike {o = next d n}) h b = h d n
+after-agree j k c m (alike {o = stop e}) h b = agree
+after-agree j k c m (stopped l) h b = cut l refl b
+
+pub runs-agree : (f : ℕ) (G : List Class) (L M : Limits) → L ⊑ M → (c : Core) (m : Meters) → Agree (runWith f G L c m) (runWith f G M c m)
+unfolding runWith
+runs-agree zero G L M h c m = agree
+runs-agree (suc f) G L M h c m =
+    after-agree (λ d n. runWith f G L d n) (λ d n. runWith f G M d n) c m (guard-alike L M h m (plan G c)) (λ d n. runs-agree f G L M h d n)
+    (after-grows (λ d n. runWith f G M d n) (λ d n. run-grows f G M d n) c m (guard M m (plan G c)) (guard-grows M m (plan G c)))
+
+-- ---- more fuel
+
+after-fuel : (j k : Core → Meters → Report) (c : Core) (m : Meters) (o : Outcome)
+    → ((d : Core) (n : Meters) → Over (j d n .ending) → k d n ≡ j d n) → Over (after j c m o .ending) → after k c m o ≡ after j c m o
+after-fuel j k c m (next d n) h e = h d n e
+after-fuel j k c m (stop x) h e = refl
+
+pub more-fuel : (f g : ℕ) → f ≤ g → (G : List Class) (L : Limits) (c : Core) (m : Meters) → Over (runWith f G L c m .ending)
+    → runWith g G L c m ≡ runWith f G L c m
+unfolding runWith
+more-fuel zero g h G L c m e = absurd e
+more-fuel (suc f) zero h G L c m e = absurd (not-suc-le-zero h)
+more-fuel (suc f) (suc g) h G L c m e =
+    after-fuel (λ d n. runWith f G L d n) (λ d n. runWith g G L d n) c m (guard L m (plan G c))
+    (λ d n x. more-fuel f g (le-of-suc-le-suc h) G L d n x) e
+
+-- ---- runs on their own fuel
+
+pub run-agrees : (p : Program) (L M : Limits) → L ⊑ M → Agree (run p L) (run p M)
+unfolding run
+run-agrees p L M h =
+    subst (λ (r : Report). Agree r (run p M))
+    (more-fuel (4 * L .budget + 4) (4 * M .budget + 4) (omega (arith, h .budget)) (p .classes) L (start p) (meters 0 []) (run-ends p L))
+    (runs-agree (4 * M .budget + 4) (p .classes) L M h (start p) (meters 0 []))
+
+pub agree-same : {k q : ℕ} {r s : Report} → Finish k → r .ending ≡ ended k q → Agree r s → s ≡ r
+agree-same f e agree = refl
+agree-same f e (cut l x b) = absurd (finish-or-limit f (subst ByLimit (same-number (sym x ∙ e)) l))
+  where
+    same-number : {k l q r : ℕ} → ended k q ≡ ended l r → k ≡ l
+    same-number e = cc
+
+pub agree-begins : {r s : Report} → Agree r s → Begins (r .printed) (s .printed)
+agree-begins (agree {r = r}) = begins-refl (r .printed)
+agree-begins (cut l x b) = b

@@ -1,0 +1,426 @@
+-- A typed state asks for a typed state, faults or is done: it is never stuck. So a typed program's run never goes wrong, under any limits.
+use Prim.Native.Nat.{ℕ, zero, suc, _+_, _*_, _^_, _<_}
+use native.Mathlib.Nat.{zero-add, add-zero}
+use native.Mathlib.Omega.{arith}
+use mathlib.Core.Bool.{Bool, true, false, true≢false, false≢true}
+use mathlib.Core.List.{List, [], _∷_, _++_, map, map-append, reverseAux}
+use mathlib.Core.Logic.{_⊎_, inl, inr}
+use mathlib.Core.Option.{Option, none, some}
+use mathlib.Core.Path.{_≡_, refl, sym, ap, _∙_, subst}
+use lib.ListN.{length, getElem?, set, length-map}
+use lib.Dec.{ltb, leb, eqb}
+use borrow.Author.Tests.{ltb-true, eq-eqb}
+use Rattle.base.specs.Choice.{if_then_else_, option}
+use Rattle.base.specs.Lists.{All, All2, all2-nil, all2-cons, all2-append, all2-length, all2-map, all2-at, all2-set, Related, get-map}
+use Rattle.base.specs.WordLaws.{add-below, sub-below, mul-below}
+use Rattle.parser.specs.Tree.{Place, Operator, Operator.and, Operator.less, Operator.plus, Operator.minus, Operator.times, Part, Expression, Statement, Ty, Ty.int, Ty.boolean, Ty.intArray, Ty.class, Variable, Method, Class, Program}
+use Rattle.parser.specs.Tree.{Sort.arguments}
+use Rattle.checker.specs.ClassTable.{Slot, Found, Context, meaning, known, classNamed, variableNamed, fieldsOf}
+use Rattle.checker.specs.Judge.{operandType, resultType, arity}
+use Rattle.checker.specs.Typing.{Sub, sub-same, sub-trans, HasMethod, HasName, of-variable, of-field, typeOf, ClassTyped, Redeclares, ProgramTyped}
+use Rattle.checker.specs.Typing.{HasType, t-literal, t-truth, t-variable, t-this, t-new-array, t-new-object, t-negation, t-binary, t-element, t-length, t-call, HaveTypes, t-none, t-more}
+use Rattle.checker.specs.Typing.{IsTyped, t-block, t-if, t-while, t-print, t-assign, t-assign-element, t-end, t-sequence}
+use Rattle.semantics.specs.Machine.{Value, Value.objectAt, Cell, Cell.slot, Call, Call.frame, Core, initial}
+use Rattle.semantics.specs.Machine.{Request, Request.charge, Request.allocate, Request.enter, Request.output, Request.move, Request.fault, Request.done, Request.stuck}
+use Rattle.semantics.specs.Machine.{Task, Task.fetch, Task.measure, Task.makeArray, Task.makeObject, Task.storeElement, Task.leave}
+use Rattle.semantics.specs.Machine.{need, pop, popMany, innermost, asSlot, asObjectCell, asArrayCell, inArray, readMeaning, readName, writeMeaning, writeName, isAnd, apply, begin, beginStatement, second, callMethod, nextArgument, nextStatement, nextOfBody, newArrayOf, newObjectOf, opened, go, plan, start}
+use Rattle.semantics.specs.Limits.{Limits, Meters, meters, Ending, ended, wentWrong, unfinished, Outcome, next, stop, within, guard, Report, after, runWith, run}
+use Rattle.soundness.specs.Results.{by-null, by-index, by-size, Finish, by-success, by-fault, ByLimit, by-budget, by-heap, by-calls, by-output, Over}
+use Rattle.soundness.specs.Ending.{run-ends}
+use Rattle.soundness.specs.ClassTableLaws.{Climbs, here, At, NameAt, in-row, in-object, name-at, fields-kept, method-of, all-end, every-method, declared, dispatch, none-some, some-inj}
+use Rattle.soundness.specs.StateTyping.{Fit, MethodFits, LiteralsFit, CellType, objectType, arrayType, slotType, ValueTyped, v-number, v-flag, v-no-array, v-no-object, v-array, v-object}
+use Rattle.soundness.specs.StateTyping.{CellTyped, c-object, c-array, c-slot, HeapTyped, FrameTyped, CallTyped, c-frame, now, Typed, typed, Asks}
+use Rattle.soundness.specs.StateTyping.{Runs, r-end, r-evaluate, r-execute, r-operand, r-operate, r-confirm, r-negate, r-index, r-fetch, r-measure, r-make-array, r-make-object, r-invoke, r-branch, r-decide, r-again, r-show, r-store, r-new-element, r-store-element, r-continue, r-perform, r-leave}
+use Rattle.soundness.specs.HeapLaws.{value-sub, initial-typed, Kept, kept-append, values-kept, calls-kept, new-place, fieldTypes, elementTypes, object-grown, array-grown, stored}
+
+-- every operator but `&&` takes numbers
+data Takes : Operator → Type 0 where
+  flags : Takes and
+  numbers : {o : Operator} → isAnd o ≡ false → operandType o ≡ int → Takes o
+
+takes : (o : Operator) → Takes o
+takes and = flags
+takes less = numbers refl refl
+takes plus = numbers refl refl
+takes minus = numbers refl refl
+takes times = numbers refl refl
+
+applied : {G : List Class} {σ : List CellType} (o : Operator) (a b : ℕ) → isAnd o ≡ false → (v : Value) × (apply o a b ≡ some v) × ValueTyped G σ v (resultType o)
+applied and a b e = absurd (true≢false e)
+applied less a b e = (_, refl, v-flag)
+applied plus a b e = (_, refl, v-number (add-below a b))
+applied minus a b e = (_, refl, v-number (sub-below a b))
+applied times a b e = (_, refl, v-number (mul-below a b))
+
+-- main sees no names
+no-name : {G : List Class} {x : List ℕ} {t : Ty} → HasName G (now []) x t → ⊥
+unfolding variableNamed
+no-name (of-variable e q) = none-some e
+no-name (of-field e o h) = none-some o
+
+module _ {G : List Class} (T : All (ClassTyped G) G) (L : All (λ k. All MethodFits (k .methods)) G) where
+  -- ---- taking apart, where the types say that it goes well
+
+  need-ok : {A : Type 0} (k : A → Request) {o : Option A} {a : A} → o ≡ some a → Asks G (k a) → Asks G (need o k)
+  need-ok k e h = subst (λ x. Asks G (need x k)) (sym e) h
+
+  choice-ok : (b : Bool) (x y : Unit {0} → Request) → (b ≡ true → Asks G (x tt)) → (b ≡ false → Asks G (y tt)) → Asks G (if b then x else y)
+  choice-ok true x y f g = f refl
+  choice-ok false x y f g = g refl
+
+  slot-ok : {σ : List CellType} {h : List Cell} {i : ℕ} {t : Ty} (k : Value → Request) → Related (CellTyped G σ) h i (slotType t)
+      → ((v : Value) → ValueTyped G σ v t → Asks G (k v)) → Asks G (need (getElem? h i) λ x. asSlot x k)
+  slot-ok {σ} {t} k w f = need-ok (λ x. asSlot x k) (w .at) (by-cell (w .holds))
+    where
+      by-cell : {x : Cell} → CellTyped G σ x (slotType t) → Asks G (asSlot x k)
+      by-cell (c-slot {v = v} q) = f v q
+
+  array-cell-ok : {σ : List CellType} {h : List Cell} {a n : ℕ} (k : ℕ → Request) → Related (CellTyped G σ) h a (arrayType n) → (n < 2 ^ 31 → Asks G (k n))
+      → Asks G (need (getElem? h a) λ x. asArrayCell x k)
+  array-cell-ok {σ} {n} k w f = need-ok (λ x. asArrayCell x k) (w .at) (by-cell (w .holds))
+    where
+      by-cell : {x : Cell} → CellTyped G σ x (arrayType n) → Asks G (asArrayCell x k)
+      by-cell (c-array l) = f l
+
+  object-cell-ok : {σ : List CellType} {h : List Cell} {a : ℕ} {c : List ℕ} (k : List ℕ → Request) → Related (CellTyped G σ) h a (objectType c) → Asks G (k c)
+      → Asks G (need (getElem? h a) λ x. asObjectCell x k)
+  object-cell-ok {σ} {c} k w f = need-ok (λ x. asObjectCell x k) (w .at) (by-cell (w .holds))
+    where
+      by-cell : {x : Cell} → CellTyped G σ x (objectType c) → Asks G (asObjectCell x k)
+      by-cell (c-object e) = f
+
+  in-array-ok : {σ : List CellType} {h : List Cell} (p : Place) (a : ℕ) {n : ℕ} (i : ℕ) (r : Request) → HeapTyped G σ h → getElem? σ a ≡ some (arrayType n)
+      → (getElem? σ (a + 1 + i) ≡ some (slotType int) → Asks G r) → Asks G (inArray p h a i r)
+  in-array-ok p a {n} i r H e f =
+      array-cell-ok _ (all2-at a (H .cells) e) (λ _. choice-ok (ltb i n) _ _ (λ q. f (H .laid .arrays a n i e (ltb-true i n q))) (λ _. by-index))
+
+  -- the arguments off the stack
+  pop-typed : {σ : List CellType} (qs : List Ty) {us ws : List Ty} {vs got : List Value} (k : List Value → List Value → Request)
+      → All2 (ValueTyped G σ) vs (qs ++ us) → All2 (ValueTyped G σ) got ws
+      → ((xs rest : List Value) → All2 (ValueTyped G σ) xs (reverseAux qs ws) → All2 (ValueTyped G σ) rest us → Asks G (k xs rest))
+      → Asks G (popMany (length qs) got vs k)
+  pop-typed [] {vs} {got} k W A f = f got vs A W
+  pop-typed (q ∷ qs) k (all2-cons x W) A f = pop-typed qs k W (all2-cons x A) f
+
+  -- ---- names
+
+  owner-climbs : {σ : List CellType} {a : ℕ} {Γ : Context} {xs : List Value} {c : List ℕ} (F : FrameTyped G σ a Γ xs) → Γ .owner ≡ some c → Climbs G (F .made) c
+  owner-climbs F e = subst (Climbs G (F .made)) (some-inj (sym (ap (λ (Δ : Context). Δ .owner) (F .context)) ∙ e)) (declared T (F .has) .climbs)
+
+  row-type : (Γ : Context) {s : Slot} {t : Ty} → At (Γ .variables) s → s .type ≡ t → getElem? (map typeOf (Γ .variables)) (s .place) ≡ some t
+  row-type Γ {s} w q = get-map typeOf (Γ .variables) (s .place) (w .at) ∙ ap some (w .typed ∙ q)
+
+  field-type : {σ : List CellType} {h : List Cell} {a : ℕ} {Γ : Context} {xs : List Value} {c : List ℕ} {s : Slot} {t : Ty} → HeapTyped G σ h → FrameTyped G σ a Γ xs
+      → Γ .owner ≡ some c → At (fieldsOf G c) s → s .type ≡ t → getElem? σ (a + 1 + s .place) ≡ some (slotType t)
+  field-type {a} {s} H F o w q =
+      H .laid .objects a (F .made) (s .place) (w .item) (F .receiver) (fields-kept (all-end T) (s .place) (owner-climbs F o) (w .at))
+      ∙ ap (λ (u : Ty). some (slotType u)) (w .typed ∙ q)
+
+  read-ok : {σ : List CellType} {Γs : List Context} {cs : List Call} {h : List Cell} {x : List ℕ} {t : Ty} (k : Value → Request)
+      → HeapTyped G σ h → All2 (CallTyped G σ) cs Γs → HasName G (now Γs) x t → ((v : Value) → ValueTyped G σ v t → Asks G (k v)) → Asks G (readName G cs h x k)
+  unfolding readName
+  read-ok k H all2-nil n f = absurd (no-name n)
+  read-ok {σ} {h = h} {x = x} {t = t} k H (all2-cons (c-frame {a = a} {Γ = Γ} {xs = xs} F) C) n f = by-place (name-at (all-end T) Γ n)
+    where
+      by-place : NameAt G Γ x t → Asks G (need (meaning G Γ x) λ m. readMeaning a xs h m k)
+      by-place (in-row s e w q) = need-ok _ e (let y = all2-at (s .place) (F .row) (row-type Γ w q) in need-ok k (y .at) (f (y .item) (y .holds)))
+      by-place (in-object c s o e w q) = need-ok _ e (slot-ok k (all2-at (a + 1 + s .place) (H .cells) (field-type H F o w q)) f)
+
+  write-ok : {σ : List CellType} {Γs : List Context} {cs : List Call} {h : List Cell} {x : List ℕ} {t : Ty} {v : Value} (k : List Call → List Cell → Request)
+      → HeapTyped G σ h → All2 (CallTyped G σ) cs Γs → HasName G (now Γs) x t → ValueTyped G σ v t
+      → ((ds : List Call) (g : List Cell) → HeapTyped G σ g → All2 (CallTyped G σ) ds Γs → Asks G (k ds g)) → Asks G (writeName G cs h x v k)
+  unfolding writeName
+  write-ok k H all2-nil n v f = absurd (no-name n)
+  write-ok {σ} {h = h} {x = x} {t = t} {v = y} k H (all2-cons {xs = cs} (c-frame {a = a} {Γ = Γ} {xs = xs} F) C) n v f = by-place (name-at (all-end T) Γ n)
+    where
+      by-place : NameAt G Γ x t → Asks G (need (meaning G Γ x) λ m. writeMeaning a Γ xs cs h m y k)
+      by-place (in-row s e w q) =
+          need-ok _ e
+          (need-ok (λ _. k (frame a Γ (set xs (s .place) y) ∷ cs) h) (all2-at (s .place) (F .row) (row-type Γ w q) .at)
+          (f _ _ H
+          (all2-cons
+          (c-frame (record {
+            made = F .made;
+            receiver = F .receiver;
+            called = F .called;
+            found = F .found;
+            has = F .has;
+            context = F .context;
+            row = all2-set (s .place) (F .row) (row-type Γ w q) v;
+          }))
+          C)))
+      by-place (in-object c s o e w q) =
+          let i = field-type H F o w q in
+          need-ok _ e
+          (slot-ok (λ _. k (frame a Γ xs ∷ cs) (set h (a + 1 + s .place) (slot y))) (all2-at (a + 1 + s .place) (H .cells) i)
+          (λ _ _. f _ _ (stored H (a + 1 + s .place) i v) (all2-cons (c-frame F) C)))
+
+  this-ok : {σ : List CellType} {Γs : List Context} {cs : List Call} {c : List ℕ} (k : ℕ → Request) → All2 (CallTyped G σ) cs Γs → now Γs .owner ≡ some c
+      → ((a : ℕ) → ValueTyped G σ (objectAt a) (class c) → Asks G (k a)) → Asks G (innermost cs λ a Γ xs _. k a)
+  this-ok k all2-nil o f = absurd (none-some o)
+  this-ok k (all2-cons (c-frame {a = a} F) C) o f = f a (v-object (F .receiver) (owner-climbs F o))
+
+  known-class : (c : List ℕ) → known G (class c) ≡ true → (k : Class) × (classNamed G c ≡ some k)
+  unfolding known
+  known-class c e = by-name (classNamed G c) refl e
+    where
+      by-name : (o : Option Class) → classNamed G c ≡ o → option o false (λ _. true) ≡ true → (k : Class) × (classNamed G c ≡ some k)
+      by-name none q h = absurd (false≢true h)
+      by-name (some k) q h = (k, q)
+
+  -- the row in which the body of a method begins
+  row-typed : {σ : List CellType} {given : List Value} (m : Method) → All2 (ValueTyped G σ) given (map typeOf (m .parameters))
+      → All2 (ValueTyped G σ) (given ++ map (λ v. initial (typeOf v)) (m .locals)) (map typeOf (m .parameters ++ m .locals))
+  row-typed {σ} {given} m X =
+      subst (All2 (ValueTyped G σ) _) (sym (map-append typeOf (m .parameters) (m .locals)))
+      (all2-append X (all2-map (λ v. initial (typeOf v)) typeOf (λ v. initial-typed (typeOf v)) (m .locals)))
+
+  -- in a typed heap, with typed calls
+  module _ {σ : List CellType} {Γs : List Context} {cs : List Call} {h : List Cell} (H : HeapTyped G σ h) (C : All2 (CallTyped G σ) cs Γs) where
+    -- ---- beginning a node
+
+    begins : {us : List Ty} {ts : List Task} {vs : List Value} {e : Expression} {s t : Ty}
+        → All2 (ValueTyped G σ) vs us → HasType G (now Γs) e s → Fit e → Sub G s t → Runs G Γs (t ∷ us) ts → Asks G (begin G e ts vs cs h)
+    unfolding begin
+    begins W t-literal l b R = typed H C (all2-cons (value-sub b (v-number l)) W) R
+    begins W t-truth l b R = typed H C (all2-cons (value-sub b v-flag) W) R
+    begins W (t-variable n) l b R = read-ok _ H C n (λ v x. typed H C (all2-cons (value-sub b x) W) R)
+    begins W (t-this o) l b R = this-ok _ C o (λ a x. typed H C (all2-cons (value-sub b x) W) R)
+    begins W (t-new-array x) l b R = typed H C W (r-evaluate x l sub-same (r-make-array b R))
+    begins {t = t} W (t-new-object {c = c} q x) l b R =
+        typed H C W (r-make-object (ap (classNamed G) q ∙ known-class c x .1) (subst (λ (d : List ℕ). Sub G (class d) t) (sym q) b) R)
+    begins W (t-negation x) l b R = typed H C W (r-evaluate x l sub-same (r-negate b R))
+    begins {t = t} W (t-binary x y q) l b R =
+        typed H C W (r-evaluate x (l .0) sub-same (r-operand y (l .1) (subst (λ (u : Ty). Sub G u t) (sym q) b) R))
+    begins W (t-element x y) l b R = typed H C W (r-evaluate x (l .0) sub-same (r-index y (l .1) b R))
+    begins W (t-length x) l b R = typed H C W (r-evaluate x l sub-same (r-measure b R))
+    begins {t = t} W (t-call {es = es} x f q r) l b R =
+        typed H C W (r-evaluate x (l .0) sub-same (r-invoke [] f q (l .1) refl (sym (zero-add (arity es))) (subst (λ (u : Ty). Sub G u t) (sym r) b) R))
+
+    begins-statement : {us : List Ty} {ts : List Task} {vs : List Value} {s : Statement}
+        → All2 (ValueTyped G σ) vs us → IsTyped G (now Γs) s → Fit s → Runs G Γs us ts → Asks G (beginStatement G s ts vs cs h)
+    unfolding beginStatement
+    begins-statement W (t-block q) l R = typed H C W (r-continue q l R)
+    begins-statement W (t-if x y z) l R = typed H C W (r-evaluate x (l .0) sub-same (r-branch y (l .1) z (l .2) R))
+    begins-statement W (t-while x y) l R = typed H C W (r-evaluate x (l .0) sub-same (r-decide x (l .0) y (l .1) R))
+    begins-statement W (t-print x) l R = typed H C W (r-evaluate x l sub-same (r-show R))
+    begins-statement W (t-assign n x b) l R = typed H C W (r-evaluate x l b (r-store n R))
+    begins-statement W (t-assign-element n x y) l R =
+        read-ok _ H C n (λ v q. typed H C (all2-cons q W) (r-evaluate x (l .0) sub-same (r-new-element y (l .1) R)))
+
+    -- ---- going on with a node
+
+    and-ok : {us : List Ty} {ts : List Task} {vs : List Value} {r : Expression} {t : Ty}
+        → All2 (ValueTyped G σ) vs (boolean ∷ us) → HasType G (now Γs) r boolean → Fit r → Sub G boolean t → Runs G Γs (t ∷ us) ts → Asks G (second G and r ts vs cs h)
+    unfolding second
+    and-ok (all2-cons (v-flag {b = true}) W) x l b R = begins W x l sub-same (r-confirm b R)
+    and-ok (all2-cons (v-flag {b = false}) W) x l b R = typed H C (all2-cons (value-sub b v-flag) W) R
+
+    second-ok : {us : List Ty} {ts : List Task} {vs : List Value} {o : Operator} {r : Expression} {t : Ty}
+        → Takes o → All2 (ValueTyped G σ) vs (operandType o ∷ us) → HasType G (now Γs) r (operandType o) → Fit r → Sub G (resultType o) t → Runs G Γs (t ∷ us) ts
+        → Asks G (second G o r ts vs cs h)
+    unfolding second
+    second-ok flags W x l b R = and-ok W x l b R
+    second-ok {us} {vs = vs} {o = o} {r = r} (numbers n q) W x l b R =
+        choice-ok (isAnd o) _ _ (λ y. absurd (true≢false (sym y ∙ n)))
+        (λ _. begins (subst (λ (u : Ty). All2 (ValueTyped G σ) vs (u ∷ us)) q W) (subst (HasType G (now Γs) r) q x) l sub-same (r-operate n b R))
+
+    fetch-ok : {us : List Ty} {ts : List Task} {vs : List Value} {t : Ty} (p : Place)
+        → All2 (ValueTyped G σ) vs (int ∷ intArray ∷ us) → Sub G int t → Runs G Γs (t ∷ us) ts → Asks G (go G (fetch p) ts vs cs h)
+    unfolding go
+    fetch-ok p (all2-cons (v-number i) (all2-cons v-no-array W)) b R = by-null
+    fetch-ok p (all2-cons (v-number {n = i} l) (all2-cons (v-array {a = a} e) W)) b R =
+        in-array-ok p a i _ H e (λ q. slot-ok _ (all2-at (a + 1 + i) (H .cells) q) (λ v y. typed H C (all2-cons (value-sub b y) W) R))
+
+    store-element-ok : {us : List Ty} {ts : List Task} {vs : List Value} (p : Place)
+        → All2 (ValueTyped G σ) vs (int ∷ int ∷ intArray ∷ us) → Runs G Γs us ts → Asks G (go G (storeElement p) ts vs cs h)
+    unfolding go
+    store-element-ok p (all2-cons (v-number k) (all2-cons (v-number i) (all2-cons v-no-array W))) R = by-null
+    store-element-ok p (all2-cons (v-number m) (all2-cons (v-number {n = i} l) (all2-cons (v-array {a = a} e) W))) R =
+        in-array-ok p a i _ H e (λ q. typed (stored H (a + 1 + i) q (v-number m)) C W R)
+
+    measure-ok : {us : List Ty} {ts : List Task} {vs : List Value} {t : Ty} (p : Place)
+        → All2 (ValueTyped G σ) vs (intArray ∷ us) → Sub G int t → Runs G Γs (t ∷ us) ts → Asks G (go G (measure p) ts vs cs h)
+    unfolding go
+    measure-ok p (all2-cons v-no-array W) b R = by-null
+    measure-ok p (all2-cons (v-array {a = a} {n = n} e) W) b R =
+        array-cell-ok _ (all2-at a (H .cells) e) (λ l. typed H C (all2-cons (value-sub b (v-number {n = n} (omega arith))) W) R)
+
+    make-array-ok : {us : List Ty} {ts : List Task} {vs : List Value} {t : Ty} (p : Place)
+        → All2 (ValueTyped G σ) vs (int ∷ us) → Sub G intArray t → Runs G Γs (t ∷ us) ts → Asks G (go G (makeArray p) ts vs cs h)
+    unfolding go newArrayOf
+    make-array-ok p (all2-cons (v-number {n = n} l) W) b R =
+        let K : Kept σ (σ ++ arrayType n ∷ elementTypes n) = kept-append σ (arrayType n ∷ elementTypes n) in
+        choice-ok (ltb n (2 ^ 31)) _ _
+        (λ q.
+        typed (array-grown H n (ltb-true n (2 ^ 31) q)) (calls-kept K C)
+        (all2-cons (value-sub b (v-array (new-place (arrayType n) (elementTypes n) H))) (values-kept K W)) R)
+        (λ q. by-size)
+
+    make-object-ok : {us : List Ty} {ts : List Task} {vs : List Value} {t : Ty} {k : Class} (p : Place) (c : List ℕ)
+        → All2 (ValueTyped G σ) vs us → classNamed G c ≡ some k → Sub G (class c) t → Runs G Γs (t ∷ us) ts → Asks G (go G (makeObject p c) ts vs cs h)
+    unfolding go newObjectOf
+    make-object-ok p c W e b R =
+        let K : Kept σ (σ ++ objectType c ∷ fieldTypes G c) = kept-append σ (objectType c ∷ fieldTypes G c) in
+        need-ok _ e
+        (typed (object-grown H c e) (calls-kept K C)
+        (all2-cons (value-sub b (v-object (new-place (objectType c) (fieldTypes G c) H) here)) (values-kept K W)) R)
+
+    -- ---- calls
+
+    -- d is the class of the receiver, K the method that it has where N was declared
+    enter-ok : {us : List Ty} {ts : List Task} {given vs : List Value} {t : Ty} (p : Place) (a : ℕ) {d m : List ℕ} {N : Method} (K : Found)
+        → getElem? σ a ≡ some (objectType d) → All2 (ValueTyped G σ) given (map typeOf (N .parameters)) → All2 (ValueTyped G σ) vs us
+        → HasMethod G d m K → Redeclares G (K .method) N → Sub G (N .result .type) t → Runs G Γs (t ∷ us) ts
+        → Asks G (if eqb (length given) (length (K .method .parameters)) then (λ _. enter (p .start) (length cs + 1) (opened K a given ts vs cs h)) else λ _. stuck)
+    enter-ok {given = given} p a {d} {m} K e X W k r b R =
+        let D = declared T k .typed in
+        let M = every-method L k in
+        let Y : All2 (ValueTyped G σ) given (map typeOf (K .method .parameters)) = subst (All2 (ValueTyped G σ) given) (sym (r .parameters)) X in
+        choice-ok (eqb (length given) (length (K .method .parameters))) _ _
+        (λ _.
+        typed H
+        (all2-cons
+        (c-frame (record { made = d; receiver = e; called = m; found = K; has = k; context = refl; row = row-typed (K .method) Y }))
+        C)
+        W (r-perform (D .body) (M .body) (D .value) (M .value) (sub-trans (D .fits) (sub-trans (r .result) b)) R))
+        (λ q. absurd (true≢false (sym (eq-eqb _ _ (all2-length Y ∙ length-map (K .method .parameters) typeOf)) ∙ q)))
+
+    call-ok : {us : List Ty} {ts : List Task} {given vs : List Value} {x : Value} {t : Ty} (p : Place) {c m : List ℕ} {F : Found}
+        → All2 (ValueTyped G σ) given (map typeOf (F .method .parameters)) → ValueTyped G σ x (class c) → All2 (ValueTyped G σ) vs us
+        → HasMethod G c m F → Sub G (F .method .result .type) t → Runs G Γs (t ∷ us) ts → Asks G (callMethod G p m given x ts vs cs h)
+    unfolding callMethod
+    call-ok p X v-no-object W f b R = by-null
+    call-ok p X (v-object {a = a} e s) W f b R =
+        let D = dispatch T s f in
+        object-cell-ok _ (all2-at a (H .cells) e)
+        (need-ok _ (method-of (all-end T) (D .has)) (enter-ok p a (D .chosen) e X W (D .has) (D .redeclares) b R))
+
+    receive-ok : {us : List Ty} {ts : List Task} {given vs : List Value} {t : Ty} (p : Place) {c m : List ℕ} {F : Found}
+        → All2 (ValueTyped G σ) given (map typeOf (F .method .parameters)) → All2 (ValueTyped G σ) vs (class c ∷ us)
+        → HasMethod G c m F → Sub G (F .method .result .type) t → Runs G Γs (t ∷ us) ts → Asks G (pop vs λ x vs. callMethod G p m given x ts vs cs h)
+    receive-ok p X (all2-cons x W) f b R = call-ok p X x W f b R
+
+    invoke-ok : {us : List Ty} {ts : List Task} {vs : List Value} {es : Part arguments} {ws : List Variable} {t : Ty} (p : Place) {c m : List ℕ} {F : Found} (n : ℕ)
+        (qs : List Ty) → All2 (ValueTyped G σ) vs (qs ++ class c ∷ us) → HasMethod G c m F → HaveTypes G (now Γs) es ws → Fit es
+        → reverseAux qs (map typeOf ws) ≡ map typeOf (F .method .parameters) → n ≡ length qs + arity es → Sub G (F .method .result .type) t → Runs G Γs (t ∷ us) ts
+        → Asks G (nextArgument G p m n es ts vs cs h)
+    unfolding nextArgument arity
+    invoke-ok {ts = ts} {vs = vs} p {m = m} n qs W f t-none l q e b R =
+        subst (λ (i : ℕ). Asks G (popMany i [] vs λ given vs. pop vs λ x vs. callMethod G p m given x ts vs cs h)) (sym (e ∙ add-zero (length qs)))
+        (pop-typed qs _ W all2-nil (λ given rest X Y. receive-ok p (subst (All2 (ValueTyped G σ) given) q X) Y f b R))
+    invoke-ok p n qs W f (t-more {es = es} {v = v} x s r) l q e b R =
+        let i : n ≡ suc (length qs) + arity es = omega arith in
+        begins W x (l .0) s (r-invoke (typeOf v ∷ qs) f r (l .1) q i b R)
+
+  leaves : {σ : List CellType} {Γ : Context} {Γs : List Context} {us : List Ty} {ts : List Task} {vs : List Value} {c : Call} {cs : List Call} {h : List Cell}
+      → HeapTyped G σ h → CallTyped G σ c Γ → All2 (CallTyped G σ) cs Γs → All2 (ValueTyped G σ) vs us → Runs G Γs us ts → Asks G (go G leave ts vs (c ∷ cs) h)
+  unfolding go
+  leaves H (c-frame F) C W R = typed H C W R
+
+  -- ---- progress and preservation in one
+
+  goes : {σ : List CellType} {Γs : List Context} {us : List Ty} {k : Task} {ts : List Task} {vs : List Value} {cs : List Call} {h : List Cell}
+      → HeapTyped G σ h → All2 (CallTyped G σ) cs Γs → All2 (ValueTyped G σ) vs us → Runs G Γs us (k ∷ ts) → Asks G (go G k ts vs cs h)
+  unfolding go nextStatement nextOfBody
+  goes H C W (r-evaluate x l b R) = begins H C W x l b R
+  goes H C W (r-execute x l R) = begins-statement H C W x l R
+  goes H C W (r-operand {o = o} x l b R) = second-ok H C (takes o) W x l b R
+  goes H C (all2-cons (v-number {n = y} _) (all2-cons (v-number {n = x} _) W)) (r-operate {o = o} n b R) =
+      let w = applied o x y n in need-ok _ (w .1) (typed H C (all2-cons (value-sub b (w .2)) W) R)
+  goes H C (all2-cons v-flag W) (r-confirm b R) = typed H C (all2-cons (value-sub b v-flag) W) R
+  goes H C (all2-cons v-flag W) (r-negate b R) = typed H C (all2-cons (value-sub b v-flag) W) R
+  goes H C W (r-index x l b R) = begins H C W x l sub-same (r-fetch b R)
+  goes H C W (r-fetch {p = p} b R) = fetch-ok H C p W b R
+  goes H C W (r-measure {p = p} b R) = measure-ok H C p W b R
+  goes H C W (r-make-array {p = p} b R) = make-array-ok H C p W b R
+  goes H C W (r-make-object {p = p} {c = c} e b R) = make-object-ok H C p c W e b R
+  goes H C W (r-invoke {p = p} {n = n} qs f q l e i b R) = invoke-ok H C p n qs W f q l e i b R
+  goes H C (all2-cons (v-flag {b = true}) W) (r-branch x l y m R) = begins-statement H C W x l R
+  goes H C (all2-cons (v-flag {b = false}) W) (r-branch x l y m R) = begins-statement H C W y m R
+  goes H C (all2-cons (v-flag {b = true}) W) (r-decide x l y m R) = begins-statement H C W y m (r-again x l y m R)
+  goes H C (all2-cons (v-flag {b = false}) W) (r-decide x l y m R) = typed H C W R
+  goes H C W (r-again x l y m R) = begins H C W x l sub-same (r-decide x l y m R)
+  goes H C (all2-cons (v-number _) W) (r-show R) = typed H C W R
+  goes H C (all2-cons v W) (r-store n R) = write-ok _ H C n v (λ ds g I D. typed I D W R)
+  goes H C W (r-new-element x l R) = begins H C W x l sub-same (r-store-element R)
+  goes H C W (r-store-element {p = p} R) = store-element-ok H C p W R
+  goes H C W (r-continue t-end l R) = typed H C W R
+  goes H C W (r-continue (t-sequence x q) l R) = begins-statement H C W x (l .0) (r-continue q (l .1) R)
+  goes H C W (r-perform t-end l x m b R) = begins H C W x m b (r-leave R)
+  goes H C W (r-perform (t-sequence y q) l x m b R) = begins-statement H C W y (l .0) (r-perform q (l .1) x m b R)
+  goes H (all2-cons c C) W (r-leave R) = leaves H c C W R
+
+  pub sound : {c : Core} → Typed G c → Asks G (plan G c)
+  unfolding plan
+  sound (typed {ts = []} H C W R) = tt
+  sound (typed {ts = k ∷ ts} H C W R) = goes H C W R
+
+-- ---- runs
+
+-- an end that is no failure of the machine
+abbrev pub Right : Ending → Type 0
+Right (ended k p) = Finish k ⊎ ByLimit k
+Right wentWrong = ⊥
+Right unfinished = Unit {0}
+
+abbrev pub Safe : List Class → Outcome → Type 0
+Safe G (next c m) = Typed G c
+Safe G (stop e) = Right e
+
+within-safe : (G : List Class) (b : Bool) {k : ℕ} (p : ℕ) (c : Core) (m : Meters) → ByLimit k → Typed G c → Safe G (within b k p λ _. next c m)
+within-safe G true p c m l h = h
+within-safe G false p c m l h = inr l
+
+pub guard-safe : (G : List Class) (L : Limits) (m : Meters) (r : Request) → Asks G r → Safe G (guard L m r)
+unfolding guard
+guard-safe G L (meters s o) (charge p c) h = within-safe G (ltb s (L .budget)) p c (meters (s + 1) o) by-budget h
+guard-safe G L (meters s o) (allocate p n c) h = within-safe G (leb n (L .heap)) p (c tt) (meters s o) by-heap h
+guard-safe G L (meters s o) (enter p n c) h = within-safe G (leb n (L .calls)) p c (meters s o) by-calls h
+guard-safe G L (meters s o) (output p z c) h = within-safe G (ltb (length o) (L .printed)) p c (meters s (o ++ z ∷ [])) by-output h
+guard-safe G L (meters s o) (move c) h = h
+guard-safe G L (meters s o) (fault k p) h = inl (by-fault h)
+guard-safe G L (meters s o) done h = inl by-success
+guard-safe G L (meters s o) stuck h = absurd h
+
+after-right : (G : List Class) (k : Core → Meters → Report) → ((d : Core) (n : Meters) → Typed G d → Right (k d n .ending))
+    → (c : Core) (m : Meters) (o : Outcome) → Safe G o → Right (after k c m o .ending)
+after-right G k h c m (next d n) s = h d n s
+after-right G k h c m (stop e) s = s
+
+pub start-typed : (p : Program) → ProgramTyped p → LiteralsFit p → Typed (p .classes) (start p)
+start-typed p P L =
+    typed {σ = []}
+    (record {
+      laid = record { objects = λ a c i v e q. absurd (none-some e); arrays = λ a n i e q. absurd (none-some e) };
+      cells = all2-nil;
+    })
+    all2-nil all2-nil (r-execute (P .main) (L .main) r-end)
+
+module _ {G : List Class} (T : All (ClassTyped G) G) (F : All (λ k. All MethodFits (k .methods)) G) (L : Limits) where
+  pub turn-safe : (c : Core) (m : Meters) → Typed G c → Safe G (guard L m (plan G c))
+  turn-safe c m h = guard-safe G L m (plan G c) (sound T F h)
+
+  pub runs-right : (f : ℕ) (c : Core) (m : Meters) → Typed G c → Right (runWith f G L c m .ending)
+  unfolding runWith
+  runs-right zero c m h = tt
+  runs-right (suc f) c m h = after-right G (λ d n. runWith f G L d n) (λ d n s. runs-right f d n s) c m (guard L m (plan G c)) (turn-safe c m h)
+
+pub run-right : (p : Program) (L : Limits) → ProgramTyped p → LiteralsFit p → Right (run p L .ending)
+unfolding run
+run-right p L P F = runs-right (P .classes) (F .classes) L (4 * L .budget + 4) (start p) (meters 0 []) (start-typed p P F)
+
+-- an end with a number, by itself or by a limit
+pub record EndsWell (e : Ending) : Type 0 where
+  pub number : ℕ
+  pub position : ℕ
+  pub is : e ≡ ended number position
+  pub cause : Finish number ⊎ ByLimit number
+
+ends-well : (e : Ending) → Over e → Right e → EndsWell e
+ends-well (ended k q) o r = record { number = k; position = q; is = refl; cause = r }
+ends-well wentWrong o r = absurd r
+ends-well unfinished o r = absurd o
+
+pub run-ends-well : (p : Program) (L : Limits) → ProgramTyped p → LiteralsFit p → EndsWell (run p L .ending)
+run-ends-well p L P F = ends-well (run p L .ending) (run-ends p L) (run-right p L P F)
