@@ -9,23 +9,23 @@ use native.Mathlib.Omega.{arith}
 use native.Mathlib.Decide.{decLt}
 use lib.ListN.{length, List·getD-eq-default}
 use lib.Dec.{ltb}
-use borrow.Author.Tests.{lt-ltb, le-ltb}
+use borrow.Author.Tests.{lt-ltb}
 use Rattle.base.specs.Choice.{option}
 use Rattle.base.specs.Codes.{sourceMost, tooDeep}
-use Rattle.base.specs.Lists.{all-of, get-getD}
+use Rattle.base.specs.Lists.{get-getD}
 use Rattle.base.specs.Outcome.{Outcome, accepted, refused, _>>=_}
 use Rattle.lexer.specs.Tokens.{Token, tokens}
-use Rattle.lexer.specs.RowLaws.{token-of, token-not-end}
+use Rattle.lexer.specs.RowLaws.{token-of}
 use Rattle.parser.specs.Tree.{Program}
 use Rattle.parser.specs.Stream.{tokenAt, noMore}
 use Rattle.parser.specs.Parse.{Parsed, ok, bad, out, parse}
 use Rattle.parser.specs.Grammar.{DerivesProgram}
 use Rattle.parser.specs.Measure.{programDeep}
 use Rattle.parser.specs.Read.{Reading, grammatical, shallow, reading}
-use Rattle.grammar.specs.Proper.{Proper}
 use Rattle.grammar.specs.Agreement.{sound, complete}
 use Rattle.checker.specs.Check.{Verdict, accept, refuse, refuseEndless, unlessRefused, judged, checking}
 use Rattle.checker.specs.Typing.{ProgramTyped}
+use Rattle.reader.specs.ReadingLaws.{proper, read-well}
 use Rattle.typing.specs.Agreement.{program-agrees}
 use Rattle.typing.specs.Choices.{bound, failed, refused-accepted}
 use Rattle.guarantees.specs.Literals.{SmallLiterals}
@@ -41,9 +41,6 @@ pub record Allowed (s : List ℕ) (p : Program) : Type 0 where
 
 -- TOKENS OF A SOURCE
 module _ (s : List ℕ) (ts : List Token) (e : tokens s ≡ accepted ts) where
-  pub proper : Proper ts
-  proper = all-of ts (λ i t g. token-not-end s ts e i t g)
-
   pub small : SmallLiterals ts
   small i k = elim (decLt i (length ts)) [
     | yes l ↦ token-of s ts e i (tokenAt ts i) (get-getD ts i noMore l) .literal k
@@ -90,12 +87,6 @@ reading-of s r e =
       shallow = ap programDeep (sym (h .1)) ∙ h .0;
     })
 
--- and put together
-reading-is : (s : List ℕ) (ts : List Token) (p : Program) (j : ℕ) → length s ≤ sourceMost → tokens s ≡ accepted ts → parse ts ≡ ok p j → programDeep p ≡ none
-    → reading s ≡ accepted (record { stream = ts; tree = p })
-unfolding reading
-reading-is s ts p j short e q d = rw (le-ltb sourceMost (length s) short, e, q, d) refl
-
 -- CHECK
 verdict-of : {A : Type 0} (o : Outcome A) (k : A → Verdict) {p : Program} → unlessRefused o k ≡ accept p → (a : A) × (o ≡ accepted a) × (k a ≡ accept p)
 verdict-of (accepted a) k e = (a, refl, e)
@@ -114,7 +105,7 @@ allowed s p e =
 pub accepts : (s : List ℕ) (p : Program) → Allowed s p → checking s ≡ accept p
 unfolding checking
 accepts s p h =
-    rw (reading-is s (h .stream) p (length (h .stream)) (h .short) (h .lexed) (complete (h .stream) p (h .derived)) (h .shallow))
+    rw (read-well s (h .short) (h .stream) (h .lexed) p (length (h .stream)) (complete (h .stream) p (h .derived)) (h .shallow))
     (program-agrees p p .1 (refl, h .typed))
 
 -- Demand 2: a source is accepted exactly when document 01's grammar, bounds and typing rules allow it.

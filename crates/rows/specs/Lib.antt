@@ -2,3 +2,4 @@
 pub mod Ends
 pub mod Starred
 pub mod Further
+pub mod Worthless
