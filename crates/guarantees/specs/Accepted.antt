@@ -27,6 +27,7 @@ use Rattle.checker.specs.Check.{Verdict, accept, refuse, refuseEndless, unlessR
 use Rattle.checker.specs.Typing.{ProgramTyped}
 use Rattle.reader.specs.ReadingLaws.{proper, read-well}
 use Rattle.typing.specs.Agreement.{program-agrees}
+use Rattle.typing.specs.Programs.{unrefused}
 use Rattle.typing.specs.Choices.{bound, failed, refused-accepted}
 use Rattle.guarantees.specs.Literals.{SmallLiterals}
 
@@ -88,14 +89,10 @@ reading-of s r e =
     })
 
 -- CHECK
-verdict-of : {A : Type 0} (o : Outcome A) (k : A → Verdict) {p : Program} → unlessRefused o k ≡ accept p → (a : A) × (o ≡ accepted a) × (k a ≡ accept p)
-verdict-of (accepted a) k e = (a, refl, e)
-verdict-of (refused n q) k {p} e = absurd (let z : _≡_ {A = ℕ} 0 1 = cc in omega arith)
-
 pub allowed : (s : List ℕ) (p : Program) → checking s ≡ accept p → Allowed s p
 unfolding checking
 allowed s p e =
-    let v = verdict-of (reading s) _ e in
+    let v = unrefused (reading s) _ e in
     let r = reading-of s (v .0) (v .1) in
     let t = program-agrees (v .0 .tree) p .0 (v .2) in
     let d = sound (v .0 .stream) (proper s (v .0 .stream) (r .lexed)) (v .0 .tree) (r .next) (r .parsed) .0 in

@@ -1,7 +1,7 @@
 -- One rule for each way in which `plan` takes something apart: a property of requests that holds of `stuck` and of every fault holds of the whole if it holds
--- of what is gone on with. What is gone on with after a look-up may use that the look-up succeeded.
+-- of what is gone on with. What is gone on with after a look-up may use that the look-up succeeded. And one rule for what a run reports after a turn.
 use Prim.Native.Nat.{ℕ, zero, suc, _+_}
-use mathlib.Core.Bool.{Bool, true, false}
+use mathlib.Core.Bool.{Bool}
 use mathlib.Core.List.{List, [], _∷_}
 use mathlib.Core.Option.{Option, none, some}
 use mathlib.Core.Path.{_≡_, refl}
@@ -11,8 +11,10 @@ use Rattle.base.specs.Choice.{if_then_else_}
 use Rattle.base.specs.Codes.{nullReference, indexOutOfRange}
 use Rattle.parser.specs.Tree.{Place, Class}
 use Rattle.checker.specs.ClassTable.{Context, Meaning, Meaning.ofRow, Meaning.ofObject, meaning}
-use Rattle.semantics.specs.Machine.{Value, Value.number, Value.flag, Value.null, Value.arrayAt, Value.objectAt, Cell, Cell.object, Cell.array, Cell.slot, Call, Call.frame, Request, Request.fault, Request.stuck}
+use Rattle.typing.specs.Choices.{by-test}
+use Rattle.semantics.specs.Machine.{Value, Value.number, Value.flag, Value.null, Value.arrayAt, Value.objectAt, Cell, Cell.object, Cell.array, Cell.slot, Call, Call.frame, Core, Request, Request.fault, Request.stuck}
 use Rattle.semantics.specs.Machine.{need, pop, popMany, asNumber, asFlag, asArray, asObject, asSlot, asObjectCell, asArrayCell, innermost, cellAt, inArray, readMeaning, readName, writeMeaning, writeName}
+use Rattle.semantics.specs.Limits.{Meters, Ending, Outcome, next, stop, Report, report, after}
 
 pub record Closed (Q : Request → Type 0) : Type 0 where
   pub at-stuck : Q stuck
@@ -76,8 +78,7 @@ module _ {Q : Request → Type 0} (q : Closed Q) where
   array-cell-by (slot v) k f = q .at-stuck
 
   pub choice-by : (b : Bool) (x y : Unit {0} → Request) → Q (x tt) → Q (y tt) → Q (if b then x else y)
-  choice-by true x y f g = f
-  choice-by false x y f g = g
+  choice-by b x y f g = by-test Q b x y (λ _. f) (λ _. g)
 
   pub innermost-by : (cs : List Call) (k : ℕ → Context → List Value → List Call → Request)
       → ((a : ℕ) (Γ : Context) (xs : List Value) (ds : List Call) → cs ≡ frame a Γ xs ∷ ds → Q (k a Γ xs ds)) → Q (innermost cs k)
@@ -110,3 +111,9 @@ module _ {Q : Request → Type 0} (q : Closed Q) where
   write-by G cs h x v k f =
       innermost-by cs _ (λ a Γ xs ds e. need-by (meaning G Γ x) _ (λ m _.
       write-meaning-by a Γ xs ds h m v k (λ es g l n. f es g (rw e l) n)))
+
+-- what holds of a turn's outcome passes on to the report: of the run that goes on, or of the end
+pub after-by : (P : Outcome → Type 0) (Q : Report → Type 0) (k : Core → Meters → Report) (c : Core) (m : Meters) → ((d : Core) (n : Meters) → P (next d n) → Q (k d n))
+    → ((e : Ending) → P (stop e) → Q (report e c m)) → (o : Outcome) → P o → Q (after k c m o)
+after-by P Q k c m f g (next d n) h = f d n h
+after-by P Q k c m f g (stop e) h = g e h

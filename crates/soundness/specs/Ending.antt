@@ -1,23 +1,21 @@
 -- Every run ends, of every program: each turn charges a step and adds at most three to the weight of the tasks, or takes some of that weight away.
 use Prim.Native.Nat.{ℕ, zero, suc, _+_, _-_, _*_, _^_, _≤_, _<_}
 use native.Mathlib.Omega.{arith}
-use mathlib.Core.Bool.{Bool, true, false}
-use mathlib.Core.List.{List, [], _∷_, _++_}
-use mathlib.Core.Path.{_≡_, refl}
+use mathlib.Core.List.{List, [], _∷_}
 use lib.ListN.{length, getElem?}
 use lib.Dec.{ltb, leb, eqb}
 use borrow.Author.Tests.{ltb-true}
-use Rattle.base.specs.Codes.{budgetSpent, heapFull, callsFull, outputFull}
 use Rattle.parser.specs.Tree.{Expression, Statement, Class, Program}
 use Rattle.parser.specs.Tree.{Part.literal, Part.truth, Part.variable, Part.this, Part.newArray, Part.newObject, Part.negation, Part.binary, Part.element, Part.arrayLength, Part.call, Part.noArguments, Part.argument}
 use Rattle.parser.specs.Tree.{Part.block, Part.conditional, Part.loop, Part.print, Part.assign, Part.assignElement, Part.noStatements, Part.sequence}
 use Rattle.checker.specs.ClassTable.{classNamed, methodOf}
+use Rattle.typing.specs.Choices.{by-test}
 use Rattle.semantics.specs.Machine.{Value, Cell, Call, Core, Core.core, Request, Request.charge, Request.allocate, Request.enter, Request.output, Request.move, Request.fault, Request.done, Request.stuck}
 use Rattle.semantics.specs.Machine.{Task, Task.evaluate, Task.execute, Task.operand, Task.operate, Task.confirm, Task.negate, Task.index, Task.fetch, Task.measure, Task.makeArray, Task.makeObject, Task.invoke, Task.branch, Task.decide, Task.again, Task.show, Task.store, Task.newElement, Task.storeElement, Task.continue, Task.perform, Task.leave}
 use Rattle.semantics.specs.Machine.{isAnd, apply, begin, beginStatement, second, callMethod, nextArgument, nextStatement, nextOfBody, newArrayOf, newObjectOf, go, plan, start}
-use Rattle.semantics.specs.Limits.{Limits, Meters, meters, Outcome, next, stop, within, guard, Report, after, runWith, run}
+use Rattle.semantics.specs.Limits.{Limits, Meters, meters, Outcome, next, stop, guard, runWith, run}
 use Rattle.soundness.specs.Results.{Over}
-use Rattle.soundness.specs.Continuations.{Closed, need-by, pop-by, popMany-by, number-by, flag-by, array-by, object-by, object-cell-by, array-cell-by, choice-by, innermost-by, cell-by, in-array-by, read-by, write-by}
+use Rattle.soundness.specs.Continuations.{Closed, need-by, pop-by, popMany-by, number-by, flag-by, array-by, object-by, object-cell-by, array-cell-by, choice-by, innermost-by, cell-by, in-array-by, read-by, write-by, after-by}
 
 -- a call whose parts are done turns into the body of its method, so it weighs more
 abbrev pub weight : Task → ℕ
@@ -148,18 +146,13 @@ abbrev pub Less : Limits → ℕ → Outcome → Type 0
 Less L n (next c m) = turnsLeft L c m < n
 Less L n (stop e) = Over e
 
-within-less : (L : Limits) (n : ℕ) (b : Bool) (k p : ℕ) (c : Core) (m : Meters) → (b ≡ true → turnsLeft L c m < n) → Less L n (within b k p λ _. next c m)
-within-less L n true k p c m f = f refl
-within-less L n false k p c m f = tt
-
 guard-less : (L : Limits) (n : ℕ) (m : Meters) (c : Core) (r : Request) → Pays (loadOf c) r → turnsLeft L c m ≤ n → Less L n (guard L m r)
 unfolding guard
 guard-less L n (meters s o) c (charge p d) h l =
-    within-less L n (ltb s (L .budget)) budgetSpent p d (meters (s + 1) o) (λ e. let q = ltb-true s (L .budget) e in omega arith)
-guard-less L n (meters s o) c (allocate p j d) h l = within-less L n (leb j (L .heap)) heapFull p (d tt) (meters s o) (λ e. omega arith)
-guard-less L n (meters s o) c (enter p j d) h l = within-less L n (leb j (L .calls)) callsFull p d (meters s o) (λ e. omega arith)
-guard-less L n (meters s o) c (output p z d) h l =
-    within-less L n (ltb (length o) (L .printed)) outputFull p d (meters s (o ++ z ∷ [])) (λ e. omega arith)
+    by-test (Less L n) (ltb s (L .budget)) _ _ (λ e. let q = ltb-true s (L .budget) e in omega arith) (λ _. tt)
+guard-less L n (meters s o) c (allocate p j d) h l = by-test (Less L n) (leb j (L .heap)) _ _ (λ _. omega arith) (λ _. tt)
+guard-less L n (meters s o) c (enter p j d) h l = by-test (Less L n) (leb j (L .calls)) _ _ (λ _. omega arith) (λ _. tt)
+guard-less L n (meters s o) c (output p z d) h l = by-test (Less L n) (ltb (length o) (L .printed)) _ _ (λ _. omega arith) (λ _. tt)
 guard-less L n (meters s o) c (move d) h l = omega arith
 guard-less L n (meters s o) c (fault k p) h l = tt
 guard-less L n (meters s o) c done h l = tt
@@ -169,16 +162,11 @@ guard-less L n (meters s o) c stuck h l = tt
 pub turn-less : (G : List Class) (L : Limits) (n : ℕ) (c : Core) (m : Meters) → turnsLeft L c m ≤ n → Less L n (guard L m (plan G c))
 turn-less G L n c m h = guard-less L n m c (plan G c) (plan-pays G c) h
 
-after-over : (L : Limits) (n : ℕ) (k : Core → Meters → Report) → ((d : Core) (m : Meters) → turnsLeft L d m < n → Over (k d m .ending))
-    → (c : Core) (m : Meters) (o : Outcome) → Less L n o → Over (after k c m o .ending)
-after-over L n k h c m (next d x) l = h d x l
-after-over L n k h c m (stop e) l = l
-
 pub runs-end : (f : ℕ) (G : List Class) (L : Limits) (c : Core) (m : Meters) → turnsLeft L c m < f → Over (runWith f G L c m .ending)
 unfolding runWith
 runs-end zero G L c m h = absurd (omega arith)
 runs-end (suc f) G L c m h =
-    after-over L f (λ d n. runWith f G L d n) (λ d n l. runs-end f G L d n l) c m (guard L m (plan G c)) (turn-less G L f c m (omega arith))
+    after-by (Less L f) (λ r. Over (r .ending)) (λ d n. runWith f G L d n) c m (λ d n l. runs-end f G L d n l) (λ e l. l) (guard L m (plan G c)) (turn-less G L f c m (omega arith))
 
 pub run-ends : (p : Program) (L : Limits) → Over (run p L .ending)
 unfolding run

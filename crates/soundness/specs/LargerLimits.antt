@@ -10,11 +10,12 @@ use lib.ListN.{length}
 use lib.Dec.{ltb, leb}
 use lib.IntN.{ℤ}
 use borrow.Author.Tests.{ltb-true, leb-true, lt-ltb, le-leb}
-use Rattle.base.specs.Codes.{budgetSpent, heapFull, callsFull, outputFull}
 use Rattle.parser.specs.Tree.{Class, Program}
+use Rattle.typing.specs.Choices.{by-test}
 use Rattle.semantics.specs.Machine.{Core, Request, Request.charge, Request.allocate, Request.enter, Request.output, Request.move, Request.fault, Request.done, Request.stuck, plan, start}
 use Rattle.semantics.specs.Limits.{Limits, Meters, meters, printedOf, ended, Outcome, next, stop, within, guard, Report, after, runWith, run}
 use Rattle.soundness.specs.Results.{Finish, ByLimit, by-budget, by-heap, by-calls, by-output, finish-or-limit, Over}
+use Rattle.soundness.specs.Continuations.{after-by}
 use Rattle.soundness.specs.Ending.{run-ends}
 
 infix 20 _⊑_
@@ -42,31 +43,23 @@ abbrev Grows : Meters → Outcome → Type 0
 Grows m (next c n) = Begins (printedOf m) (printedOf n)
 Grows m (stop e) = Unit {0}
 
-within-grows : (m : Meters) (b : Bool) (k p : ℕ) (c : Core) (n : Meters) → Begins (printedOf m) (printedOf n) → Grows m (within b k p λ _. next c n)
-within-grows m true k p c n h = h
-within-grows m false k p c n h = tt
-
 guard-grows : (L : Limits) (m : Meters) (r : Request) → Grows m (guard L m r)
 unfolding guard
-guard-grows L (meters s o) (charge p c) = within-grows (meters s o) (ltb s (L .budget)) budgetSpent p c (meters (s + 1) o) (begins-refl o)
-guard-grows L (meters s o) (allocate p n c) = within-grows (meters s o) (leb n (L .heap)) heapFull p (c tt) (meters s o) (begins-refl o)
-guard-grows L (meters s o) (enter p n c) = within-grows (meters s o) (leb n (L .calls)) callsFull p c (meters s o) (begins-refl o)
-guard-grows L (meters s o) (output p z c) = within-grows (meters s o) (ltb (length o) (L .printed)) outputFull p c (meters s (o ++ z ∷ [])) (record { rest = z ∷ []; is = refl })
+guard-grows L (meters s o) (charge p c) = by-test (Grows (meters s o)) (ltb s (L .budget)) _ _ (λ _. begins-refl o) (λ _. tt)
+guard-grows L (meters s o) (allocate p n c) = by-test (Grows (meters s o)) (leb n (L .heap)) _ _ (λ _. begins-refl o) (λ _. tt)
+guard-grows L (meters s o) (enter p n c) = by-test (Grows (meters s o)) (leb n (L .calls)) _ _ (λ _. begins-refl o) (λ _. tt)
+guard-grows L (meters s o) (output p z c) = by-test (Grows (meters s o)) (ltb (length o) (L .printed)) _ _ (λ _. record { rest = z ∷ []; is = refl }) (λ _. tt)
 guard-grows L (meters s o) (move c) = begins-refl o
 guard-grows L (meters s o) (fault k p) = tt
 guard-grows L (meters s o) done = tt
 guard-grows L (meters s o) stuck = tt
 
-after-grows : (k : Core → Meters → Report) → ((c : Core) (n : Meters) → Begins (printedOf n) (k c n .printed))
-    → (c : Core) (m : Meters) (o : Outcome) → Grows m o → Begins (printedOf m) (after k c m o .printed)
-after-grows k h c m (next d n) g = begins-trans g (h d n)
-after-grows k h c m (stop e) g = begins-refl (printedOf m)
-
 pub run-grows : (f : ℕ) (G : List Class) (L : Limits) (c : Core) (m : Meters) → Begins (printedOf m) (runWith f G L c m .printed)
 unfolding runWith
 run-grows zero G L c m = begins-refl (printedOf m)
 run-grows (suc f) G L c m =
-    after-grows (λ d n. runWith f G L d n) (λ d n. run-grows f G L d n) c m (guard L m (plan G c)) (guard-grows L m (plan G c))
+    after-by (Grows m) (λ r. Begins (printedOf m) (r .printed)) (λ d n. runWith f G L d n) c m (λ d n g. begins-trans g (run-grows f G L d n))
+    (λ e _. begins-refl (printedOf m)) (guard L m (plan G c)) (guard-grows L m (plan G c))
 
 -- ---- two runs in step
 
@@ -109,7 +102,7 @@ unfolding runWith
 runs-agree zero G L M h c m = agree
 runs-agree (suc f) G L M h c m =
     after-agree (λ d n. runWith f G L d n) (λ d n. runWith f G M d n) c m (guard-alike L M h m (plan G c)) (λ d n. runs-agree f G L M h d n)
-    (after-grows (λ d n. runWith f G M d n) (λ d n. run-grows f G M d n) c m (guard M m (plan G c)) (guard-grows M m (plan G c)))
+    (run-grows (suc f) G M c m)
 
 -- ---- more fuel
 

@@ -2,32 +2,37 @@
 use Prim.Native.Nat.{ℕ, zero, suc, _+_, _*_, _^_, _<_}
 use native.Mathlib.Nat.{zero-add, add-zero}
 use native.Mathlib.Omega.{arith}
-use mathlib.Core.Bool.{Bool, true, false, true≢false, false≢true}
+use mathlib.Core.Bool.{true, false, true≢false}
 use mathlib.Core.List.{List, [], _∷_, _++_, map, map-append, reverseAux}
 use mathlib.Core.Logic.{_⊎_, inl, inr}
-use mathlib.Core.Option.{Option, none, some}
+use mathlib.Core.Option.{Option, some, Option·some-injective}
 use mathlib.Core.Path.{_≡_, refl, sym, ap, _∙_, subst}
 use lib.ListN.{length, getElem?, set, length-map}
 use lib.Dec.{ltb, leb, eqb}
 use borrow.Author.Tests.{ltb-true, eq-eqb}
-use Rattle.base.specs.Choice.{if_then_else_, option}
+use Rattle.base.specs.Choice.{if_then_else_}
 use Rattle.base.specs.Lists.{All, All2, all2-nil, all2-cons, all2-append, all2-length, all2-map, all2-at, all2-set, Related, get-map}
 use Rattle.base.specs.WordLaws.{add-below, sub-below, mul-below}
 use Rattle.parser.specs.Tree.{Place, Operator, Operator.and, Operator.less, Operator.plus, Operator.minus, Operator.times, Part, Expression, Statement, Ty, Ty.int, Ty.boolean, Ty.intArray, Ty.class, Variable, Method, Class, Program}
 use Rattle.parser.specs.Tree.{Sort.arguments}
-use Rattle.checker.specs.ClassTable.{Slot, Found, Context, meaning, known, classNamed, variableNamed, fieldsOf}
+use Rattle.checker.specs.ClassTable.{Slot, Found, Context, meaning, classNamed, variableNamed, fieldsOf}
 use Rattle.checker.specs.Judge.{operandType, resultType, arity}
 use Rattle.checker.specs.Typing.{Sub, sub-same, sub-trans, HasMethod, HasName, of-variable, of-field, typeOf, ClassTyped, Redeclares, ProgramTyped}
 use Rattle.checker.specs.Typing.{HasType, t-literal, t-truth, t-variable, t-this, t-new-array, t-new-object, t-negation, t-binary, t-element, t-length, t-call, HaveTypes, t-none, t-more}
 use Rattle.checker.specs.Typing.{IsTyped, t-block, t-if, t-while, t-print, t-assign, t-assign-element, t-end, t-sequence}
+use Rattle.typing.specs.Choices.{by-test, none-some}
+use Rattle.typing.specs.Chains.{known-found}
+use Rattle.typing.specs.Members.{Up, up-here, has-methodOf, Stands, NameAt, in-row, in-object, name-at}
+use Rattle.typing.specs.Programs.{table-acyclic}
+use Rattle.typing.specs.ClassTableLaws.{stands-up, every-method, method-up, method-declares}
 use Rattle.semantics.specs.Machine.{Value, Value.objectAt, Cell, Cell.slot, Call, Call.frame, Core, initial}
 use Rattle.semantics.specs.Machine.{Request, Request.charge, Request.allocate, Request.enter, Request.output, Request.move, Request.fault, Request.done, Request.stuck}
 use Rattle.semantics.specs.Machine.{Task, Task.fetch, Task.measure, Task.makeArray, Task.makeObject, Task.storeElement, Task.leave}
 use Rattle.semantics.specs.Machine.{need, pop, popMany, innermost, asSlot, asObjectCell, asArrayCell, inArray, readMeaning, readName, writeMeaning, writeName, isAnd, apply, begin, beginStatement, second, callMethod, nextArgument, nextStatement, nextOfBody, newArrayOf, newObjectOf, opened, go, plan, start}
-use Rattle.semantics.specs.Limits.{Limits, Meters, meters, Ending, ended, wentWrong, unfinished, Outcome, next, stop, within, guard, Report, after, runWith, run}
+use Rattle.semantics.specs.Limits.{Limits, Meters, meters, Ending, ended, wentWrong, unfinished, Outcome, next, stop, guard, runWith, run}
 use Rattle.soundness.specs.Results.{by-null, by-index, by-size, Finish, by-success, by-fault, ByLimit, by-budget, by-heap, by-calls, by-output, Over}
+use Rattle.soundness.specs.Continuations.{after-by}
 use Rattle.soundness.specs.Ending.{run-ends}
-use Rattle.soundness.specs.ClassTableLaws.{Climbs, here, At, NameAt, in-row, in-object, name-at, fields-kept, method-of, all-end, every-method, declared, dispatch, none-some, some-inj}
 use Rattle.soundness.specs.StateTyping.{Fit, MethodFits, LiteralsFit, CellType, objectType, arrayType, slotType, ValueTyped, v-number, v-flag, v-no-array, v-no-object, v-array, v-object}
 use Rattle.soundness.specs.StateTyping.{CellTyped, c-object, c-array, c-slot, HeapTyped, FrameTyped, CallTyped, c-frame, now, Typed, typed, Asks}
 use Rattle.soundness.specs.StateTyping.{Runs, r-end, r-evaluate, r-execute, r-operand, r-operate, r-confirm, r-negate, r-index, r-fetch, r-measure, r-make-array, r-make-object, r-invoke, r-branch, r-decide, r-again, r-show, r-store, r-new-element, r-store-element, r-continue, r-perform, r-leave}
@@ -55,18 +60,14 @@ applied times a b e = (_, refl, v-number (mul-below a b))
 -- main sees no names
 no-name : {G : List Class} {x : List ℕ} {t : Ty} → HasName G (now []) x t → ⊥
 unfolding variableNamed
-no-name (of-variable e q) = none-some e
-no-name (of-field e o h) = none-some o
+no-name (of-variable e q) = none-some refl e
+no-name (of-field e o h) = none-some refl o
 
 module _ {G : List Class} (T : All (ClassTyped G) G) (L : All (λ k. All MethodFits (k .methods)) G) where
   -- ---- taking apart, where the types say that it goes well
 
   need-ok : {A : Type 0} (k : A → Request) {o : Option A} {a : A} → o ≡ some a → Asks G (k a) → Asks G (need o k)
   need-ok k e h = subst (λ x. Asks G (need x k)) (sym e) h
-
-  choice-ok : (b : Bool) (x y : Unit {0} → Request) → (b ≡ true → Asks G (x tt)) → (b ≡ false → Asks G (y tt)) → Asks G (if b then x else y)
-  choice-ok true x y f g = f refl
-  choice-ok false x y f g = g refl
 
   slot-ok : {σ : List CellType} {h : List Cell} {i : ℕ} {t : Ty} (k : Value → Request) → Related (CellTyped G σ) h i (slotType t)
       → ((v : Value) → ValueTyped G σ v t → Asks G (k v)) → Asks G (need (getElem? h i) λ x. asSlot x k)
@@ -92,7 +93,7 @@ module _ {G : List Class} (T : All (ClassTyped G) G) (L : All (λ k. All MethodF
   in-array-ok : {σ : List CellType} {h : List Cell} (p : Place) (a : ℕ) {n : ℕ} (i : ℕ) (r : Request) → HeapTyped G σ h → getElem? σ a ≡ some (arrayType n)
       → (getElem? σ (a + 1 + i) ≡ some (slotType int) → Asks G r) → Asks G (inArray p h a i r)
   in-array-ok p a {n} i r H e f =
-      array-cell-ok _ (all2-at a (H .cells) e) (λ _. choice-ok (ltb i n) _ _ (λ q. f (H .laid .arrays a n i e (ltb-true i n q))) (λ _. by-index))
+      array-cell-ok _ (all2-at a (H .cells) e) (λ _. by-test (Asks G) (ltb i n) _ _ (λ q. f (H .laid .arrays a n i e (ltb-true i n q))) (λ _. by-index))
 
   -- the arguments off the stack
   pop-typed : {σ : List CellType} (qs : List Ty) {us ws : List Ty} {vs got : List Value} (k : List Value → List Value → Request)
@@ -104,23 +105,23 @@ module _ {G : List Class} (T : All (ClassTyped G) G) (L : All (λ k. All MethodF
 
   -- ---- names
 
-  owner-climbs : {σ : List CellType} {a : ℕ} {Γ : Context} {xs : List Value} {c : List ℕ} (F : FrameTyped G σ a Γ xs) → Γ .owner ≡ some c → Climbs G (F .made) c
-  owner-climbs F e = subst (Climbs G (F .made)) (some-inj (sym (ap (λ (Δ : Context). Δ .owner) (F .context)) ∙ e)) (declared T (F .has) .climbs)
+  owner-up : {σ : List CellType} {a : ℕ} {Γ : Context} {xs : List Value} {c : List ℕ} (F : FrameTyped G σ a Γ xs) → Γ .owner ≡ some c → Up G (F .made) c
+  owner-up F e = subst (Up G (F .made)) (Option·some-injective _ _ (sym (ap (λ (Δ : Context). Δ .owner) (F .context)) ∙ e)) (method-declares T (F .has) .above)
 
-  row-type : (Γ : Context) {s : Slot} {t : Ty} → At (Γ .variables) s → s .type ≡ t → getElem? (map typeOf (Γ .variables)) (s .place) ≡ some t
-  row-type Γ {s} w q = get-map typeOf (Γ .variables) (s .place) (w .at) ∙ ap some (w .typed ∙ q)
+  row-type : (Γ : Context) {s : Slot} {t : Ty} → Stands (Γ .variables) s → s .type ≡ t → getElem? (map typeOf (Γ .variables)) (s .place) ≡ some t
+  row-type Γ {s} w q = get-map typeOf (Γ .variables) (s .place) (w .at) ∙ ap some (w .has ∙ q)
 
   field-type : {σ : List CellType} {h : List Cell} {a : ℕ} {Γ : Context} {xs : List Value} {c : List ℕ} {s : Slot} {t : Ty} → HeapTyped G σ h → FrameTyped G σ a Γ xs
-      → Γ .owner ≡ some c → At (fieldsOf G c) s → s .type ≡ t → getElem? σ (a + 1 + s .place) ≡ some (slotType t)
+      → Γ .owner ≡ some c → Stands (fieldsOf G c) s → s .type ≡ t → getElem? σ (a + 1 + s .place) ≡ some (slotType t)
   field-type {a} {s} H F o w q =
-      H .laid .objects a (F .made) (s .place) (w .item) (F .receiver) (fields-kept (all-end T) (s .place) (owner-climbs F o) (w .at))
-      ∙ ap (λ (u : Ty). some (slotType u)) (w .typed ∙ q)
+      let v = stands-up (table-acyclic T) (owner-up F o) w in
+      H .laid .objects a (F .made) (s .place) (v .item) (F .receiver) (v .at) ∙ ap (λ (u : Ty). some (slotType u)) (v .has ∙ q)
 
   read-ok : {σ : List CellType} {Γs : List Context} {cs : List Call} {h : List Cell} {x : List ℕ} {t : Ty} (k : Value → Request)
       → HeapTyped G σ h → All2 (CallTyped G σ) cs Γs → HasName G (now Γs) x t → ((v : Value) → ValueTyped G σ v t → Asks G (k v)) → Asks G (readName G cs h x k)
   unfolding readName
   read-ok k H all2-nil n f = absurd (no-name n)
-  read-ok {σ} {h = h} {x = x} {t = t} k H (all2-cons (c-frame {a = a} {Γ = Γ} {xs = xs} F) C) n f = by-place (name-at (all-end T) Γ n)
+  read-ok {σ} {h = h} {x = x} {t = t} k H (all2-cons (c-frame {a = a} {Γ = Γ} {xs = xs} F) C) n f = by-place (name-at (table-acyclic T) n)
     where
       by-place : NameAt G Γ x t → Asks G (need (meaning G Γ x) λ m. readMeaning a xs h m k)
       by-place (in-row s e w q) = need-ok _ e (let y = all2-at (s .place) (F .row) (row-type Γ w q) in need-ok k (y .at) (f (y .item) (y .holds)))
@@ -131,7 +132,7 @@ module _ {G : List Class} (T : All (ClassTyped G) G) (L : All (λ k. All MethodF
       → ((ds : List Call) (g : List Cell) → HeapTyped G σ g → All2 (CallTyped G σ) ds Γs → Asks G (k ds g)) → Asks G (writeName G cs h x v k)
   unfolding writeName
   write-ok k H all2-nil n v f = absurd (no-name n)
-  write-ok {σ} {h = h} {x = x} {t = t} {v = y} k H (all2-cons {xs = cs} (c-frame {a = a} {Γ = Γ} {xs = xs} F) C) n v f = by-place (name-at (all-end T) Γ n)
+  write-ok {σ} {h = h} {x = x} {t = t} {v = y} k H (all2-cons {xs = cs} (c-frame {a = a} {Γ = Γ} {xs = xs} F) C) n v f = by-place (name-at (table-acyclic T) n)
     where
       by-place : NameAt G Γ x t → Asks G (need (meaning G Γ x) λ m. writeMeaning a Γ xs cs h m y k)
       by-place (in-row s e w q) =
@@ -157,16 +158,8 @@ module _ {G : List Class} (T : All (ClassTyped G) G) (L : All (λ k. All MethodF
 
   this-ok : {σ : List CellType} {Γs : List Context} {cs : List Call} {c : List ℕ} (k : ℕ → Request) → All2 (CallTyped G σ) cs Γs → now Γs .owner ≡ some c
       → ((a : ℕ) → ValueTyped G σ (objectAt a) (class c) → Asks G (k a)) → Asks G (innermost cs λ a Γ xs _. k a)
-  this-ok k all2-nil o f = absurd (none-some o)
-  this-ok k (all2-cons (c-frame {a = a} F) C) o f = f a (v-object (F .receiver) (owner-climbs F o))
-
-  known-class : (c : List ℕ) → known G (class c) ≡ true → (k : Class) × (classNamed G c ≡ some k)
-  unfolding known
-  known-class c e = by-name (classNamed G c) refl e
-    where
-      by-name : (o : Option Class) → classNamed G c ≡ o → option o false (λ _. true) ≡ true → (k : Class) × (classNamed G c ≡ some k)
-      by-name none q h = absurd (false≢true h)
-      by-name (some k) q h = (k, q)
+  this-ok k all2-nil o f = absurd (none-some refl o)
+  this-ok k (all2-cons (c-frame {a = a} F) C) o f = f a (v-object (F .receiver) (owner-up F o))
 
   -- the row in which the body of a method begins
   row-typed : {σ : List CellType} {given : List Value} (m : Method) → All2 (ValueTyped G σ) given (map typeOf (m .parameters))
@@ -188,7 +181,7 @@ module _ {G : List Class} (T : All (ClassTyped G) G) (L : All (λ k. All MethodF
     begins W (t-this o) l b R = this-ok _ C o (λ a x. typed H C (all2-cons (value-sub b x) W) R)
     begins W (t-new-array x) l b R = typed H C W (r-evaluate x l sub-same (r-make-array b R))
     begins {t = t} W (t-new-object {c = c} q x) l b R =
-        typed H C W (r-make-object (ap (classNamed G) q ∙ known-class c x .1) (subst (λ (d : List ℕ). Sub G (class d) t) (sym q) b) R)
+        typed H C W (r-make-object (ap (classNamed G) q ∙ known-found G c x .1) (subst (λ (d : List ℕ). Sub G (class d) t) (sym q) b) R)
     begins W (t-negation x) l b R = typed H C W (r-evaluate x l sub-same (r-negate b R))
     begins {t = t} W (t-binary x y q) l b R =
         typed H C W (r-evaluate x (l .0) sub-same (r-operand y (l .1) (subst (λ (u : Ty). Sub G u t) (sym q) b) R))
@@ -222,7 +215,7 @@ module _ {G : List Class} (T : All (ClassTyped G) G) (L : All (λ k. All MethodF
     unfolding second
     second-ok flags W x l b R = and-ok W x l b R
     second-ok {us} {vs = vs} {o = o} {r = r} (numbers n q) W x l b R =
-        choice-ok (isAnd o) _ _ (λ y. absurd (true≢false (sym y ∙ n)))
+        by-test (Asks G) (isAnd o) _ _ (λ y. absurd (true≢false (sym y ∙ n)))
         (λ _. begins (subst (λ (u : Ty). All2 (ValueTyped G σ) vs (u ∷ us)) q W) (subst (HasType G (now Γs) r) q x) l sub-same (r-operate n b R))
 
     fetch-ok : {us : List Ty} {ts : List Task} {vs : List Value} {t : Ty} (p : Place)
@@ -251,7 +244,7 @@ module _ {G : List Class} (T : All (ClassTyped G) G) (L : All (λ k. All MethodF
     unfolding go newArrayOf
     make-array-ok p (all2-cons (v-number {n = n} l) W) b R =
         let K : Kept σ (σ ++ arrayType n ∷ elementTypes n) = kept-append σ (arrayType n ∷ elementTypes n) in
-        choice-ok (ltb n (2 ^ 31)) _ _
+        by-test (Asks G) (ltb n (2 ^ 31)) _ _
         (λ q.
         typed (array-grown H n (ltb-true n (2 ^ 31) q)) (calls-kept K C)
         (all2-cons (value-sub b (v-array (new-place (arrayType n) (elementTypes n) H))) (values-kept K W)) R)
@@ -264,7 +257,7 @@ module _ {G : List Class} (T : All (ClassTyped G) G) (L : All (λ k. All MethodF
         let K : Kept σ (σ ++ objectType c ∷ fieldTypes G c) = kept-append σ (objectType c ∷ fieldTypes G c) in
         need-ok _ e
         (typed (object-grown H c e) (calls-kept K C)
-        (all2-cons (value-sub b (v-object (new-place (objectType c) (fieldTypes G c) H) here)) (values-kept K W)) R)
+        (all2-cons (value-sub b (v-object (new-place (objectType c) (fieldTypes G c) H) up-here)) (values-kept K W)) R)
 
     -- ---- calls
 
@@ -274,10 +267,10 @@ module _ {G : List Class} (T : All (ClassTyped G) G) (L : All (λ k. All MethodF
         → HasMethod G d m K → Redeclares G (K .method) N → Sub G (N .result .type) t → Runs G Γs (t ∷ us) ts
         → Asks G (if eqb (length given) (length (K .method .parameters)) then (λ _. enter (p .start) (length cs + 1) (opened K a given ts vs cs h)) else λ _. stuck)
     enter-ok {given = given} p a {d} {m} K e X W k r b R =
-        let D = declared T k .typed in
+        let D = method-declares T k .typed in
         let M = every-method L k in
         let Y : All2 (ValueTyped G σ) given (map typeOf (K .method .parameters)) = subst (All2 (ValueTyped G σ) given) (sym (r .parameters)) X in
-        choice-ok (eqb (length given) (length (K .method .parameters))) _ _
+        by-test (Asks G) (eqb (length given) (length (K .method .parameters))) _ _
         (λ _.
         typed H
         (all2-cons
@@ -292,9 +285,9 @@ module _ {G : List Class} (T : All (ClassTyped G) G) (L : All (λ k. All MethodF
     unfolding callMethod
     call-ok p X v-no-object W f b R = by-null
     call-ok p X (v-object {a = a} e s) W f b R =
-        let D = dispatch T s f in
+        let D = method-up T s f in
         object-cell-ok _ (all2-at a (H .cells) e)
-        (need-ok _ (method-of (all-end T) (D .has)) (enter-ok p a (D .chosen) e X W (D .has) (D .redeclares) b R))
+        (need-ok _ (has-methodOf (table-acyclic T) (D .has)) (enter-ok p a (D .found) e X W (D .has) (D .redeclares) b R))
 
     receive-ok : {us : List Ty} {ts : List Task} {given vs : List Value} {t : Ty} (p : Place) {c m : List ℕ} {F : Found}
         → All2 (ValueTyped G σ) given (map typeOf (F .method .parameters)) → All2 (ValueTyped G σ) vs (class c ∷ us)
@@ -368,31 +361,22 @@ abbrev pub Safe : List Class → Outcome → Type 0
 Safe G (next c m) = Typed G c
 Safe G (stop e) = Right e
 
-within-safe : (G : List Class) (b : Bool) {k : ℕ} (p : ℕ) (c : Core) (m : Meters) → ByLimit k → Typed G c → Safe G (within b k p λ _. next c m)
-within-safe G true p c m l h = h
-within-safe G false p c m l h = inr l
-
 pub guard-safe : (G : List Class) (L : Limits) (m : Meters) (r : Request) → Asks G r → Safe G (guard L m r)
 unfolding guard
-guard-safe G L (meters s o) (charge p c) h = within-safe G (ltb s (L .budget)) p c (meters (s + 1) o) by-budget h
-guard-safe G L (meters s o) (allocate p n c) h = within-safe G (leb n (L .heap)) p (c tt) (meters s o) by-heap h
-guard-safe G L (meters s o) (enter p n c) h = within-safe G (leb n (L .calls)) p c (meters s o) by-calls h
-guard-safe G L (meters s o) (output p z c) h = within-safe G (ltb (length o) (L .printed)) p c (meters s (o ++ z ∷ [])) by-output h
+guard-safe G L (meters s o) (charge p c) h = by-test (Safe G) (ltb s (L .budget)) _ _ (λ _. h) (λ _. inr by-budget)
+guard-safe G L (meters s o) (allocate p n c) h = by-test (Safe G) (leb n (L .heap)) _ _ (λ _. h) (λ _. inr by-heap)
+guard-safe G L (meters s o) (enter p n c) h = by-test (Safe G) (leb n (L .calls)) _ _ (λ _. h) (λ _. inr by-calls)
+guard-safe G L (meters s o) (output p z c) h = by-test (Safe G) (ltb (length o) (L .printed)) _ _ (λ _. h) (λ _. inr by-output)
 guard-safe G L (meters s o) (move c) h = h
 guard-safe G L (meters s o) (fault k p) h = inl (by-fault h)
 guard-safe G L (meters s o) done h = inl by-success
 guard-safe G L (meters s o) stuck h = absurd h
 
-after-right : (G : List Class) (k : Core → Meters → Report) → ((d : Core) (n : Meters) → Typed G d → Right (k d n .ending))
-    → (c : Core) (m : Meters) (o : Outcome) → Safe G o → Right (after k c m o .ending)
-after-right G k h c m (next d n) s = h d n s
-after-right G k h c m (stop e) s = s
-
 pub start-typed : (p : Program) → ProgramTyped p → LiteralsFit p → Typed (p .classes) (start p)
 start-typed p P L =
     typed {σ = []}
     (record {
-      laid = record { objects = λ a c i v e q. absurd (none-some e); arrays = λ a n i e q. absurd (none-some e) };
+      laid = record { objects = λ a c i v e q. absurd (none-some refl e); arrays = λ a n i e q. absurd (none-some refl e) };
       cells = all2-nil;
     })
     all2-nil all2-nil (r-execute (P .main) (L .main) r-end)
@@ -404,7 +388,8 @@ module _ {G : List Class} (T : All (ClassTyped G) G) (F : All (λ k. All MethodF
   pub runs-right : (f : ℕ) (c : Core) (m : Meters) → Typed G c → Right (runWith f G L c m .ending)
   unfolding runWith
   runs-right zero c m h = tt
-  runs-right (suc f) c m h = after-right G (λ d n. runWith f G L d n) (λ d n s. runs-right f d n s) c m (guard L m (plan G c)) (turn-safe c m h)
+  runs-right (suc f) c m h =
+      after-by (Safe G) (λ r. Right (r .ending)) (λ d n. runWith f G L d n) c m (λ d n s. runs-right f d n s) (λ e s. s) (guard L m (plan G c)) (turn-safe c m h)
 
 pub run-right : (p : Program) (L : Limits) → ProgramTyped p → LiteralsFit p → Right (run p L .ending)
 unfolding run

@@ -3,15 +3,13 @@
 use Prim.Native.Nat.{ℕ, suc, pred, _+_, _*_, _-_, _^_, _≤_, _<_, max}
 use native.Mathlib.Nat.{zero-add}
 use native.Mathlib.Omega.{arith}
-use mathlib.Core.Bool.{Bool, true, false}
-use mathlib.Core.List.{List, [], _∷_, _++_, map, reverseAux}
+use mathlib.Core.List.{List, [], _∷_, map, reverseAux}
 use mathlib.Core.Option.{Option, none, some}
 use mathlib.Core.Path.{_≡_, refl, sym, ap, subst}
 use lib.ListN.{length, getElem?, length-set, length-append, length-map, length-replicate}
 use lib.Dec.{ltb, leb, eqb}
 use borrow.Author.Tests.{ltb-true, ltb-false, leb-true}
-use Rattle.base.specs.Choice.{if_then_else_}
-use Rattle.base.specs.Codes.{depthMost, variablesMost, budgetSpent, heapFull, callsFull, outputFull}
+use Rattle.base.specs.Codes.{depthMost, variablesMost}
 use Rattle.base.specs.Lists.{All, all-nil, all-cons, all2-length}
 use Rattle.parser.specs.Tree.{Place, Sort, Part, Expression, Statement, Ty, Ty.class, Method, Class, Program}
 use Rattle.parser.specs.Tree.{Sort.expression, Sort.arguments, Sort.statement, Sort.statements}
@@ -20,12 +18,15 @@ use Rattle.parser.specs.Tree.{Part.block, Part.conditional, Part.loop, Part.pri
 use Rattle.parser.specs.Measure.{least, deepHere, deep, methodsDeep, classesDeep, programDeep}
 use Rattle.checker.specs.ClassTable.{Found, Context, classNamed, methodOf}
 use Rattle.checker.specs.Typing.{ClassTyped, ProgramTyped, typeOf}
+use Rattle.typing.specs.Choices.{by-test, taken}
+use Rattle.typing.specs.Members.{methodOf-has}
+use Rattle.typing.specs.Programs.{table-acyclic}
+use Rattle.typing.specs.ClassTableLaws.{every-method, method-declares}
 use Rattle.semantics.specs.Machine.{Value, Cell, Call, Core, Core.core, Request, Request.charge, Request.allocate, Request.enter, Request.output, Request.move, Request.fault, Request.done, Request.stuck}
 use Rattle.semantics.specs.Machine.{Task, Task.evaluate, Task.execute, Task.operand, Task.operate, Task.confirm, Task.negate, Task.index, Task.fetch, Task.measure, Task.makeArray, Task.makeObject, Task.invoke, Task.branch, Task.decide, Task.again, Task.show, Task.store, Task.newElement, Task.storeElement, Task.continue, Task.perform, Task.leave}
-use Rattle.semantics.specs.Machine.{isAnd, apply, begin, beginStatement, second, callMethod, nextArgument, nextStatement, nextOfBody, newArrayOf, newObjectOf, go, plan, start}
-use Rattle.semantics.specs.Limits.{Limits, Meters, meters, stepsOf, printedOf, Outcome, next, stop, within, guard, heapOf}
+use Rattle.semantics.specs.Machine.{isAnd, apply, begin, beginStatement, second, callMethod, nextArgument, nextStatement, nextOfBody, newArrayOf, newObjectOf, go, plan}
+use Rattle.semantics.specs.Limits.{Limits, Meters, meters, stepsOf, printedOf, Outcome, next, stop, guard, heapOf}
 use Rattle.soundness.specs.Continuations.{Closed, need-by, pop-by, popMany-by, number-by, flag-by, array-by, object-by, object-cell-by, array-cell-by, choice-by, innermost-by, cell-by, in-array-by, read-by, write-by}
-use Rattle.soundness.specs.ClassTableLaws.{all-end, of-method, every-method, declared}
 use Rattle.soundness.specs.StateTyping.{LiteralsFit, Typed, typed}
 use Rattle.soundness.specs.StateTyping.{Runs, r-end, r-evaluate, r-execute, r-operand, r-operate, r-confirm, r-negate, r-index, r-fetch, r-measure, r-make-array, r-make-object, r-invoke, r-branch, r-decide, r-again, r-show, r-store, r-new-element, r-store-element, r-continue, r-perform, r-leave}
 use Rattle.soundness.specs.Reachable.{Reach, reach-start, reach-next, reach-typed}
@@ -69,11 +70,7 @@ least-none (some a) none e = absurd (let z : _≡_ {A = ℕ} 0 1 = cc in omega a
 least-none (some a) (some b) e = absurd (let z : _≡_ {A = ℕ} 0 1 = cc in omega arith)
 
 here-none : (d : ℕ) (p : Place) → deepHere d p ≡ none → d ≤ depthMost
-here-none d p e = by-test (ltb depthMost d) refl e
-  where
-    by-test : (b : Bool) → ltb depthMost d ≡ b → (if b then (λ _. some (p .start)) else λ _. none) ≡ none → d ≤ depthMost
-    by-test true q h = absurd (let z : _≡_ {A = ℕ} 0 1 = cc in omega arith)
-    by-test false q h = ltb-false depthMost d q
+here-none d p e = taken (ltb depthMost d) _ _ e (λ q h. absurd (let z : _≡_ {A = ℕ} 0 1 = cc in omega arith)) (λ q h. ltb-false depthMost d q)
 
 inner : (d : ℕ) (p : Place) (o : Option ℕ) → least (deepHere d p) o ≡ none → (d ≤ depthMost) × (o ≡ none)
 inner d p o e = let h = least-none (deepHere d p) o e in (here-none d p (h .0), h .1)
@@ -84,22 +81,26 @@ inner-both d p a b e =
     let g = least-none a b (h .1) in
     (h .0, g .0, g .1)
 
+-- a node with one part, and with two
+one-below : (d : ℕ) (p : Place) (n : ℕ) {o : Option ℕ} → least (deepHere d p) o ≡ none → (o ≡ none → d + 1 + n ≤ depthMost) → d + (1 + n) ≤ depthMost
+one-below d p n {o} e f = omega (arith, f (inner d p o e .1))
+
+two-below : (d : ℕ) (p : Place) (m n : ℕ) {a b : Option ℕ} → least (deepHere d p) (least a b) ≡ none → (a ≡ none → d + 1 + m ≤ depthMost)
+    → (b ≡ none → d + 1 + n ≤ depthMost) → d + max (1 + m) (1 + n) ≤ depthMost
+two-below d p m n {a} {b} e f g = let h = inner-both d p a b e in omega (arith, f (h .1), g (h .2))
+
 not-deep : (d : ℕ) {s : Sort} (x : Part s) → deep d x ≡ none → NotDeep s d (below x)
 unfolding deep
 not-deep d (literal p n) e = omega (arith, here-none d p e)
 not-deep d (truth p b) e = omega (arith, here-none d p e)
 not-deep d (variable p x) e = omega (arith, here-none d p e)
 not-deep d (this p) e = omega (arith, here-none d p e)
-not-deep d (newArray p a) e = let h = inner d p (deep (d + 1) a) e in omega (arith, not-deep (d + 1) a (h .1))
+not-deep d (newArray p a) e = one-below d p (below a) e (not-deep (d + 1) a)
 not-deep d (newObject p c) e = omega (arith, here-none d p e)
-not-deep d (negation p a) e = let h = inner d p (deep (d + 1) a) e in omega (arith, not-deep (d + 1) a (h .1))
-not-deep d (binary p o a b) e =
-    let h = inner-both d p (deep (d + 1) a) (deep (d + 1) b) e in
-    omega (arith, not-deep (d + 1) a (h .1), not-deep (d + 1) b (h .2))
-not-deep d (element p a b) e =
-    let h = inner-both d p (deep (d + 1) a) (deep (d + 1) b) e in
-    omega (arith, not-deep (d + 1) a (h .1), not-deep (d + 1) b (h .2))
-not-deep d (arrayLength p a) e = let h = inner d p (deep (d + 1) a) e in omega (arith, not-deep (d + 1) a (h .1))
+not-deep d (negation p a) e = one-below d p (below a) e (not-deep (d + 1) a)
+not-deep d (binary p o a b) e = two-below d p (below a) (below b) e (not-deep (d + 1) a) (not-deep (d + 1) b)
+not-deep d (element p a b) e = two-below d p (below a) (below b) e (not-deep (d + 1) a) (not-deep (d + 1) b)
+not-deep d (arrayLength p a) e = one-below d p (below a) e (not-deep (d + 1) a)
 not-deep d (call p a m es) e =
     let h = inner-both d p (deep (d + 1) a) (deep (d + 1) es) e in
     omega (arith, not-deep (d + 1) a (h .1), not-deep (d + 1) es (h .2))
@@ -110,14 +111,10 @@ not-deep d (conditional p a s t) e =
     let h = inner-both d p (deep (d + 1) a) (least (deep (d + 1) s) (deep (d + 1) t)) e in
     let g = least-none (deep (d + 1) s) (deep (d + 1) t) (h .2) in
     omega (arith, not-deep (d + 1) a (h .1), not-deep (d + 1) s (g .0), not-deep (d + 1) t (g .1))
-not-deep d (loop p a s) e =
-    let h = inner-both d p (deep (d + 1) a) (deep (d + 1) s) e in
-    omega (arith, not-deep (d + 1) a (h .1), not-deep (d + 1) s (h .2))
-not-deep d (print p a) e = let h = inner d p (deep (d + 1) a) e in omega (arith, not-deep (d + 1) a (h .1))
-not-deep d (assign p x a) e = let h = inner d p (deep (d + 1) a) e in omega (arith, not-deep (d + 1) a (h .1))
-not-deep d (assignElement p x a b) e =
-    let h = inner-both d p (deep (d + 1) a) (deep (d + 1) b) e in
-    omega (arith, not-deep (d + 1) a (h .1), not-deep (d + 1) b (h .2))
+not-deep d (loop p a s) e = two-below d p (below a) (below s) e (not-deep (d + 1) a) (not-deep (d + 1) s)
+not-deep d (print p a) e = one-below d p (below a) e (not-deep (d + 1) a)
+not-deep d (assign p x a) e = one-below d p (below a) e (not-deep (d + 1) a)
+not-deep d (assignElement p x a b) e = two-below d p (below a) (below b) e (not-deep (d + 1) a) (not-deep (d + 1) b)
 not-deep d noStatements e = omega arith
 not-deep d (sequence s ss) e = let h = least-none (deep d s) (deep d ss) e in omega (arith, not-deep d s (h .0), not-deep d ss (h .1))
 
@@ -321,7 +318,7 @@ values-fit T (r-measure b R) = omega (arith, values-fit T R)
 values-fit T (r-make-array b R) = omega (arith, values-fit T R)
 values-fit T (r-make-object e b R) = omega (arith, values-fit T R)
 values-fit T (r-invoke {us = us} {c = c} {F = F} {vs = vs} qs f q l e i b R) =
-    let w = declared T f .typed .few in
+    let w = method-declares T f .typed .few in
     let j = ap length e in
     omega (arith, values-fit T R, length-append qs (class c ∷ us), length-reverse qs (map typeOf vs), length-map (F .method .parameters) typeOf, length-append (F .method .parameters) (F .method .locals))
   where
@@ -366,27 +363,23 @@ abbrev FitsO : Limits → Outcome → Type 0
 FitsO L (next c m) = FitsM L c m
 FitsO L (stop e) = Unit {0}
 
-within-fits : (L : Limits) (b : Bool) (k p : ℕ) (c : Core) (m : Meters) → (b ≡ true → FitsM L c m) → FitsO L (within b k p λ _. next c m)
-within-fits L true k p c m f = f refl
-within-fits L false k p c m f = tt
-
 guard-fits : (L : Limits) (m : Meters) (r : Request) → stepsOf m ≤ L .budget → length (printedOf m) ≤ L .printed → FitsR (L .calls) (L .heap) r → FitsO L (guard L m r)
 unfolding guard
 guard-fits L (meters s o) (charge p (core ts vs cs h)) i j f =
-    within-fits L (ltb s (L .budget)) budgetSpent p _ (meters (s + 1) o) (λ e. (f, omega (arith, ltb-true s (L .budget) e), j))
+    by-test (FitsO L) (ltb s (L .budget)) _ _ (λ e. (f, omega (arith, ltb-true s (L .budget) e), j)) (λ _. tt)
 guard-fits L (meters s o) (allocate p n c) i j f =
-    within-fits L (leb n (L .heap)) heapFull p (c tt) (meters s o) (λ e. (heap-more (c tt) (leb-true n (L .heap) e) f, i, j))
+    by-test (FitsO L) (leb n (L .heap)) _ _ (λ e. (heap-more (c tt) (leb-true n (L .heap) e) f, i, j)) (λ _. tt)
   where
     heap-more : (c : Core) {n : ℕ} → n ≤ L .heap → FitsC (L .calls) n c → FitsC (L .calls) (L .heap) c
     heap-more (core ts vs cs h) l f = (f .0, omega (arith, f .1), f .2)
 guard-fits L (meters s o) (enter p n c) i j f =
-    within-fits L (leb n (L .calls)) callsFull p c (meters s o) (λ e. (calls-more c (leb-true n (L .calls) e) f, i, j))
+    by-test (FitsO L) (leb n (L .calls)) _ _ (λ e. (calls-more c (leb-true n (L .calls) e) f, i, j)) (λ _. tt)
   where
     calls-more : (c : Core) {n : ℕ} → n ≤ L .calls → FitsC n (L .heap) c → FitsC (L .calls) (L .heap) c
     calls-more (core ts vs cs h) l f = (omega (arith, f .0), f .1, f .2)
 guard-fits L (meters s o) (output p z c) i j f =
-    within-fits L (ltb (length o) (L .printed)) outputFull p c (meters s (o ++ z ∷ []))
-    (λ e. (f, i, omega (arith, length-append o (z ∷ []), ltb-true (length o) (L .printed) e)))
+    by-test (FitsO L) (ltb (length o) (L .printed)) _ _
+    (λ e. (f, i, omega (arith, length-append o (z ∷ []), ltb-true (length o) (L .printed) e))) (λ _. tt)
 guard-fits L (meters s o) (move c) i j f = (f, i, j)
 guard-fits L (meters s o) (fault k p) i j f = tt
 guard-fits L (meters s o) done i j f = tt
@@ -400,7 +393,7 @@ module _ {p : Program} (P : ProgramTyped p) (F : LiteralsFit p) (D : programDeep
       (omega (arith, not-deep 1 (p .statement) (h .0)), classes-shallow (p .classes) (h .1))
 
   methods-found : (c m : List ℕ) (K : Found) → methodOf (p .classes) c m ≡ some K → Shallow (K .method)
-  methods-found c m K e = every-method (main-shallow .1) (of-method (all-end (P .classes)) c m e)
+  methods-found c m K e = every-method (main-shallow .1) (methodOf-has (table-acyclic (P .classes)) c m e)
 
   reach-fits : {L : Limits} {c : Core} {m : Meters} → Reach p L c m → FitsM L c m
   reach-fits reach-start = ((omega arith, omega arith, (omega (arith, main-shallow .0), tt)), omega arith, omega arith)

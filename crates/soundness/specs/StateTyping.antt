@@ -15,11 +15,11 @@ use Rattle.parser.specs.Tree.{Part.block, Part.conditional, Part.loop, Part.pri
 use Rattle.checker.specs.ClassTable.{Found, Context, mainContext, contextOf, classNamed, fieldsOf}
 use Rattle.checker.specs.Judge.{operandType, resultType, arity}
 use Rattle.checker.specs.Typing.{Sub, HasMethod, HasName, HasType, HaveTypes, IsTyped, AreTyped, typeOf}
+use Rattle.typing.specs.Members.{Up}
 use Rattle.semantics.specs.Machine.{Value, Value.number, Value.flag, Value.null, Value.arrayAt, Value.objectAt, Cell, Cell.object, Cell.array, Cell.slot, Call, Call.frame, Core, Core.core, isAnd}
 use Rattle.semantics.specs.Machine.{Request, Request.charge, Request.allocate, Request.enter, Request.output, Request.move, Request.fault, Request.done, Request.stuck}
 use Rattle.semantics.specs.Machine.{Task, Task.evaluate, Task.execute, Task.operand, Task.operate, Task.confirm, Task.negate, Task.index, Task.fetch, Task.measure, Task.makeArray, Task.makeObject, Task.invoke, Task.branch, Task.decide, Task.again, Task.show, Task.store, Task.newElement, Task.storeElement, Task.continue, Task.perform, Task.leave}
 use Rattle.soundness.specs.Results.{Fault}
-use Rattle.soundness.specs.ClassTableLaws.{Climbs}
 
 -- ---- literals are words
 
@@ -69,7 +69,7 @@ pub data ValueTyped (G : List Class) (σ : List CellType) : Value → Ty → Typ
   v-no-array : ValueTyped G σ null intArray
   v-no-object : {c : List ℕ} → ValueTyped G σ null (class c)
   v-array : {a n : ℕ} → getElem? σ a ≡ some (arrayType n) → ValueTyped G σ (arrayAt a) intArray
-  v-object : {a : ℕ} {b c : List ℕ} → getElem? σ a ≡ some (objectType b) → Climbs G b c → ValueTyped G σ (objectAt a) (class c)
+  v-object : {a : ℕ} {b c : List ℕ} → getElem? σ a ≡ some (objectType b) → Up G b c → ValueTyped G σ (objectAt a) (class c)
 
 pub data CellTyped (G : List Class) (σ : List CellType) : Cell → CellType → Type 0 where
   c-object : {c : List ℕ} {k : Class} → classNamed G c ≡ some k → CellTyped G σ (object c) (objectType c)

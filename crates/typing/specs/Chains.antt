@@ -5,7 +5,7 @@ use native.Mathlib.Nat.{not-suc-le-zero, le-of-suc-le-suc}
 use native.Mathlib.Omega.{arith}
 use mathlib.Core.Path.{_≡_, refl, sym, ap, _∙_, subst}
 use mathlib.Core.List.{List, [], _∷_}
-use mathlib.Core.Bool.{Bool, true, false, false≢true}
+use mathlib.Core.Bool.{true, false≢true}
 use mathlib.Core.Option.{Option, none, some}
 use lib.ListN.{length}
 use Rattle.base.specs.Choice.{if_then_else_, option}
@@ -15,29 +15,25 @@ use Rattle.parser.specs.Tree.{Name, Ty.class, Class}
 use Rattle.checker.specs.ClassTable.{classNamed, chainWithin, chain, endsWithin, known}
 use Rattle.checker.specs.Typing.{Extends, extends, Ends, ends-here, ends-above, className}
 use Rattle.typing.specs.Tests.{same-equal, apart-same}
-use Rattle.typing.specs.Choices.{first-passes, first-among, Taken, taken-then, taken-else, taken, none-some}
+use Rattle.typing.specs.Choices.{by-test, taken, held, none-some, first-name, first-among}
 
 -- LOOK-UPS OF CLASSES
 
 -- the class that is found has the name
 pub class-name : (G : List Class) (c : List ℕ) {k : Class} → classNamed G c ≡ some k → className k ≡ c
 unfolding classNamed
-class-name G c {k} e = same-equal (className k) c (first-passes (λ l. classNamed l c) (λ j. same (className j) c) refl (λ j l. refl) G e)
+class-name G c e = first-name className c (λ l. classNamed l c) refl (λ j l. refl) G e
 
 -- what holds of every class holds of one that is found
 pub all-classes : {P : Class → Type 0} {G : List Class} (c : List ℕ) {k : Class} → All P G → classNamed G c ≡ some k → P k
 unfolding classNamed
-all-classes c h e = first-among (λ l. classNamed l c) (λ j. same (className j) c) refl (λ j l. refl) h e
+all-classes c h e = first-among className c (λ l. classNamed l c) refl (λ j l. refl) h e
 
 -- the known classes are those of the table
 module _ (G : List Class) where
   pub known-found : (c : List ℕ) → known G (class c) ≡ true → (k : Class) × (classNamed G c ≡ some k)
   unfolding known
-  known-found c h = go (classNamed G c) refl h
-    where
-      go : (o : Option Class) → classNamed G c ≡ o → option o false (λ _. true) ≡ true → (k : Class) × (classNamed G c ≡ some k)
-      go none e q = absurd (false≢true q)
-      go (some k) e q = (k, e)
+  known-found c h = held (classNamed G c) h (λ e q. absurd (false≢true q)) (λ k e q. (k, e))
 
   pub found-known : (c : List ℕ) {k : Class} → classNamed G c ≡ some k → known G (class c) ≡ true
   unfolding known
@@ -78,22 +74,15 @@ without (k ∷ G) c = if same (className k) c then (λ _. G) else λ _. k ∷ wi
 length-without : (G : List Class) (c : List ℕ) {k : Class} → classNamed G c ≡ some k → length G ≡ suc (length (without G c))
 unfolding classNamed without
 length-without [] c e = absurd (none-some refl e)
-length-without (k ∷ G) c {k = j} e = go (length-without G c) (taken (same (className k) c) _ _ e)
-  where
-    go : (classNamed G c ≡ some j → length G ≡ suc (length (without G c))) → Taken (same (className k) c) (some k) (classNamed G c) (some j)
-        → suc (length G) ≡ suc (length (if same (className k) c then (λ _. G) else λ _. k ∷ without G c))
-    go ih (taken-then s x) = rw s
-    go ih (taken-else s x) = rw s (ap suc (ih x))
+length-without (k ∷ G) c e = taken (same (className k) c) _ _ e (λ s x. rw s) (λ s x. rw s (ap suc (length-without G c x)))
 
 named-without : (G : List Class) (c x : List ℕ) → (x ≡ c → ⊥) → classNamed (without G c) x ≡ classNamed G x
 unfolding classNamed without
 named-without [] c x n = refl
-named-without (k ∷ G) c x n = go (same (className k) c) refl (named-without G c x n)
-  where
-    go : (b : Bool) → same (className k) c ≡ b → classNamed (without G c) x ≡ classNamed G x
-        → classNamed (if b then (λ _. G) else λ _. k ∷ without G c) x ≡ (if same (className k) x then (λ _. some k) else λ _. classNamed G x)
-    go true s ih = rw (apart-same (className k) x λ e. n (sym e ∙ same-equal (className k) c s))
-    go false s ih = rw ih
+named-without (k ∷ G) c x n =
+    by-test (λ l. classNamed l x ≡ classNamed (k ∷ G) x) (same (className k) c) _ _
+    (λ s. rw (apart-same (className k) x λ e. n (sym e ∙ same-equal (className k) c s)))
+    (λ s. rw (named-without G c x n))
 
 -- classes of different heights are different
 apart : {G : List Class} {c d : List ℕ} {m n : ℕ} → Tall G c m → Tall G d n → n < m → d ≡ c → ⊥
@@ -140,12 +129,9 @@ module _ {G : List Class} (parents : (c d : List ℕ) → Extends G c d → (k :
   pub within-ends : (most : ℕ) (c : List ℕ) {k : Class} → classNamed G c ≡ some k → endsWithin most G c ≡ true → Ends G c
   unfolding endsWithin
   within-ends zero c e h = absurd (false≢true h)
-  within-ends (suc n) c {k} e h = go (k .parent) refl (rw e at h) λ d x. within-ends n d (parents c d x .1)
-    where
-      go : (o : Option Name) → k .parent ≡ o → option (k .parent) true (λ p. endsWithin n G (p .text)) ≡ true
-          → ((d : List ℕ) → Extends G c d → endsWithin n G d ≡ true → Ends G d) → Ends G c
-      go none q h f = ends-here e q
-      go (some p) q h f = let x : Extends G c (p .text) = extends e q refl in ends-above x (f (p .text) x (rw q at h))
+  within-ends (suc n) c {k} e h =
+      held (k .parent) (rw e at h) (λ q i. ends-here e q)
+      (λ p q i. let x : Extends G c (p .text) = extends e q refl in ends-above x (within-ends n (p .text) (parents c (p .text) x .1) i))
 
 -- a table whose chains all end
 pub record Acyclic (G : List Class) : Type 0 where

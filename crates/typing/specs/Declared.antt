@@ -3,14 +3,14 @@ use Prim.Native.Nat.{ℕ, _+_, _≤_}
 use native.Mathlib.Omega.{arith}
 use mathlib.Core.Path.{_≡_, refl, ap}
 use mathlib.Core.List.{List, [], _∷_, map, map-append}
-use mathlib.Core.Bool.{true, false≢true}
+use mathlib.Core.Bool.{true, false, false≢true}
 use mathlib.Core.Option.{some}
 use borrow.Author.Tests.{ltb-true, lt-ltb}
 use lib.Dec.{ltb}
 use lib.ListN.{length, drop, length-append, length-map}
 use Rattle.base.specs.Choice.{if_then_else_}
 use Rattle.base.specs.Codes.{variablesMost}
-use Rattle.base.specs.Outcome.{accepted, refused, _>>=_}
+use Rattle.base.specs.Outcome.{Outcome, accepted, refused, _>>=_}
 use Rattle.base.specs.Lists.{All, all-nil, all-cons, all-append}
 use Rattle.parser.specs.Tree.{Variable, Method, Class}
 use Rattle.checker.specs.ClassTable.{Found, contextOf, chain, sameType, known, fits, nearestMethod}
@@ -28,14 +28,22 @@ use Rattle.typing.specs.Distinctness.{unused-nil, Fresh, fresh-none, fre
 -- VARIABLES: accepted are known types and new names, and of a method's variables not too many
 
 module _ (G : List Class) where
+  -- one more variable, before the next stage
+  new-variable : (earlier : List (List ℕ)) (v : Variable) (n : ℕ) (x : Unit {0} → Outcome (Unit {0}))
+      → (knownType G (v .type) >>= λ _. if occurs (textOf v) earlier then (λ _. refused n (v .name .start)) else x) ≡ accepted tt
+      → Known G v × (occurs (textOf v) earlier ≡ false) × (x tt ≡ accepted tt)
+  new-variable earlier v n x h =
+      let k = bound (knownType G (v .type)) _ h in
+      let o = failed (occurs (textOf v) earlier) _ _ x (k .2) in
+      (passed (known G (v .type .type)) _ _ _ (k .1) .0, o .0, o .1)
+
   pub fields-sound : (earlier : List (List ℕ)) (vs : List Variable) → fields G earlier vs ≡ accepted tt → All (Known G) vs × Fresh earlier (map textOf vs)
   unfolding fields
   fields-sound earlier [] h = (all-nil, fresh-none)
   fields-sound earlier (v ∷ vs) h =
-      let k = bound (knownType G (v .type)) _ h in
-      let o = failed (occurs (textOf v) earlier) _ _ (λ _. fields G (textOf v ∷ earlier) vs) (k .2) in
-      let w = fields-sound (textOf v ∷ earlier) vs (o .1) in
-      (all-cons (passed (known G (v .type .type)) _ _ _ (k .1) .0) (w .0), fresh-more (o .0) (w .1))
+      let o = new-variable earlier v _ (λ _. fields G (textOf v ∷ earlier) vs) h in
+      let w = fields-sound (textOf v ∷ earlier) vs (o .2) in
+      (all-cons (o .0) (w .0), fresh-more (o .1) (w .1))
 
   pub fields-complete : {earlier : List (List ℕ)} {vs : List Variable} → All (Known G) vs → Fresh earlier (map textOf vs) → fields G earlier vs ≡ accepted tt
   unfolding fields
@@ -47,11 +55,10 @@ module _ (G : List Class) where
   unfolding variables
   variables-sound earlier [] l h = (all-nil, fresh-none, omega arith)
   variables-sound earlier (v ∷ vs) l h =
-      let k = bound (knownType G (v .type)) _ h in
-      let o = failed (occurs (textOf v) earlier) _ _ (λ _. if ltb (length earlier) variablesMost then (λ _. variables G (textOf v ∷ earlier) vs) else λ _. refused _ _) (k .2) in
-      let m = passed (ltb (length earlier) variablesMost) (λ _. variables G (textOf v ∷ earlier) vs) _ _ (o .1) in
+      let o = new-variable earlier v _ (λ _. if ltb (length earlier) variablesMost then (λ _. variables G (textOf v ∷ earlier) vs) else λ _. refused _ _) h in
+      let m = passed (ltb (length earlier) variablesMost) (λ _. variables G (textOf v ∷ earlier) vs) _ _ (o .2) in
       let w = variables-sound (textOf v ∷ earlier) vs (ltb-true (length earlier) variablesMost (m .0)) (m .1) in
-      (all-cons (passed (known G (v .type .type)) _ _ _ (k .1) .0) (w .0), fresh-more (o .0) (w .1), omega (arith, w .2))
+      (all-cons (o .0) (w .0), fresh-more (o .1) (w .1), omega (arith, w .2))
 
   pub variables-complete : {earlier : List (List ℕ)} {vs : List Variable} → All (Known G) vs → Fresh earlier (map textOf vs)
       → length earlier + length vs ≤ variablesMost → variables G earlier vs ≡ accepted tt

@@ -2,18 +2,19 @@
 -- Each holds by climbing the chain.
 use Prim.Native.Nat.{ℕ}
 use mathlib.Core.Path.{_≡_, refl, sym, ap, _∙_, subst}
-use mathlib.Core.Logic.{_⊎_, inl, inr}
-use mathlib.Core.List.{List}
+use mathlib.Core.Logic.{inl, inr}
+use mathlib.Core.List.{List, [], _∷_, _++_}
 use mathlib.Core.Bool.{true, false, false≢true, or-true}
 use mathlib.Core.Option.{Option, none, some}
-use lib.ListN.{length}
+use lib.ListN.{length, getElem?}
 use Rattle.base.specs.Choice.{option}
 use Rattle.base.specs.Bytes.{same}
-use Rattle.parser.specs.Tree.{Ty, Ty.int, Ty.boolean, Ty.intArray, Ty.class, Class}
-use Rattle.checker.specs.ClassTable.{Slot, Found, Context, Meaning, Meaning.ofRow, Meaning.ofObject, moved, classNamed, methodNamed, variableNamed, chain, sameType, among, onChain, fits, layout, nearestField, nearestMethod, methodOf, meaning, meaningType}
-use Rattle.checker.specs.Typing.{Extends, extends, Sub, sub-same, sub-extends, sub-trans, Ends, HasMethod, own-method, inherited-method, HasField, own-field, inherited-field, HasName, of-variable, of-field, className}
+use Rattle.base.specs.Lists.{get-append, get-append-right}
+use Rattle.parser.specs.Tree.{Ty, Ty.int, Ty.boolean, Ty.intArray, Ty.class, Variable, Class}
+use Rattle.checker.specs.ClassTable.{Slot, Found, Context, Meaning, Meaning.ofRow, Meaning.ofObject, moved, classNamed, methodNamed, variableNamed, chain, sameType, among, onChain, fits, layout, fieldsOf, nearestField, nearestMethod, methodOf, meaning, meaningType}
+use Rattle.checker.specs.Typing.{Extends, extends, Sub, sub-same, sub-extends, sub-trans, Ends, HasMethod, own-method, inherited-method, HasField, own-field, inherited-field, HasName, of-variable, of-field, typeOf, className}
 use Rattle.typing.specs.Tests.{or-either, same-equal, same-of, sameType-equal, sameType-refl}
-use Rattle.typing.specs.Choices.{Held, held-none, held-some, held, none-some}
+use Rattle.typing.specs.Choices.{taken, held, none-some}
 use Rattle.typing.specs.Chains.{class-name, ends-known, ends-up, Acyclic, Chain, chain-none, chain-top, chain-more, chain-is, chain-head, chain-tail}
 
 -- SUBTYPES
@@ -23,7 +24,7 @@ pub data Up (G : List Class) : (c d : List ℕ) → Type 0 where
   up-here : {c : List ℕ} → Up G c c
   up-more : {c d e : List ℕ} → Extends G c d → Up G d e → Up G c e
 
-up-trans : {G : List Class} {c d e : List ℕ} → Up G c d → Up G d e → Up G c e
+pub up-trans : {G : List Class} {c d e : List ℕ} → Up G c d → Up G d e → Up G c e
 up-trans up-here q = q
 up-trans (up-more x p) q = up-more x (up-trans p q)
 
@@ -68,20 +69,15 @@ fit-plain (fit-up u) p = absurd p
 pub sub-plain : {G : List Class} {s t : Ty} → Plain t → Sub G s t → s ≡ t
 sub-plain p h = fit-plain (sub-fit h) p
 
+named-up : {G : List Class} {c d : List ℕ} {k : Class} → classNamed G c ≡ some k → same (className k) d ≡ true → Up G c d
+named-up {G} {c} {d} {k} e s = subst (Up G c) (sym (class-name G c e) ∙ same-equal (className k) d s) up-here
+
 -- the classes on a chain are those above its class
 among-up : {G : List Class} {c : List ℕ} (d : List ℕ) {ks : List Class} → Chain G c ks → among d ks ≡ true → Up G c d
 unfolding among
 among-up d (chain-none e) h = absurd (false≢true h)
-among-up {G} {c} d (chain-top {k = k} e p) h = go (or-either (same (className k) d) false h)
-  where
-    go : (same (className k) d ≡ true) ⊎ (false ≡ true) → Up G c d
-    go (inl s) = subst (Up G c) (sym (class-name G c e) ∙ same-equal (className k) d s) up-here
-    go (inr f) = absurd (false≢true f)
-among-up {G} {c} d (chain-more {k = k} {ks = ks} e x t) h = go (λ q. up-more x (among-up d t q)) (or-either (same (className k) d) (among d ks) h)
-  where
-    go : (among d ks ≡ true → Up G c d) → (same (className k) d ≡ true) ⊎ (among d ks ≡ true) → Up G c d
-    go ih (inl s) = subst (Up G c) (sym (class-name G c e) ∙ same-equal (className k) d s) up-here
-    go ih (inr q) = ih q
+among-up d (chain-top {k = k} e p) h = elim (or-either (same (className k) d) false h) [ inl s ↦ named-up e s | inr f ↦ absurd (false≢true f) ]
+among-up d (chain-more {k = k} {ks = ks} e x t) h = elim (or-either (same (className k) d) (among d ks) h) [ inl s ↦ named-up e s | inr q ↦ up-more x (among-up d t q) ]
 
 up-among : {G : List Class} {c d : List ℕ} {ks : List Class} → Ends G c → Up G c d → Chain G c ks → among d ks ≡ true
 unfolding among
@@ -105,11 +101,8 @@ along-sub A (class c) (class d) h = up-sub (among-up d (chain-is A c) h)
 
 pub fits-sub : {G : List Class} → Acyclic G → (s t : Ty) → fits G s t ≡ true → Sub G s t
 unfolding fits
-fits-sub {G} A s t h = go (or-either (sameType s t) (onChain G s t) h)
-  where
-    go : (sameType s t ≡ true) ⊎ (onChain G s t ≡ true) → Sub G s t
-    go (inl e) = subst (Sub G s) (sameType-equal s t e) sub-same
-    go (inr e) = along-sub A s t e
+fits-sub {G} A s t h =
+    elim (or-either (sameType s t) (onChain G s t) h) [ inl e ↦ subst (Sub G s) (sameType-equal s t e) sub-same | inr e ↦ along-sub A s t e ]
 
 -- a type fits itself
 pub fits-refl : (G : List Class) (t : Ty) → fits G t t ≡ true
@@ -131,11 +124,9 @@ sub-fits A h = fit-fits A (sub-fit h)
 method-either : {G : List Class} {c : List ℕ} {k : Class} {F : Found} (m : List ℕ) (above : Option Found) → classNamed G c ≡ some k
     → (methodNamed (k .methods) m ≡ none → above ≡ some F → HasMethod G c m F)
     → option (methodNamed (k .methods) m) above (λ x. some (record { owner = k .name .text; method = x })) ≡ some F → HasMethod G c m F
-method-either {G} {c} {k} {F} m above e f h = go (held (methodNamed (k .methods) m) _ _ h)
-  where
-    go : Held (methodNamed (k .methods) m) above (λ x. some (record { owner = k .name .text; method = x })) (some F) → HasMethod G c m F
-    go (held-none q r) = f q r
-    go (held-some x q r) = let z : record { owner = k .name .text; method = x } ≡ F = cc in subst (HasMethod G c m) z (own-method e q)
+method-either {G} {c} {k} {F} m above e f h =
+    held (methodNamed (k .methods) m) h f
+    (λ x q r. let z : record { owner = k .name .text; method = x } ≡ F = cc in subst (HasMethod G c m) z (own-method e q))
 
 pub method-found : {G : List Class} {c : List ℕ} {ks : List Class} (m : List ℕ) {F : Found} → Chain G c ks → nearestMethod ks m ≡ some F → HasMethod G c m F
 unfolding nearestMethod
@@ -158,15 +149,45 @@ has-methodOf {c = c} A h = method-nearest (chain-is A c) h
 
 -- FIELDS
 
+-- the variable in a list that a slot tells of
+pub record Stands (vs : List Variable) (s : Slot) : Type 0 where
+  pub item : Variable
+  pub at : getElem? vs (s .place) ≡ some item
+  pub has : typeOf item ≡ s .type
+
+pub stands-before : {vs : List Variable} {s : Slot} (ws : List Variable) → Stands vs s → Stands (vs ++ ws) s
+stands-before {vs} {s} ws h = record { item = h .item; at = get-append vs ws (s .place) (h .at); has = h .has }
+
+stands-after : (us : List Variable) {vs : List Variable} {s : Slot} → Stands vs s → Stands (us ++ vs) (moved (length us) s)
+stands-after us {vs} {s} h = record { item = h .item; at = get-append-right us vs (s .place) ∙ h .at; has = h .has }
+
+pub variable-stands : (vs : List Variable) (x : List ℕ) {s : Slot} → variableNamed vs x ≡ some s → Stands vs s
+unfolding variableNamed
+variable-stands [] x e = absurd (none-some refl e)
+variable-stands (v ∷ vs) x {s} e =
+    taken (same (v .name .text) x) _ _ e
+    (λ t q.
+    let w : record { place = 0; type = v .type .type } ≡ s = cc in
+    subst (Stands (v ∷ vs)) w (record { item = v; at = refl; has = refl }))
+    (λ t q. held (variableNamed vs x) q (λ n z. absurd (none-some refl z)) (λ r p z.
+    let w : moved 1 r ≡ s = cc in
+    subst (Stands (v ∷ vs)) w (stands-after (v ∷ []) (variable-stands vs x p))))
+
+-- the variable that the nearest field's slot tells of
+field-stands : (ks : List Class) (x : List ℕ) {s : Slot} → nearestField ks x ≡ some s → Stands (layout ks) s
+unfolding nearestField layout
+field-stands [] x e = absurd (none-some refl e)
+field-stands (k ∷ ks) x {s} e =
+    held (variableNamed (k .fields) x) e (λ n z. stands-before (k .fields) (field-stands ks x z)) (λ r q z.
+    let w : moved (length (layout ks)) r ≡ s = cc in
+    subst (Stands (layout ks ++ k .fields)) w (stands-after (layout ks) (variable-stands (k .fields) x q)))
+
 -- the class's own field, else what the classes above give
 field-either : {G : List Class} {c x : List ℕ} {k : Class} {s : Slot} (n : ℕ) (above : Option Slot) → classNamed G c ≡ some k
     → (variableNamed (k .fields) x ≡ none → above ≡ some s → HasField G c x (s .type))
     → option (variableNamed (k .fields) x) above (λ s. some (moved n s)) ≡ some s → HasField G c x (s .type)
-field-either {G} {c} {x} {k} {s} n above e f h = go (held (variableNamed (k .fields) x) _ _ h)
-  where
-    go : Held (variableNamed (k .fields) x) above (λ s. some (moved n s)) (some s) → HasField G c x (s .type)
-    go (held-none q r) = f q r
-    go (held-some r q z) = let y : moved n r ≡ s = cc in own-field e q (ap (λ (s : Slot). s .type) y)
+field-either {x = x} {k = k} {s = s} n above e f h =
+    held (variableNamed (k .fields) x) h f (λ r q z. let y : moved n r ≡ s = cc in own-field e q (ap (λ (s : Slot). s .type) y))
 
 pub field-found : {G : List Class} {c : List ℕ} {ks : List Class} (x : List ℕ) {s : Slot} → Chain G c ks → nearestField ks x ≡ some s → HasField G c x (s .type)
 unfolding nearestField
@@ -187,24 +208,29 @@ field-nearest l (inherited-field {x = z} e x y h) =
 
 pub meaning-has : {G : List Class} → Acyclic G → (Γ : Context) (x : List ℕ) {m : Meaning} → meaning G Γ x ≡ some m → HasName G Γ x (meaningType m)
 unfolding meaning
-meaning-has {G} A Γ x {m} h = go (held (variableNamed (Γ .variables) x) _ _ h)
-  where
-    in-object : variableNamed (Γ .variables) x ≡ none → (c : List ℕ) → Γ .owner ≡ some c
-        → Held (nearestField (chain G c) x) none (λ s. some (ofObject s)) (some m) → HasName G Γ x (meaningType m)
-    in-object n c o (held-none q r) = absurd (none-some refl r)
-    in-object n c o (held-some s q r) = let z : ofObject s ≡ m = cc in rw (← z) (of-field n o (field-found x (chain-is A c) q))
+meaning-has {G} A Γ x {m} h =
+    held (variableNamed (Γ .variables) x) h
+    (λ n r. held (Γ .owner) r (λ _ q. absurd (none-some refl q)) (λ c o q.
+    held (nearestField (chain G c) x) q (λ _ i. absurd (none-some refl i)) (λ s f i.
+    let z : ofObject s ≡ m = cc in
+    rw (← z) (of-field n o (field-found x (chain-is A c) f)))))
+    (λ s q r. let z : ofRow s ≡ m = cc in rw (← z) (of-variable q refl))
 
-    outside : variableNamed (Γ .variables) x ≡ none
-        → Held (Γ .owner) none (λ c. option (nearestField (chain G c) x) none λ s. some (ofObject s)) (some m) → HasName G Γ x (meaningType m)
-    outside n (held-none q r) = absurd (none-some refl r)
-    outside n (held-some c q r) = in-object n c q (held (nearestField (chain G c) x) _ _ r)
+-- where the value of a name is kept: at a place among the variables, or among the fields of the declaring class
+pub data NameAt (G : List Class) (Γ : Context) (x : List ℕ) (t : Ty) : Type 0 where
+  in-row : (s : Slot) → meaning G Γ x ≡ some (ofRow s) → Stands (Γ .variables) s → s .type ≡ t → NameAt G Γ x t
+  in-object : (c : List ℕ) (s : Slot) → Γ .owner ≡ some c → meaning G Γ x ≡ some (ofObject s) → Stands (fieldsOf G c) s → s .type ≡ t → NameAt G Γ x t
 
-    go : Held (variableNamed (Γ .variables) x) (option (Γ .owner) none λ c. option (nearestField (chain G c) x) none λ s. some (ofObject s)) (λ s. some (ofRow s)) (some m)
-        → HasName G Γ x (meaningType m)
-    go (held-none q r) = outside q (held (Γ .owner) _ _ r)
-    go (held-some s q r) = let z : ofRow s ≡ m = cc in rw (← z) (of-variable q refl)
+pub name-at : {G : List Class} {Γ : Context} {x : List ℕ} {t : Ty} → Acyclic G → HasName G Γ x t → NameAt G Γ x t
+unfolding meaning fieldsOf
+name-at {Γ = Γ} {x = x} A (of-variable {s = s} e q) = in-row s (rw e) (variable-stands (Γ .variables) x e) q
+name-at {G} {x = x} A (of-field {c = c} e o h) =
+    let f = field-nearest (chain-is A c) h in
+    in-object c (f .0) o (rw (e, o, f .1)) (field-stands (chain G c) x (f .1)) (f .2)
 
 pub has-meaning : {G : List Class} {Γ : Context} {x : List ℕ} {t : Ty} → Acyclic G → HasName G Γ x t → (m : Meaning) × (meaning G Γ x ≡ some m) × (meaningType m ≡ t)
-unfolding meaning
-has-meaning A (of-variable {s = s} e q) = (ofRow s, rw e, q)
-has-meaning A (of-field {c = c} e o h) = let f = field-nearest (chain-is A c) h in (ofObject (f .0), rw (e, o, f .1), f .2)
+has-meaning {G} {Γ} {x} {t} A h = go (name-at A h)
+  where
+    go : NameAt G Γ x t → (m : Meaning) × (meaning G Γ x ≡ some m) × (meaningType m ≡ t)
+    go (in-row s e w q) = (ofRow s, e, q)
+    go (in-object c s o e w q) = (ofObject s, e, q)

@@ -16,7 +16,7 @@ use Rattle.checker.specs.Declarations.{occurs, textOf, distinctClasses, knownPa
 use Rattle.checker.specs.Check.{body, bodies, classBodies, allBodies, Verdict, Verdict.accept, unlessRefused, unlessEndless, judged}
 use Rattle.checker.specs.Typing.{Extends, extends, Ends, Distinct, distinct-more, Known, MethodTyped, ClassTyped, ProgramTyped, methodName, className}
 use Rattle.typing.specs.Tests.{same-refl, same-sym}
-use Rattle.typing.specs.Choices.{Taken, taken-then, taken-else, taken, none-some, bound, present, failed, each-sound, each-complete, bind-assoc}
+use Rattle.typing.specs.Choices.{taken, none-some, bound, present, failed, each-sound, each-complete, bind-assoc}
 use Rattle.typing.specs.Chains.{known-found, found-known, class-name, all-classes, Acyclic, ends-within, within-ends}
 use Rattle.typing.specs.Judging.{sound, complete-statement}
 use Rattle.typing.specs.Distinctness.{all-zip, all-unmap, occurs-not, distinct-rest, Fresh, fresh-none, fresh-more, fresh-distinct, distinct-fresh, unused-nil}
@@ -85,13 +85,8 @@ module _ (G : List Class) where
   pub endless-none : (ks : List Class) → endless G ks ≡ [] → All (λ (k : Class). endsWithin (length G) G (className k) ≡ true) ks
   unfolding endless
   endless-none [] h = all-nil
-  endless-none (k ∷ ks) h = go (endless-none ks) (taken (endsWithin (length G) G (className k)) _ _ h)
-    where
-      go : (endless G ks ≡ [] → All (λ (k : Class). endsWithin (length G) G (className k) ≡ true) ks)
-          → Taken (endsWithin (length G) G (className k)) (endless G ks) (k .name .start ∷ endless G ks) []
-          → All (λ (k : Class). endsWithin (length G) G (className k) ≡ true) (k ∷ ks)
-      go ih (taken-then e q) = all-cons e (ih q)
-      go ih (taken-else e q) = absurd (let z : _≡_ {A = ℕ} 0 1 = cc in omega arith)
+  endless-none (k ∷ ks) h =
+      taken (endsWithin (length G) G (className k)) _ _ h (λ e q. all-cons e (endless-none ks q)) (λ e q. absurd (let z : _≡_ {A = ℕ} 0 1 = cc in omega arith))
 
   none-endless : {ks : List Class} → All (λ (k : Class). Ends G (className k)) ks → endless G ks ≡ []
   unfolding endless
@@ -179,7 +174,7 @@ module _ {G : List Class} (A : Acyclic G) where
 -- PROGRAMS
 
 -- an accepted check has passed each of its tests
-unrefused : {A : Type 0} (x : Outcome A) (k : A → Verdict) {q : Program} → unlessRefused x k ≡ accept q → (a : A) × (x ≡ accepted a) × (k a ≡ accept q)
+pub unrefused : {A : Type 0} (x : Outcome A) (k : A → Verdict) {q : Program} → unlessRefused x k ≡ accept q → (a : A) × (x ≡ accepted a) × (k a ≡ accept q)
 unrefused (accepted a) k e = (a, refl, e)
 unrefused (refused n p) k e = absurd (let z : _≡_ {A = ℕ} 0 1 = cc in omega arith)
 
