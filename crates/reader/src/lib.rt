@@ -1,1 +1,3 @@
-// Definitions only so far, in specs/: what the work table holds after reading.
+// From bytes to the tree in the work table, and the operation Read.
+pub mod read;
+pub mod walk;

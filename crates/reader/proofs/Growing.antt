@@ -1,0 +1,197 @@
+-- What each return of the functions of Read shows, from what the lexer, the parser and the walk ensure.
+use Prim.Native.Nat.{ℕ, _+_, _≤_, _<_}
+use mathlib.Core.Path.{_≡_, refl, sym, ap, _∙_, subst}
+use mathlib.Core.List.{List}
+use mathlib.Core.Option.{Option, none, some}
+use native.Mathlib.Omega.{arith}
+use native.Mathlib.Decide.{decLt}
+use lib.ListN.{length, getD, replicate}
+use lib.Seq.{getD-take}
+use lib.Dec.{ltb}
+use borrow.Author.Tests.{lt-ltb, le-ltb}
+use Rattle.base.specs.Choice.{if_then_else_, option}
+use Rattle.base.specs.Codes.{sourceMost, sourceTooLong, notInGrammar, tooDeep}
+use Rattle.base.specs.Lists.{get-below, getD-get, get-getD}
+use Rattle.base.specs.Outcome.{Outcome, accepted, refused}
+use Rattle.base.specs.Table.{cell, col}
+use Rattle.lexer.specs.Kinds.{isName}
+use Rattle.lexer.specs.Tokens.{Token, tokens}
+use Rattle.lexer.specs.declared.Lexed.{Lexed}
+use Rattle.lexer.specs.declared.Lexed.the-variants.{Tokens}
+use Rattle.lexer.specs.Rows.{Rows, RowOf, Answers as Lexes}
+use Rattle.lexer.specs.RowLaws.{starts-increase, accepted-of-answer, refused-of-answer}
+use Rattle.parser.specs.declared.answer.Answer.{Answer}
+use Rattle.parser.specs.declared.answer.Answer.the-variants.{At, Bad}
+use Rattle.parser.specs.Tree.{Program}
+use Rattle.parser.specs.Stream.{startAt, tokenAt, noMore}
+use Rattle.parser.specs.Grammar.{DerivesProgram}
+use Rattle.parser.specs.Layout.{given, storeProgram}
+use Rattle.parser.specs.Measure.{programNodes, programDeep}
+use Rattle.parser.specs.Parse.{bad, ok, parse}
+use Rattle.parser.specs.Post.{TokensIn}
+use Rattle.parser.specs.DeclarationPost.{ProgramPost}
+use Rattle.parser.specs.Read.{Reading, positionOf, reading, readAnswer, read, tableAfter, Reads}
+use Rattle.grammar.specs.Agreement.{sound}
+use Rattle.reader.specs.declared.read.Filled.{Filled}
+use Rattle.reader.specs.declared.read.Filled.the-variants.{Tree, Refused}
+use Rattle.reader.specs.declared.walk.Walked.{Walked}
+use Rattle.reader.specs.Holds.{HoldsProgram}
+use Rattle.reader.specs.Matches.{ProgramMatches}
+use Rattle.reader.specs.Filled.{matches, holds as holds-stored}
+use Rattle.reader.specs.Order.{Rising, program-order}
+use Rattle.reader.specs.ReadingLaws.{too-long, not-lexed, not-parsed, not-shallow, read-well, proper, tokens-in, ParsedTo, parsed-at, refused-at}
+use Rattle.reader.specs.ReadPost.{Filling, Fills, GrowPost, MeasurePost, placeIn}
+use Rattle.reader.specs.WalkPost.{Found, WalksProgram, nowhere}
+
+-- THE TABLE AFTER THE PARSER
+
+-- the token columns are kept
+same-col : (T T′ : List ℕ) (k i : ℕ) → given T′ ≡ given T → cell k i < 6144 → col T′ k i ≡ col T k i
+unfolding given col
+same-col T T′ k i e h = sym (getD-take 6144 T′ (cell k i) 0 h) ∙ ap (λ (l : List ℕ). getD l (cell k i) 0) e ∙ getD-take 6144 T (cell k i) 0 h
+
+rows-kept : (T T′ : List ℕ) (ts : List Token) → length ts ≤ 2048 → given T′ ≡ given T → Rows T ts → Rows T′ ts
+rows-kept T T′ ts few e h i t g =
+    let l = get-below ts i g in
+    let r = h i t g in
+    record {
+      kind = same-col T T′ 0 i e (omega arith) ∙ r .kind;
+      start = same-col T T′ 1 i e (omega arith) ∙ r .start;
+      name = λ n. same-col T T′ 2 i e (omega arith) ∙ r .name n;
+      literal = λ n. same-col T T′ 2 i e (omega arith) ∙ r .literal n;
+    }
+
+rising : (s : List ℕ) (ts : List Token) → tokens s ≡ accepted ts → Rising ts
+rising s ts e i j le l = elim (decLt i j) [
+  | yes lt ↦ omega (arith, starts-increase s ts e i j (tokenAt ts i) (tokenAt ts j) lt (get-getD ts i noMore (omega arith)) (get-getD ts j noMore l))
+  | no ge ↦ let z : i ≡ j = omega arith in subst (λ (x : ℕ). startAt ts i ≤ startAt ts x) z (omega arith)
+]
+
+-- THE WALK'S ANSWER
+module _ {tab : List ℕ} {n : ℕ} {w : Walked} (h : WalksProgram tab n w) where
+  answered : (p : Program) → Found (programDeep p) (w .place) × (programDeep p ≡ none → w .count ≡ programNodes p) → (a : Filled)
+      → (w .place < nowhere → a ≡ Refused tooDeep (w .place)) → (nowhere ≤ w .place → a ≡ Tree n (w .count))
+      → a ≡ option (programDeep p) (Tree n (programNodes p)) (λ at. Refused tooDeep at)
+  answered p r a deep well = go (programDeep p) refl (r .0)
+    where
+      go : (o : Option ℕ) → programDeep p ≡ o → Found o (w .place) → a ≡ option o (Tree n (programNodes p)) (λ at. Refused tooDeep at)
+      go none d f = well (omega arith) ∙ ap (Tree n) (r .1 d)
+      go (some at) d f = deep (omega (arith, f)) ∙ ap (Refused tooDeep) (f .0)
+
+  pub too-deep : w .place < 4294967296 → MeasurePost tab n (Refused 17 (w .place))
+  too-deep l = record { says = λ ts t p holds matches ordered. answered p (h .says ts t p holds matches ordered) _ (λ _. refl) (λ g. absurd (omega arith)) }
+
+  pub deep-enough : 4294967296 ≤ w .place → MeasurePost tab n (Tree n (w .count))
+  deep-enough l = record { says = λ ts t p holds matches ordered. answered p (h .says ts t p holds matches ordered) _ (λ g. absurd (omega arith)) (λ _. refl) }
+
+-- FROM TOKENS TO THE TREE
+
+-- what the last stage answered is what reading answers
+filled : (s : List ℕ) (ts : List Token) → length s ≤ sourceMost → tokens s ≡ accepted ts → (j : ℕ) (p : Program) → parse ts ≡ ok p j → {a : Filled} {tab : List ℕ}
+    → a ≡ option (programDeep p) (Tree (length ts) (programNodes p)) (λ at. Refused tooDeep at)
+    → Filling tab (record { stream = ts; tree = p }) → Fills (reading s) a tab
+filled s ts short lexed j p q {a} {tab} is f = go (programDeep p) refl is
+  where
+    go : (o : Option ℕ) → programDeep p ≡ o → a ≡ option o (Tree (length ts) (programNodes p)) (λ at. Refused tooDeep at) → Fills (reading s) a tab
+    go none d e =
+        subst (λ (o : Outcome Reading). Fills o a tab) (sym (read-well s short ts lexed p j q d)) (e, f)
+    go (some at) d e = subst (λ (o : Outcome Reading). Fills o a tab) (sym (not-shallow s short ts lexed p j at q d)) e
+
+-- the parser's contract for the tokens of a source
+at-tokens : {T : List ℕ} {n : ℕ} (ts : List Token) → length ts ≡ n → Rows T ts → TokensIn T n ts
+at-tokens {T} ts e h = subst (λ (m : ℕ). TokensIn T m ts) e (tokens-in T ts h)
+
+at-answer : {n : ℕ} {T T₁ : List ℕ} {r₁ r : Answer} → r₁ ≡ r → ProgramPost n T r₁ T₁ → ProgramPost n T r T₁
+at-answer {n} {T} {T₁} e p = subst (λ (r : Answer). ProgramPost n T r T₁) e p
+
+module _ {n size : ℕ} {T T₁ : List ℕ} {r₁ : Answer} (p : ProgramPost n T r₁ T₁) (few : n ≤ 2048) where
+  place-of : (s : List ℕ) (ts : List Token) (k v : ℕ) → length s ≡ size → length ts ≡ n → Rows T ts → v ≡ placeIn T₁ n k size → v ≡ positionOf s ts k
+  unfolding placeIn
+  place-of s ts k v es en h ev = ev ∙ elim (decLt k n) [
+    | yes l ↦
+        let l₂ : k < length ts = omega arith in
+        simp (lt-ltb k n l, lt-ltb k (length ts) l₂)
+        (same-col T T₁ 1 k (p .kept) (omega arith) ∙ h k (tokenAt ts k) (get-getD ts k noMore l₂) .start)
+    | no l ↦ simp (le-ltb k n (omega arith), le-ltb k (length ts) (omega arith)) (sym es)
+  ]
+
+  pub grow-bad : {k v : ℕ} → r₁ ≡ Bad k → v ≡ placeIn T₁ n k size → GrowPost n size T (Refused 16 v) T₁
+  grow-bad {k} {v} e ev =
+      record {
+        says = λ s ts es short lexed en h.
+            let b = refused-at (at-tokens ts en h) (at-answer e p) in
+            subst (λ (o : Outcome Reading). Fills o (Refused 16 v) T₁) (sym (not-parsed s short ts lexed k b)) (ap (Refused 16) (place-of s ts k v es en h ev));
+      }
+
+  pub grow-at : {x j : ℕ} {a : Filled} → 16384 ≤ length T → r₁ ≡ At x j → MeasurePost T₁ n a → GrowPost n size T a T₁
+  grow-at {x} {j} {a} big e m =
+      record {
+        says = λ s ts es short lexed en h.
+            let t = at-tokens ts en h in
+            let q = parsed-at t (at-answer e p) in
+            let d = sound ts (proper s ts lexed) (q .tree) j (q .parsed) .0 in
+            let f : length ts ≤ 2048 = omega arith in
+            let holds : HoldsProgram T₁ (q .tree) = subst (λ (u : List ℕ). HoldsProgram u (q .tree)) (sym (q .stored)) (holds-stored ts (q .tree) d f T big) in
+            let rows = rows-kept T T₁ ts f (p .kept) h in
+            let is = m .says ts (at-tokens ts en rows) (q .tree) holds (matches ts (q .tree) d) (program-order ts f (rising s ts lexed) d) in
+            filled s ts short lexed j (q .tree) (q .parsed) (subst (λ (z : ℕ). a ≡ option (programDeep (q .tree)) (Tree z (programNodes (q .tree))) (λ at. Refused tooDeep at)) (sym en) is)
+            (record { rows = rows; few = f; holds = holds; derived = d });
+      }
+
+-- FROM BYTES
+pub fill-long : (s T : List ℕ) → 16384 < length s → Fills (reading s) (Refused 10 0) T
+fill-long s T l = subst (λ (o : Outcome Reading). Fills o (Refused 10 0) T) (sym (too-long s l)) refl
+
+module _ (s T : List ℕ) (l : Lexed) (short : length s ≤ 16384) (h : Lexes (tokens s) l T) where
+  at-lexed : {l₂ : Lexed} → l ≡ l₂ → Lexes (tokens s) l₂ T
+  at-lexed e = subst (λ (x : Lexed). Lexes (tokens s) x T) e h
+
+  pub fill-tokens : {n : ℕ} {a : Filled} {T₁ : List ℕ} → l ≡ Tokens n → GrowPost n (length s) T a T₁ → Fills (reading s) a T₁
+  fill-tokens e g = let x = accepted-of-answer (tokens s) T (at-lexed e) in g .says s (x .items) refl short (x .is) (sym (x .count)) (x .rows)
+
+  pub fill-refused : {m p : ℕ} → l ≡ Lexed.Refused m p → Fills (reading s) (Refused m p) T
+  fill-refused {m} {p} e =
+      subst (λ (o : Outcome Reading). Fills o (Refused m p) T) (sym (not-lexed s short (refused-of-answer (tokens s) T (at-lexed e)))) refl
+
+-- the number of tokens that the lexer answers
+pub lexed-few : (s T : List ℕ) {l : Lexed} {n : ℕ} → Lexes (tokens s) l T → l ≡ Tokens n → n ≤ 2048
+lexed-few s T h e =
+    let x = accepted-of-answer (tokens s) T (subst (λ (y : Lexed). Lexes (tokens s) y T) e h) in omega (arith, x .few, x .count)
+
+-- READ
+pub read-short : (s T : List ℕ) → length T < 16384 → Reads s T (record { number = 1; position = 0; tokens = 0; nodes = 0 }) T
+unfolding read tableAfter
+read-short s T l = record { answer = simp (lt-ltb (length T) 16384 l); table = simp (lt-ltb (length T) 16384 l) }
+
+module _ (s T T₁ T₂ : List ℕ) (a : Filled) (big : 16384 ≤ length T) (same : length T₁ ≡ length T) (f : Fills (reading s) a T₁)
+    (e : T₂ ≡ replicate (length T₁) 0) where
+  answers : (n p t k : ℕ) → readAnswer (reading s) ≡ record { number = n; position = p; tokens = t; nodes = k }
+      → Reads s T (record { number = n; position = p; tokens = t; nodes = k }) T₂
+  unfolding read tableAfter
+  answers n p t k r =
+      record {
+        answer = simp (le-ltb (length T) 16384 big) (sym r);
+        table = simp (le-ltb (length T) 16384 big) (e ∙ ap (λ (m : ℕ). replicate m 0) same);
+      }
+
+  pub read-tree : {t k : ℕ} → a ≡ Tree t k → Reads s T (record { number = 0; position = 0; tokens = t; nodes = k }) T₂
+  read-tree {t} {k} ea = answers 0 0 t k (go (reading s) f)
+    where
+      go : (o : Outcome Reading) → Fills o a T₁ → readAnswer o ≡ record { number = 0; position = 0; tokens = t; nodes = k }
+      go (accepted r) h =
+          let q : Tree (length (r .stream)) (programNodes (r .tree)) ≡ Tree t k = sym (h .0) ∙ ea in
+          let t′ : length (r .stream) ≡ t = cc in
+          let k′ : programNodes (r .tree) ≡ k = cc in
+          λ i. record { number = 0; position = 0; tokens = t′ i; nodes = k′ i }
+      go (refused n p) h = absurd (let q : Refused n p ≡ Tree t k = sym h ∙ ea in let z : _≡_ {A = ℕ} 0 1 = cc in omega arith)
+
+  pub read-refused : {n p : ℕ} → a ≡ Refused n p → Reads s T (record { number = n; position = p; tokens = 0; nodes = 0 }) T₂
+  read-refused {n} {p} ea = answers n p 0 0 (go (reading s) f)
+    where
+      go : (o : Outcome Reading) → Fills o a T₁ → readAnswer o ≡ record { number = n; position = p; tokens = 0; nodes = 0 }
+      go (accepted r) h = absurd (let q : Tree (length (r .stream)) (programNodes (r .tree)) ≡ Refused n p = sym (h .0) ∙ ea in let z : _≡_ {A = ℕ} 0 1 = cc in omega arith)
+      go (refused m q) h =
+          let z : Refused m q ≡ Refused n p = sym h ∙ ea in
+          let m′ : m ≡ n = cc in
+          let q′ : q ≡ p = cc in
+          λ i. record { number = m′ i; position = q′ i; tokens = 0; nodes = 0 }

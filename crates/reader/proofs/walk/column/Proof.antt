@@ -1,0 +1,32 @@
+-- `column` meets its contract: a word of the table is below 2 to the power 32.
+use Prim.Native.Nat.{_+_, _*_}
+use mathlib.Core.Path.{refl}
+use native.Mathlib.Omega.{arith}
+use Rattle.base.specs.Table.{col}
+use borrow.Author.Needs.{needs}
+use Rattle.reader.proofs.walk.column.Statement.{statement}
+use Rattle.reader.proofs.walk.column.Tie as tie
+
+mul-result : tie.Need-mul-result
+mul-result c = search needs
+
+add-result : tie.Need-add-result
+add-result c = search needs
+
+mul-result-2 : tie.Need-mul-result-2
+mul-result-2 c = search needs
+
+shared-slice-read-result : tie.Need-shared-slice-read-result
+shared-slice-read-result c = search needs
+
+cast-result : tie.Need-cast-result
+cast-result c = omega (arith, c .shared-slice-known .given (2048 * c .before .args .k + c .before .args .row))
+
+returns : tie.Need-returns
+unfolding col
+returns c = (refl, omega (arith, c .shared-slice-known .given (2048 * c .before .args .k + c .before .args .row)))
+
+pub column-spec : {M : Type 1} → statement M
+column-spec =
+    tie.close
+    (tie.spec mul-result add-result mul-result-2 shared-slice-read-result cast-result returns)

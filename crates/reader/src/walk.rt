@@ -1,0 +1,178 @@
+// The walk over the tree in the work table: how many nodes there are, and the smallest position of a node that is too deep. A row's first two parts lie in columns 4 and 5,
+// and only three kinds of nodes tell more: a block's first part and a call's second are lists, linked by column 6, and an `if` has a third part, in column 7.
+use parser::kinds::DOT;
+use parser::kinds::IF;
+use parser::kinds::OPEN_BRACE;
+use parser::table::kind;
+ghost use mathlib.Core.Path.{_≡_};
+ghost use mathlib.Core.Bool.{false};
+ghost use Prim.Native.Nat.{_+_, _<_, _≤_, min};
+ghost use lib.ListN.{length};
+ghost use Rattle.base.specs.Table as Table;
+ghost use Rattle.reader.specs.WalkPost.{Walkable, Walks, WalksMethods, WalksClasses, WalksProgram};
+
+// The number of nodes, 65,535 where there are more; and the smallest position of a node that is too deep, 4,294,967,296 where none is.
+pub struct Walked {
+    pub count: usize,
+    pub place: usize,
+}
+
+const COUNT_MOST: usize = 65535;
+
+const NOWHERE: usize = 4294967296;
+
+const DEPTH_MOST: usize = 64;
+
+const ABSENT: usize = 2048;
+
+const LAST: usize = 2047;
+
+// A sum, at most 65,535.
+fn sum(a: usize, b: usize) -> usize
+    ensures { λ r. ⌜ r ≡ min (a + b) 65535 ⌝ }
+{
+    if COUNT_MOST < a {
+        return COUNT_MOST;
+    }
+    if COUNT_MOST - a < b {
+        return COUNT_MOST;
+    }
+    a + b
+}
+
+fn least(a: usize, b: usize) -> usize
+    ensures { λ r. ⌜ r ≡ min a b ⌝ }
+{
+    if a < b { a } else { b }
+}
+
+// Two parts together.
+fn join(a: Walked, b: Walked) -> Walked
+    ensures { λ r. ⌜ (r .count ≡ min (a .count + b .count) 65535) × (r .place ≡ min (a .place) (b .place)) ⌝ }
+{
+    let count = sum(a.count, b.count);
+    let place = least(a.place, b.place);
+    Walked {
+        count: count,
+        place: place,
+    }
+}
+
+// A node that is not too deep, with its parts.
+fn whole(parts: Walked) -> Walked
+    ensures { λ r. ⌜ (r .count ≡ min (1 + parts .count) 65535) × (r .place ≡ parts .place) ⌝ }
+{
+    let count = sum(1, parts.count);
+    let place = parts.place;
+    Walked {
+        count: count,
+        place: place,
+    }
+}
+
+// Column k of a row.
+fn column(table: &[u32], k: usize, row: usize) -> usize
+    requires { ⌜ (16384 ≤ length (now table)) × (k < 8) × (row < 2048) ⌝ }
+    ensures { λ r. ⌜ (r ≡ Table.col (now (table .entry)) k row) × (r < 4294967296) ⌝ }
+{
+    table[2048 * k + row] as usize
+}
+
+// The part whose row this is, at depth d: a list if `chain`, and a node otherwise.
+fn part(table: &[u32], n: usize, chain: bool, row: usize, d: usize) -> Walked
+    requires { ⌜ Walkable (now table) n × (d ≤ 65) ⌝ }
+    ensures { λ r. ⌜ Walks (now (table .entry)) n chain row d r ⌝ }
+{
+    if ABSENT <= row {
+        return Walked {
+            count: 0,
+            place: NOWHERE,
+        };
+    }
+    let first = node(table, n, row, d);
+    if chain {
+        let next = column(table, 6, row);
+        if next <= row {
+            return first;
+        }
+        let rest = part(table, n, chain, next, d);
+        return join(first, rest);
+    }
+    first
+}
+
+// The node of a row, at depth d. What lies below a node that is too deep begins no earlier.
+fn node(table: &[u32], n: usize, row: usize, d: usize) -> Walked
+    requires { ⌜ Walkable (now table) n × (row < 2048) × (d ≤ 65) ⌝ }
+    ensures { λ r. ⌜ Walks (now (table .entry)) n false row d r ⌝ }
+{
+    if DEPTH_MOST < d {
+        let start = column(table, 3, row);
+        return Walked {
+            count: 1,
+            place: start,
+        };
+    }
+    let k = kind(table, n, row);
+    let a = part(table, n, k == OPEN_BRACE, column(table, 4, row), d + 1);
+    let b = part(table, n, k == DOT, column(table, 5, row), d + 1);
+    let two = join(a, b);
+    if k == IF {
+        let c = part(table, n, false, column(table, 7, row), d + 1);
+        let three = join(two, c);
+        return whole(three);
+    }
+    whole(two)
+}
+
+// The methods from this row on.
+fn methods(table: &[u32], n: usize, row: usize) -> Walked
+    requires { ⌜ Walkable (now table) n ⌝ }
+    ensures { λ r. ⌜ WalksMethods (now (table .entry)) n row r ⌝ }
+{
+    if LAST <= row {
+        return Walked {
+            count: 0,
+            place: NOWHERE,
+        };
+    }
+    let body = part(table, n, true, column(table, 4, row + 1), 1);
+    let value = part(table, n, false, column(table, 5, row + 1), 1);
+    let next = column(table, 6, row);
+    if next <= row {
+        return body;
+    }
+    let rest = methods(table, n, next);
+    let after = join(value, rest);
+    join(body, after)
+}
+
+// The classes from this row on.
+fn classes(table: &[u32], n: usize, row: usize) -> Walked
+    requires { ⌜ Walkable (now table) n ⌝ }
+    ensures { λ r. ⌜ WalksClasses (now (table .entry)) n row r ⌝ }
+{
+    if ABSENT <= row {
+        return Walked {
+            count: 0,
+            place: NOWHERE,
+        };
+    }
+    let own = methods(table, n, column(table, 5, row));
+    let next = column(table, 6, row);
+    if next <= row {
+        return own;
+    }
+    let rest = classes(table, n, next);
+    join(own, rest)
+}
+
+// The whole program: main's statement is in row 14, the first class in column 6 of row 0.
+pub fn program(table: &[u32], n: usize) -> Walked
+    requires { ⌜ Walkable (now table) n ⌝ }
+    ensures { λ r. ⌜ WalksProgram (now (table .entry)) n r ⌝ }
+{
+    let main = part(table, n, false, 14, 1);
+    let rest = classes(table, n, column(table, 6, 0));
+    join(main, rest)
+}
