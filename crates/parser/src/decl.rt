@@ -28,7 +28,8 @@ ghost use Prim.Native.Nat.{_+_, _<_, _≤_};
 ghost use lib.ListN.{length};
 ghost use Rattle.parser.specs.Layout.{methodRow, classRow};
 ghost use Rattle.parser.specs.Post.{Ready, kindIn};
-ghost use Rattle.parser.specs.DeclarationPost.{DeclPost, LocalsPost, BodyPost, ReturnedPost, MembersPost, ClassMethodsPost, ProgramPost, aType, aVariable, variableList, parameterList, formals, aMethod, methodList, aParent, aClass, classList, startsVariable, EndsThere};
+ghost use Rattle.parser.specs.DeclarationPost.{DeclPost, LocalsPost, BodyPost, ReturnedPost, MembersPost, ClassMethodsPost, ProgramPost, startsVariable, EndsThere};
+ghost use Rattle.parser.specs.DeclarationPost.{aType, aVariable, variableList, parameterList, formals, aMethod, methodList, aParent, aClass, classList};
 
 // A type; its row is that of its first token.
 fn type_use(table: &[u32], n: usize, i: usize) -> Answer
@@ -321,6 +322,7 @@ fn parent(table: &[u32], n: usize, i: usize) -> Answer
     Answer::At(2048, i)
 }
 
+// A class, from `class` to its `}`.
 fn class(table: &mut [u32], n: usize, i: usize) -> Answer
     requires { ⌜ Ready (now table) n i ⌝ }
     ensures { λ r. ⌜ DeclPost aClass n i (now (table .entry)) r (now (table .exit)) ⌝ }

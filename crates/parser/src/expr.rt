@@ -75,6 +75,7 @@ fn operations(
     }
 }
 
+// Any number of `!`, and a postfix expression.
 fn unary(table: &mut [u32], n: usize, i: usize) -> Answer
     requires { ⌜ Ready (now table) n i ⌝ }
     ensures { λ r. ⌜ ModePost Parse.unary n n i (now (table .entry)) r (now (table .exit)) ⌝ }
@@ -212,6 +213,7 @@ fn call(table: &mut [u32], n: usize, indexable: bool, first: usize, left: usize,
     Answer::Bad(i + 1)
 }
 
+// A literal, a truth value, a name, `this`, `new C()` or an expression in parentheses.
 fn primary(table: &mut [u32], n: usize, i: usize) -> Answer
     requires { ⌜ Ready (now table) n i ⌝ }
     ensures { λ r. ⌜ ModePost Parse.primary n n i (now (table .entry)) r (now (table .exit)) ⌝ }

@@ -26,6 +26,7 @@ ghost use Rattle.lexer.specs.Kinds.{isName};
 ghost use Rattle.parser.specs.Parse.{aStatement};
 ghost use Rattle.parser.specs.Post.{Ready, ModePost, ListPost, TailPost, branching, repeating, kindIn};
 
+// One statement.
 pub fn single(table: &mut [u32], n: usize, i: usize) -> Answer
     requires { ⌜ Ready (now table) n i ⌝ }
     ensures { λ r. ⌜ ModePost aStatement n n i (now (table .entry)) r (now (table .exit)) ⌝ }
