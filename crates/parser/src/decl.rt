@@ -28,7 +28,8 @@ ghost use Prim.Native.Nat.{_+_, _<_, _≤_};
 ghost use lib.ListN.{length};
 ghost use Rattle.parser.specs.Layout.{methodRow, classRow};
 ghost use Rattle.parser.specs.Post.{Ready, kindIn};
-ghost use Rattle.parser.specs.DeclarationPost.{DeclPost, LocalsPost, BodyPost, ReturnedPost, MembersPost, ClassMethodsPost, ProgramPost, startsVariable, EndsThere};
+ghost use Rattle.parser.specs.DeclarationPost.{DeclPost, LocalsPost, BodyPost, ReturnedPost, MembersPost, ClassMethodsPost, ProgramPost};
+ghost use Rattle.parser.specs.DeclarationPost.{startsVariable, EndsThere};
 ghost use Rattle.parser.specs.DeclarationPost.{aType, aVariable, variableList, parameterList, formals, aMethod, methodList, aParent, aClass, classList};
 
 // A type; its row is that of its first token.

@@ -7,19 +7,16 @@ use mathlib.Core.Option.{Option, none}
 use native.Mathlib.Omega.{arith}
 use Rattle.base.specs.Table.{col}
 use Rattle.lexer.specs.Tokens.{Token}
-use Rattle.parser.specs.Tree.{Sort, Part, Method, Class, Program}
+use Rattle.parser.specs.Tree.{Method, Class}
 use Rattle.parser.specs.Layout.{absent, rowMethods, rowClasses}
 use Rattle.parser.specs.Measure.{methodsNodes, methodsDeep, classesNodes, classesDeep, programNodes, programDeep}
 use Rattle.parser.specs.Post.{TokensIn}
-use Rattle.reader.specs.Holds.{Holds, HoldsMethods, HoldsClasses, HoldsProgram}
-use Rattle.reader.specs.Matches.{Matches, MethodsMatch, ClassesMatch, ProgramMatches}
-use Rattle.reader.specs.WalkPost.{Ordered, MethodsOrdered, ClassesOrdered, nowhere, countMost, Found, Answers, Walkable, listed, Sound, Walks, WalksMethods, WalksClasses, WalksProgram}
+use Rattle.reader.specs.Holds.{HoldsMethods, HoldsClasses}
+use Rattle.reader.specs.Matches.{MethodsMatch, ClassesMatch}
+use Rattle.reader.specs.WalkPost.{MethodsOrdered, ClassesOrdered, nowhere, countMost, Found, Answers, Walkable, Walks, WalksMethods, WalksClasses, WalksProgram}
 use Rattle.reader.specs.declared.walk.Walked.{Walked}
 use Rattle.reader.proofs.Depths.{Joins, nothing, joined, same-answer}
-
--- the part of a declaration, whose sort is known
-sound : {tab : List ℕ} {ts : List Token} {s : Sort} {t : Part s} → Holds tab t → Matches ts t → Ordered 0 t → Sound tab ts 0 (listed s) t
-sound h m o = record { chained = λ _. refl; holds = h; matches = m; ordered = o }
+use Rattle.reader.proofs.Nodes.{sound}
 
 -- METHODS
 
@@ -54,8 +51,8 @@ module _ {tab : List ℕ} {n row : ℕ} {w : Walked} where
         go ts tok [] e h m o = absurd (omega arith)
         go ts tok (x ∷ xs) e h m o =
             same-answer refl (omega arith)
-            (joined (f .says ts tok (x .body) 0 (sym (h .0 .start) ∙ ap (λ (i : ℕ). col tab 4 (i + 1)) e ∙ sym l) (sound (h .0 .body) (m .0 .body) (o .1)))
-            (joined (g .says ts tok (x .value) 0 (sym (h .0 .return) ∙ ap (λ (i : ℕ). col tab 5 (i + 1)) e ∙ sym r) (sound (h .0 .value) (m .0 .value) (o .2)))
+            (joined (f .says ts tok (x .body) 0 (sym (h .0 .start) ∙ ap (λ (i : ℕ). col tab 4 (i + 1)) e ∙ sym l) (sound refl (h .0 .body) (m .0 .body) (o .1)))
+            (joined (g .says ts tok (x .value) 0 (sym (h .0 .return) ∙ ap (λ (i : ℕ). col tab 5 (i + 1)) e ∙ sym r) (sound refl (h .0 .value) (m .0 .value) (o .2)))
             (k .says ts tok xs (sym (h .1) ∙ ap (col tab 6) e ∙ sym column) (h .2) (m .1) (o .3)) j) i)
 
 -- CLASSES
@@ -104,6 +101,6 @@ program-whole f e g j =
     record {
       says = λ ts tok p h m o.
           exactly (o .few)
-          (joined (f .says ts tok (p .statement) 0 (o .row) (sound (h .statement) (m .statement) (o .statement)))
+          (joined (f .says ts tok (p .statement) 0 (o .row) (sound refl (h .statement) (m .statement) (o .statement)))
           (g .says ts tok (p .classes) (sym (h .first) ∙ sym e) (h .classes) (m .classes) (o .classes)) j);
     }

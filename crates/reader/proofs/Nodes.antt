@@ -1,13 +1,13 @@
 -- A node of any kind taken apart as the code takes it: up to three parts, of which those that it lacks are empty lists, and the columns in which they lie.
-use Prim.Native.Nat.{ℕ, _+_, _≤_, _<_}
+use Prim.Native.Nat.{ℕ, _+_}
 use mathlib.Core.Path.{_≡_, refl, sym, ap, _∙_}
 use mathlib.Core.List.{List}
 use mathlib.Core.Logic.{_≢_}
-use mathlib.Core.Bool.{Bool, true, false, _&&_}
-use mathlib.Core.Option.{Option, none}
+use mathlib.Core.Bool.{Bool, true, false}
+use mathlib.Core.Option.{none}
 use native.Mathlib.Omega.{arith}
-use lib.Dec.{eqb, leb, lit<}
-use borrow.Author.Tests.{ne-eqb, eqb-false, leb-true}
+use lib.Dec.{eqb}
+use borrow.Author.Tests.{eqb-false}
 use Rattle.base.specs.Table.{col}
 use Rattle.lexer.specs.Kinds.{kDot, kIf, kOpenBrace, isName}
 use Rattle.lexer.specs.Tokens.{Token}
@@ -17,6 +17,7 @@ use Rattle.parser.specs.Tree.{Part.block, Part.conditional, Part.loop, Part.pri
 use Rattle.parser.specs.Stream.{kindAt}
 use Rattle.parser.specs.Layout.{absent, rowOf}
 use Rattle.parser.specs.Measure.{nodes, least, deepHere, deep}
+use Rattle.grammar.specs.Reads as Reads
 use Rattle.reader.specs.Holds.{NodeRow, Holds}
 use Rattle.reader.specs.Matches.{truthKind, operatorKind, Matches}
 use Rattle.reader.specs.WalkPost.{Ordered, listed, Sound}
@@ -24,20 +25,13 @@ use Rattle.reader.proofs.Depths.{least-assoc, least-absent}
 
 -- KINDS
 
-name-small : (k : ℕ) → isName k ≡ true → k ≤ 3
-unfolding isName
-name-small k e = leb-true k 3 (last (leb 1 k) (leb k 3) e)
-  where
-    last : (a b : Bool) → (a && b) ≡ true → b ≡ true
-    last true b e = e
-    last false b e = let z : _≡_ {A = ℕ} 0 1 = cc in absurd (omega arith)
-
--- whether a kind is another, where it is known or that of a name
+-- whether a kind is another, where it is known, that of a name, of an operator or of a truth value
 known : {k q : ℕ} (r : ℕ) → k ≡ q → eqb q r ≡ eqb k r
 known r e = sym (ap (λ (x : ℕ). eqb x r) e)
 
-named : (k r : ℕ) → 3 < r → isName k ≡ true → false ≡ eqb k r
-named k r h e = sym (ne-eqb k r (λ q. omega (arith, name-small k e)))
+name-kinds : (k : ℕ) → isName k ≡ true → (false ≡ eqb k kIf) × (false ≡ eqb k kOpenBrace) × (false ≡ eqb k kDot)
+unfolding isName
+name-kinds k e = (sym (Reads.apart isName k kIf e refl), sym (Reads.apart isName k kOpenBrace e refl), sym (Reads.apart isName k kDot e refl))
 
 operator-kinds : (o : Operator) → (false ≡ eqb (operatorKind o) kIf) × (false ≡ eqb (operatorKind o) kOpenBrace) × (false ≡ eqb (operatorKind o) kDot)
 operator-kinds and = (refl, refl, refl)
@@ -63,6 +57,7 @@ no-depth : (d : ℕ) → deep d noArguments ≡ none
 unfolding deep
 no-depth d = refl
 
+-- where a node begins, its three parts, where they lie, and what it is made of
 pub record Apart (tab : List ℕ) (ts : List Token) {s : Sort} (t : Part s) : Type 0 where
   pub place : Place
   pub s₁ : Sort
@@ -88,10 +83,11 @@ module _ {tab : List ℕ} {ts : List Token} where
   unfolding Holds Matches Ordered
   empty low chain = record { chained = λ h. absurd (omega arith); holds = tt; matches = tt; ordered = tt }
 
-  -- a part of a sort that the token's kind tells
-  sound : {s : Sort} {t : Part s} {low : ℕ} {chain : Bool} → listed s ≡ chain → Holds tab t → Matches ts t → Ordered low t → Sound tab ts low chain t
+  -- a part of a known sort
+  pub sound : {s : Sort} {t : Part s} {low : ℕ} {chain : Bool} → listed s ≡ chain → Holds tab t → Matches ts t → Ordered low t → Sound tab ts low chain t
   sound e h m o = record { chained = λ _. e; holds = h; matches = m; ordered = o }
 
+  -- a node of two parts, of one, of none
   two : {s s₁ s₂ : Sort} (t : Part s) (p : Place) (t₁ : Part s₁) (t₂ : Part s₂) → rowOf t ≡ p .row → NodeRow tab p (rowOf t₁) (rowOf t₂)
       → false ≡ eqb (kindAt ts (p .row)) kIf
       → Sound tab ts (p .start) (eqb (kindAt ts (p .row)) kOpenBrace) t₁ → Sound tab ts (p .start) (eqb (kindAt ts (p .row)) kDot) t₂
@@ -139,7 +135,7 @@ module _ {tab : List ℕ} {ts : List Token} where
   unfolding Holds Matches Ordered deep nodes
   apart (literal p n) low e h m o = zero-parts (literal p n) p refl h (known kIf (m .0 .is)) (λ d. refl) refl
   apart (truth p b) low e h m o = zero-parts (truth p b) p refl h (truth-kinds b ∙ known kIf (m .is)) (λ d. refl) refl
-  apart (variable p x) low e h m o = zero-parts (variable p x) p refl h (named _ kIf (lit< tt) (m .named)) (λ d. refl) refl
+  apart (variable p x) low e h m o = zero-parts (variable p x) p refl h (name-kinds _ (m .named) .0) (λ d. refl) refl
   apart (this p) low e h m o = zero-parts (this p) p refl h (known kIf (m .is)) (λ d. refl) refl
   apart (newArray p x) low e h m o =
       one (newArray p x) p x refl (h .0) (known kIf (m .0 .is)) (sound (known kOpenBrace (m .0 .is)) (h .1) (m .2) (o .1)) (λ d. refl) refl
@@ -188,11 +184,11 @@ module _ {tab : List ℕ} {ts : List Token} where
   apart (print p x) low e h m o =
       one (print p x) p x refl (h .0) (known kIf (m .0 .is)) (sound (known kOpenBrace (m .0 .is)) (h .1) (m .1) (o .1)) (λ d. refl) refl
   apart (assign p x v) low e h m o =
-      one (assign p x v) p v refl (h .0) (named _ kIf (lit< tt) (m .0 .named))
-      (sound (named _ kOpenBrace (lit< tt) (m .0 .named)) (h .1) (m .2) (o .1)) (λ d. refl) refl
+      one (assign p x v) p v refl (h .0) (name-kinds _ (m .0 .named) .0)
+      (sound (name-kinds _ (m .0 .named) .1) (h .1) (m .2) (o .1)) (λ d. refl) refl
   apart (assignElement p x i v) low e h m o =
-      two (assignElement p x i v) p i v refl (h .0) (named _ kIf (lit< tt) (m .0 .named))
-      (sound (named _ kOpenBrace (lit< tt) (m .0 .named)) (h .1) (m .2) (o .1))
-      (sound (named _ kDot (lit< tt) (m .0 .named)) (h .2) (m .3) (o .2)) (λ d. refl) (omega arith)
+      two (assignElement p x i v) p i v refl (h .0) (name-kinds _ (m .0 .named) .0)
+      (sound (name-kinds _ (m .0 .named) .1) (h .1) (m .2) (o .1))
+      (sound (name-kinds _ (m .0 .named) .2) (h .2) (m .3) (o .2)) (λ d. refl) (omega arith)
   apart noStatements low e h m o = absurd (true-false e)
   apart (sequence s ss) low e h m o = absurd (true-false e)

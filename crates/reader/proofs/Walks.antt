@@ -1,7 +1,7 @@
 -- What the walk's functions return meets their contracts, one law for each return.
 use Prim.Native.Nat.{ℕ, _+_, _≤_, _<_}
 use mathlib.Core.Path.{_≡_, refl, sym, ap, _∙_, subst}
-use mathlib.Core.List.{List, [], _∷_}
+use mathlib.Core.List.{List}
 use mathlib.Core.Logic.{_≢_, _⊎_, ⊎-elim, inl, inr}
 use mathlib.Core.Bool.{Bool, true, false}
 use mathlib.Core.Option.{Option, none, some}
@@ -12,19 +12,19 @@ use Rattle.base.specs.Table.{col}
 use Rattle.base.specs.Codes.{depthMost}
 use Rattle.lexer.specs.Kinds.{kDot, kIf, kOpenBrace}
 use Rattle.lexer.specs.Tokens.{Token}
-use Rattle.parser.specs.Tree.{Place, Sort, Sort.expression, Sort.arguments, Sort.statement, Sort.statements, Part}
+use Rattle.parser.specs.Tree.{Sort, Sort.expression, Sort.arguments, Sort.statement, Sort.statements, Part}
 use Rattle.parser.specs.Tree.{Part.literal, Part.truth, Part.variable, Part.this, Part.newArray, Part.newObject, Part.negation, Part.binary, Part.element, Part.arrayLength, Part.call, Part.noArguments, Part.argument}
 use Rattle.parser.specs.Tree.{Part.block, Part.conditional, Part.loop, Part.print, Part.assign, Part.assignElement, Part.noStatements, Part.sequence}
 use Rattle.parser.specs.Stream.{kindAt}
 use Rattle.parser.specs.Layout.{absent, rowOf}
-use Rattle.parser.specs.Measure.{nodes, least, deepHere, deep}
+use Rattle.parser.specs.Measure.{nodes, least, deep}
 use Rattle.parser.specs.Post.{kindIn, TokensIn}
 use Rattle.reader.specs.Holds.{Holds}
 use Rattle.reader.specs.Matches.{Matches}
 use Rattle.reader.specs.WalkPost.{Ordered, nowhere, Answers, Walkable, listed, Sound, Walks}
 use Rattle.reader.specs.declared.walk.Walked.{Walked}
 use Rattle.reader.proofs.Depths.{least-absent, NotBefore, both, fine-here, first-here, not-before, Joins, Encloses, nothing, joined, enclosed, same-answer}
-use Rattle.reader.proofs.Nodes.{true-false, Apart, apart}
+use Rattle.reader.proofs.Nodes.{true-false, Apart, sound, apart}
 
 -- ROWS
 
@@ -91,8 +91,8 @@ members (argument x xs) lt e h m o =
       row = refl;
       next = h .1;
       rises = o .0;
-      sound₁ = record { chained = λ _. refl; holds = h .0; matches = m .0; ordered = o .1 };
-      sound₂ = record { chained = λ _. refl; holds = h .2; matches = m .1; ordered = o .2 };
+      sound₁ = sound refl (h .0) (m .0) (o .1);
+      sound₂ = sound refl (h .2) (m .1) (o .2);
       depth = λ d. refl;
       size = refl;
     }
@@ -112,8 +112,8 @@ members (sequence x xs) lt e h m o =
       row = refl;
       next = h .1;
       rises = o .0;
-      sound₁ = record { chained = λ _. refl; holds = h .0; matches = m .0; ordered = o .1 };
-      sound₂ = record { chained = λ _. refl; holds = h .2; matches = m .1; ordered = o .2 };
+      sound₁ = sound refl (h .0) (m .0) (o .1);
+      sound₂ = sound refl (h .2) (m .1) (o .2);
       depth = λ d. refl;
       size = refl;
     }
@@ -167,12 +167,16 @@ not-before-parts d v =
     both (both (not-before (d + 1) (v .t₁) _ (v .sound₁ .ordered)) (not-before (d + 1) (v .t₂) _ (v .sound₂ .ordered)))
     (not-before (d + 1) (v .t₃) _ (v .sound₃ .ordered))
 
+-- a node that is too deep is itself the first one
+too-deep : (d : ℕ) {tab : List ℕ} {ts : List Token} {s : Sort} {t : Part s} (v : Apart tab ts t) → depthMost < d → deep d t ≡ some (v .place .start)
+too-deep d v far = v .depth d ∙ first-here d (v .place) far (not-before-parts d v)
+
 pub node-far : {tab : List ℕ} {n row d : ℕ} {w : Walked} → row < absent → depthMost < d → w .place ≡ col tab 3 row → w .place < nowhere → Walks tab n false row d w
 node-far {tab} {n} {row} {d} {w} near far p small =
     record {
       says = λ ts tok t low e h.
           let v : Apart tab ts t = apart t low (h .chained (omega arith)) (h .holds) (h .matches) (h .ordered) in
-          same-answer {l = nodes t} (sym (v .depth d ∙ first-here d (v .place) far (not-before-parts d v))) refl
+          same-answer {l = nodes t} (sym (too-deep d v far)) refl
           (at-start (v .place .start) (p ∙ ap (col tab 3) (sym e) ∙ v .begins));
     }
   where

@@ -1,12 +1,14 @@
 -- What the walk over a tree in the work table requires and ensures: the number of nodes, and the smallest position of a node that is too deep.
-use Prim.Native.Nat.{ℕ, _+_, _≤_, _<_, min}
-use mathlib.Core.Path.{_≡_}
+use Prim.Native.Nat.{ℕ, _≤_, _<_, min}
+use mathlib.Core.Path.{_≡_, refl, sym, ap}
 use mathlib.Core.List.{List, [], _∷_}
+use mathlib.Core.Logic.{_≢_}
 use mathlib.Core.Bool.{Bool, true, false}
 use mathlib.Core.Option.{Option, none, some}
+use native.Mathlib.Omega.{arith}
 use lib.ListN.{length}
 use Rattle.lexer.specs.Tokens.{Token}
-use Rattle.parser.specs.Tree.{Place, Sort, Sort.expression, Sort.arguments, Sort.statement, Sort.statements, Part, Method, Class, Program}
+use Rattle.parser.specs.Tree.{Sort, Sort.expression, Sort.arguments, Sort.statement, Sort.statements, Part, Method, Class, Program}
 use Rattle.parser.specs.Tree.{Part.literal, Part.truth, Part.variable, Part.this, Part.newArray, Part.newObject, Part.negation, Part.binary, Part.element, Part.arrayLength, Part.call, Part.noArguments, Part.argument}
 use Rattle.parser.specs.Tree.{Part.block, Part.conditional, Part.loop, Part.print, Part.assign, Part.assignElement, Part.noStatements, Part.sequence}
 use Rattle.parser.specs.Layout.{absent, rowOf, rowMethods, rowClasses}
@@ -65,6 +67,15 @@ countMost = 65535
 abbrev pub Found : Option ℕ → ℕ → Type 0
 Found none a = a ≡ nowhere
 Found (some p) a = (a ≡ p) × (p < nowhere)
+
+-- how such an answer is read
+pub found-none : (first : Option ℕ) → Found first nowhere → first ≡ none
+found-none none h = refl
+found-none (some p) h = absurd (omega arith)
+
+pub found-some : (first : Option ℕ) (a : ℕ) → a ≢ nowhere → Found first a → first ≡ some a
+found-some none a n h = absurd (n h)
+found-some (some p) a n h = ap some (sym (h .0))
 
 -- the answer for a smallest position and a number of nodes; where a node is too deep, the count says nothing
 pub record Answers (first : Option ℕ) (many : ℕ) (w : Walked) : Type 0 where

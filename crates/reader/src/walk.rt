@@ -1,4 +1,5 @@
-// The walk over the tree in the work table: how many nodes there are, and the smallest position of a node that is too deep. A row's first two parts lie in columns 4 and 5,
+// The walk over the tree in the work table: how many nodes there are, and the smallest position of a node that is too deep.
+// A row's first two parts lie in columns 4 and 5,
 // and only three kinds of nodes tell more: a block's first part and a call's second are lists, linked by column 6, and an `if` has a third part, in column 7.
 use parser::kinds::DOT;
 use parser::kinds::IF;
@@ -23,6 +24,7 @@ const NOWHERE: usize = 4294967296;
 
 const DEPTH_MOST: usize = 64;
 
+// No row, and the last of the rows.
 const ABSENT: usize = 2048;
 
 const LAST: usize = 2047;
@@ -40,6 +42,7 @@ fn sum(a: usize, b: usize) -> usize
     a + b
 }
 
+// The smaller of two positions.
 fn least(a: usize, b: usize) -> usize
     ensures { λ r. ⌜ r ≡ min a b ⌝ }
 {
@@ -125,7 +128,7 @@ fn node(table: &[u32], n: usize, row: usize, d: usize) -> Walked
     whole(two)
 }
 
-// The methods from this row on.
+// The methods from this row on. The row after a method's own holds its body and its return expression.
 fn methods(table: &[u32], n: usize, row: usize) -> Walked
     requires { ⌜ Walkable (now table) n ⌝ }
     ensures { λ r. ⌜ WalksMethods (now (table .entry)) n row r ⌝ }

@@ -1,5 +1,5 @@
 -- `classes` meets its contract. The measure is the number of rows left. Each return is a law of `Declarations`.
-use Prim.Native.Nat.{ℕ, _<_}
+use Prim.Native.Nat.{ℕ, _-_, _<_}
 use borrow.Fn.Kinds.{In}
 use borrow.Fn.PlainCycle.{Measures, is, falls, and}
 use Rattle.reader.proofs.walk.classes.Reads as classes
@@ -10,10 +10,8 @@ use Rattle.reader.proofs.walk.join.Reads as join-reads
 use Rattle.reader.proofs.walk.methods.Reads as methods-reads
 use Rattle.reader.proofs.walk.+classes.{statement}
 use Rattle.reader.proofs.walk.+classes.Tie.{close}
-use Prim.Native.Nat.{_+_, _*_, _-_}
 use mathlib.Core.Path.{refl}
 use borrow.Author.Needs.{needs}
-use native.Mathlib.Omega.{arith}
 use Rattle.reader.proofs.Declarations.{classes-absent, classes-wrong, classes-more}
 
 abbrev μ-classes : Measures 1 classes-kinds.ps ℕ

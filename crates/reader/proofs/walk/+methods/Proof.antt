@@ -1,5 +1,5 @@
 -- `methods` meets its contract. The measure is the number of rows left. Each return is a law of `Declarations`.
-use Prim.Native.Nat.{ℕ, _<_}
+use Prim.Native.Nat.{ℕ, _-_, _<_}
 use borrow.Fn.Kinds.{In}
 use borrow.Fn.PlainCycle.{Measures, is, falls, and}
 use Rattle.reader.proofs.walk.methods.Reads as methods
@@ -10,10 +10,8 @@ use Rattle.reader.proofs.walk.join.Reads as join-reads
 use Rattle.reader.proofs.walk.part.Reads as part-reads
 use Rattle.reader.proofs.walk.+methods.{statement}
 use Rattle.reader.proofs.walk.+methods.Tie.{close}
-use Prim.Native.Nat.{_+_, _*_, _-_}
 use mathlib.Core.Path.{refl}
 use borrow.Author.Needs.{needs}
-use native.Mathlib.Omega.{arith}
 use Rattle.reader.proofs.Declarations.{methods-absent, methods-wrong, methods-more}
 
 abbrev μ-methods : Measures 1 methods-kinds.ps ℕ

@@ -1,5 +1,5 @@
 -- The proof of the cycle of calls on parts and nodes. The measure is 4,096 for each level of depth left, and for a part the number of rows left. Each return is a law of `Walks`.
-use Prim.Native.Nat.{ℕ, _<_}
+use Prim.Native.Nat.{ℕ, _+_, _*_, _-_, _<_}
 use borrow.Fn.Kinds.{In}
 use borrow.Fn.PlainCycle.{Measures, is, falls, and}
 use Rattle.reader.proofs.walk.node.Reads as node
@@ -14,10 +14,8 @@ use Rattle.reader.proofs.walk.join.Reads as join-reads
 use Rattle.reader.proofs.walk.whole.Reads as whole-reads
 use Rattle.reader.proofs.walk.+node+part.{statement}
 use Rattle.reader.proofs.walk.+node+part.Tie.{close}
-use Prim.Native.Nat.{_+_, _*_, _-_}
 use mathlib.Core.Path.{refl}
 use borrow.Author.Needs.{needs}
-use native.Mathlib.Omega.{arith}
 use Rattle.reader.proofs.Walks.{part-absent, part-single, part-wrong, part-more, node-far, node-two, node-three}
 
 abbrev μ-node : Measures 1 node-kinds.ps ℕ
