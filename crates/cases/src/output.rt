@@ -1,0 +1,57 @@
+// What the program writes: numbers and words of an answer, and the lines that say what is wrong with a case.
+use libc::STDOUT_FILENO;
+
+// What can be wrong with a case.
+pub enum Wrong {
+    Input,
+    LineLength,
+    Operation,
+    Missing,
+    Surplus,
+    Number,
+    TableLength,
+    Odd,
+    Digit,
+    SourceLength,
+}
+
+// Writes bytes.
+pub fn text(bytes: &[u8]) {
+    io::write_all(STDOUT_FILENO, bytes);
+}
+
+// Writes a number.
+pub fn number(n: u64) {
+    io::print_decimal(STDOUT_FILENO, n);
+}
+
+// Writes a blank and a number.
+pub fn next_number(n: u64) {
+    text(b" ");
+    number(n);
+}
+
+// Ends an answer, with a word where a strip does not hold what it should.
+pub fn end(is_right: bool) {
+    if is_right {
+        text(b"\n");
+        return;
+    }
+    text(b" STRIP\n");
+}
+
+// Writes what is wrong with the line or with its words.
+pub fn refuse(wrong: Wrong) {
+    match wrong {
+        Wrong::Input => text(b"error: the input cannot be read\n"),
+        Wrong::LineLength => text(b"error: line too long\n"),
+        Wrong::Operation => text(b"error: unknown operation\n"),
+        Wrong::Missing => text(b"error: word missing\n"),
+        Wrong::Surplus => text(b"error: too many words\n"),
+        Wrong::Number => text(b"error: malformed number\n"),
+        Wrong::TableLength => text(b"error: table too large\n"),
+        Wrong::Odd => text(b"error: odd number of hexadecimal digits\n"),
+        Wrong::Digit => text(b"error: bad hexadecimal digit\n"),
+        Wrong::SourceLength => text(b"error: source too long\n"),
+    }
+}

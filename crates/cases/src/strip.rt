@@ -1,0 +1,33 @@
+// What is lent to an operation: filled beforehand, looked at afterwards.
+
+// What a strip holds beforehand: not 0, so that a word that is not wiped shows.
+pub const MARK: u32 = 2779096485;
+
+// Every word becomes `value`.
+pub fn fill(words: &mut [u32], value: u32) {
+    let mut i: usize = 0;
+    while i < words.len() {
+        words[i] = value;
+        i += 1;
+    }
+}
+
+// Whether every word is `value`.
+fn holds(words: &[u32], value: u32) -> bool {
+    let mut i: usize = 0;
+    while i < words.len() {
+        if words[i] != value {
+            return false;
+        }
+        i += 1;
+    }
+    true
+}
+
+// Whether a work table holds what document 01 says after an end with this number: refusals 1 to 3 touch nothing, every other end wipes it.
+pub fn is_table_right(table: &[u32], number: u32) -> bool {
+    if 0 < number && number < 4 {
+        return holds(table, MARK);
+    }
+    holds(table, 0)
+}
