@@ -1,5 +1,5 @@
-// Answers cases from standard input, a line each: the first word of a line names an operation, the others are what it is given. A line that is no case is answered by what
-// is wrong with it, an empty line is passed over.
+// Answers cases from standard input, a line each: the first word of a line names an operation, the others are what it is given.
+// A line that is no case is answered by what is wrong with it, an empty line is passed over.
 mod fields;
 mod output;
 mod read;
@@ -15,7 +15,8 @@ const LINE_MOST: usize = 40100;
 // The longest source. Document 01 takes up to 16,384 bytes; what is longer it refuses, which is a case too.
 const SOURCE_MOST: usize = 20000;
 
-// The longest table. Document 01 asks for 16,384 words; what is longer must be wiped as well. With the line and the source this leaves most of a stack of 1 MiB free.
+// The longest table. Document 01 asks for 16,384 words; what is longer must be wiped as well.
+// With the line and the source this leaves most of a stack of 1 MiB free.
 const TABLE_MOST: usize = 20000;
 
 // What an operation's name stands for.
@@ -128,6 +129,7 @@ fn serve(line: &mut [u8], source: &mut [u8], table: &mut [u32]) {
     }
 }
 
+// All that is lent stands here, once.
 fn main() {
     let mut line = [0u8; LINE_MOST];
     let mut source = [0u8; SOURCE_MOST];
