@@ -1,0 +1,39 @@
+-- How a stage's outcome is answered, and what an answer tells of the outcome.
+use Prim.Native.Nat.{ℕ}
+use mathlib.Core.Path.{_≡_, refl, sym, _∙_}
+use mathlib.Core.List.{List}
+use native.Mathlib.Omega.{arith}
+use Rattle.base.specs.Outcome.{Outcome, accepted, refused, _>>=_}
+use Rattle.lexer.specs.Tokens.{Token}
+use Rattle.parser.specs.Tree.{Ty}
+use Rattle.lookup.specs.declared.answer.Judged.{Judged}
+use Rattle.lookup.specs.declared.answer.Judged.the-variants.{Fine, Refused}
+use Rattle.lookup.specs.Standing.{Codes}
+
+abbrev pub settled : Outcome (Unit {0}) → Judged
+settled (accepted u) = Fine 0
+settled (refused n p) = Refused n p
+
+apart : {A : Type 0} → _≡_ {A = ℕ} 0 1 → A
+apart z = absurd (omega arith)
+
+pub settled-fine : (o : Outcome (Unit {0})) {v : Judged} {w : ℕ} → v ≡ settled o → v ≡ Fine w → o ≡ accepted tt
+settled-fine (accepted tt) e f = refl
+settled-fine (refused n p) e f = apart (cc)
+
+pub settled-refused : (o : Outcome (Unit {0})) {v : Judged} {n p : ℕ} → v ≡ settled o → v ≡ Refused n p → o ≡ refused n p
+settled-refused (accepted u) e f = apart (cc)
+settled-refused (refused n p) e f = cc
+
+-- a stage and the next
+module _ {A : Type 0} (o : Outcome (Unit {0})) (next : Unit {0} → Outcome A) {v : Judged} (e : v ≡ settled o) where
+  pub goes-on : {w : ℕ} → v ≡ Fine w → (o >>= next) ≡ next tt
+  goes-on f = rw (settled-fine o e f)
+
+  pub stops : {n p : ℕ} → v ≡ Refused n p → (o >>= next) ≡ refused n p
+  stops f = rw (settled-refused o e f)
+
+-- how the type of an expression is answered
+pub data Judges (ts : List Token) : Outcome Ty → Judged → Type 0 where
+  well : {t : Ty} {w : ℕ} → Codes ts t w → Judges ts (accepted t) (Fine w)
+  ill : {n p : ℕ} → Judges ts (refused n p) (Refused n p)
