@@ -23,7 +23,8 @@ use Rattle.typing.specs.Choices.{none-some}
 use Rattle.typing.specs.Chains.{all-classes}
 use Rattle.typing.specs.ClassTableLaws.{all-methods}
 use Rattle.lookup.specs.Standing.{absent, wordAt, Lexemes, Spells, Numbers, no-name, a-name, nothing, Codes, code-int, code-boolean, code-intArray, code-class, ClassStands, World, classOf, chainFrom, parentName}
-use Rattle.lookup.specs.StandingLaws.{word-in, word-out, name-word, row-there, same-names, other-names, all-stand, methods-stand, spelt-class, same-codes, other-codes, ClassAt, no-class, a-class, class-at}
+use Rattle.lookup.specs.StandingLaws.{word-in, word-out, name-word, row-there, same-names, other-names, all-stand, methods-stand, spelt-class, codes-below, same-codes, other-codes, ClassAt, no-class, a-class, class-at}
+use Rattle.lookup.specs.MethodLaws.{chain-stands}
 use Rattle.lookup.specs.Lookups.{Typed, untyped, typed, VariableTyped, rowMethod, MethodRow, Above, amongNumbers, OnChain, Ends, FieldTyped, rowFound, FindsMethod, Fits}
 use Rattle.lookup.proofs.MemberLaws.{typed-moved}
 
@@ -52,21 +53,6 @@ chain-some zero G (some c) n e = absurd (n refl)
 chain-some (suc left) G (some c) {k} n e =
     let z : suc left - 1 ≡ left = omega arith in
     rw (e, z) (ap (λ (ks : List Class). k ∷ ks) (up left G (k .parent)))
-
--- every class of a chain stands in the table
-pub chain-stands : {tab : List ℕ} {n : ℕ} {ts : List Token} {G : List Class} → World tab n ts G → (left : ℕ) (c : List ℕ) → All (ClassStands tab n ts) (chainWithin left G c)
-unfolding chainWithin
-chain-stands w zero c = all-nil
-chain-stands {tab} {n} {ts} {G} w (suc left) c = here (chain-stands w left) (classNamed G c) refl
-  where
-    above : ((d : List ℕ) → All (ClassStands tab n ts) (chainWithin left G d)) → (p : Option Name) → All (ClassStands tab n ts) (option p [] λ q. chainWithin left G (q .text))
-    above f none = all-nil
-    above f (some q) = f (q .text)
-
-    here : ((d : List ℕ) → All (ClassStands tab n ts) (chainWithin left G d)) → (o : Option Class) → classNamed G c ≡ o
-        → All (ClassStands tab n ts) (option o [] λ k. k ∷ option (k .parent) [] λ q. chainWithin left G (q .text))
-    here f none e = all-nil
-    here f (some k) e = all-cons (all-classes c (all-stand (w .classes)) e) (above f (k .parent))
 
 -- ABOVE
 
@@ -160,12 +146,6 @@ module _ {tab : List ℕ} {left c : ℕ} where
           go n ts G w (some q) (a-name sp) = h′ .says n ts G w (q .text) sp
 
 -- FIELDS
-
-codes-below : {ts : List Token} {t : Ty} {w : ℕ} → length ts ≤ 2048 → Codes ts t w → w < nothing
-codes-below few (code-int e) = omega arith
-codes-below few (code-boolean e) = omega arith
-codes-below few (code-intArray e) = omega arith
-codes-below few (code-class s) = omega (arith, s .there)
 
 -- what a class's own fields say
 own-field : {tab : List ℕ} {n x t : ℕ} (class : ℕ) {first : ℕ} → first ≡ wordAt tab 4 class → VariableTyped tab n n first x t → (ts : List Token) → Lexemes tab n ts

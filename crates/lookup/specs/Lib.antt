@@ -2,4 +2,5 @@
 pub mod Standing
 pub mod StandingLaws
 pub mod Lookups
+pub mod MethodLaws
 pub mod Answers

@@ -24,7 +24,7 @@ use Rattle.checker.specs.ClassTable.{classNamed, sameType}
 use Rattle.checker.specs.Typing.{className}
 use Rattle.typing.specs.Tests.{and-both, same-of, apart-same, sameType-of, apart-sameType}
 use Rattle.typing.specs.Chains.{class-name, all-classes}
-use Rattle.lookup.specs.Standing.{absent, wordAt, Lexemes, Spells, Numbers, no-name, a-name, code, Codes, code-int, code-boolean, code-intArray, code-class, MethodStands, MethodsStand, no-methods, more-methods, ClassStands, ClassesStand, no-classes, more-classes, rowClass, World, classOf}
+use Rattle.lookup.specs.Standing.{absent, wordAt, Lexemes, Spells, Numbers, no-name, a-name, code, nothing, Codes, code-int, code-boolean, code-intArray, code-class, MethodStands, MethodsStand, no-methods, more-methods, ClassStands, ClassesStand, no-classes, more-classes, rowClass, World, classOf}
 
 -- WORDS
 
@@ -154,3 +154,10 @@ module _ {tab : List ℕ} {n : ℕ} {ts : List Token} (lx : Lexemes tab n ts) wh
 
   pub other-codes : {s t : Ty} {v w : ℕ} → Codes ts s v → Codes ts t w → (v ≡ w → ⊥) → sameType s t ≡ false
   other-codes {s} {t} c d n = apart-sameType s t λ e. n (one-code c d e)
+
+-- the number of a type is below that of none
+pub codes-below : {ts : List Token} {t : Ty} {w : ℕ} → length ts ≤ 2048 → Codes ts t w → w < nothing
+codes-below few (code-int e) = omega arith
+codes-below few (code-boolean e) = omega arith
+codes-below few (code-intArray e) = omega arith
+codes-below few (code-class s) = omega (arith, s .there)

@@ -1,0 +1,4 @@
+-- Laws that the proofs of the functions on bodies cite, one for each return.
+pub mod ScopeLaws
+pub mod ExpressionLaws
+pub mod StatementLaws

@@ -1,0 +1,70 @@
+-- What the look-up of a name returns meets its contract: the parameters, then the locals, then the fields upwards from the declaring class are searched.
+use Prim.Native.Nat.{ℕ, _≤_, _<_}
+use native.Mathlib.Omega.{arith}
+use mathlib.Core.Path.{_≡_, refl, sym, ap, _∙_, subst}
+use mathlib.Core.List.{List, _++_}
+use mathlib.Core.Option.{Option, none, some}
+use lib.ListN.{length}
+use Rattle.base.specs.Choice.{option}
+use Rattle.lexer.specs.Tokens.{Token}
+use Rattle.parser.specs.Tree.{Variable, Class}
+use Rattle.checker.specs.ClassTable.{Slot, Context, Meaning, ofRow, ofObject, variableNamed, chain, nearestField, meaning}
+use Rattle.lookup.specs.Standing.{Lexemes, Spells, nothing, chainFrom}
+use Rattle.lookup.specs.Lookups.{Typed, untyped, typed, VariableTyped, FieldTyped}
+use Rattle.lookup.specs.MethodLaws.{typed-some, typed-none, variable-left, variable-right}
+use Rattle.bodies.specs.declared.scope.Scope.{Scope}
+use Rattle.bodies.specs.Scoping.{ListedAt, InScope, Means, unmeant, meant, NameTyped}
+
+-- what a list of variables says of a name
+listed : {tab : List ℕ} {n x t : ℕ} (row : ℕ) → VariableTyped tab n n row x t → {ts : List Token} → Lexemes tab n ts → {vs : List Variable} → ListedAt tab n ts row vs
+    → (text : List ℕ) → Spells ts text x → Typed ts (variableNamed vs text) t
+listed row v {ts} lx {vs} l text sp = v .says ts lx vs (l .at) (l .stand) (l .few) text sp
+
+-- a variable is what the name means
+variable-means : {ts : List Token} (G : List Class) (Γ : Context) (text : List ℕ) {t : ℕ} → t < nothing → Typed ts (variableNamed (Γ .variables) text) t → Means ts (meaning G Γ text) t
+unfolding meaning
+variable-means G Γ text low h = let w = typed-some low h in rw (w .1) (meant (w .2))
+
+-- else it is a field
+field-means : {ts : List Token} (G : List Class) (Γ : Context) (text : List ℕ) {t : ℕ} → variableNamed (Γ .variables) text ≡ none
+    → Typed ts (nearestField (chainFrom (length G) G (Γ .owner)) text) t → Means ts (meaning G Γ text) t
+unfolding meaning chain nearestField
+field-means {ts} G Γ text {t} e h = rw e (go (Γ .owner) h)
+  where
+    pick : (o : Option Slot) → Typed ts o t → Means ts (option o none λ s. some (ofObject s)) t
+    pick none (untyped q) = unmeant q
+    pick (some s) (typed c) = meant c
+
+    go : (owner : Option (List ℕ)) → Typed ts (nearestField (chainFrom (length G) G owner) text) t
+        → Means ts (option owner none λ c. option (nearestField (chain G c) text) none λ s. some (ofObject s)) t
+    go none (untyped q) = unmeant q
+    go (some c) h = pick (nearestField (chain G c) text) h
+
+module _ {tab : List ℕ} {s : Scope} {x t : ℕ} (first : VariableTyped tab (s .tokens) (s .tokens) (s .parameters) x t) where
+  pub name-parameter : t < nothing → NameTyped tab s x t
+  name-parameter low =
+      record {
+        says = λ ts G Γ i text sp.
+            let w = typed-some low (listed (s .parameters) first (i .world .tokens) (i .given-listed) text sp) in
+            variable-means G Γ text low (rw (i .seen, variable-left (i .given) (i .own) text (w .1)) (typed (w .2)));
+      }
+
+  module _ (high : nothing ≤ t) {u : ℕ} (second : VariableTyped tab (s .tokens) (s .tokens) (s .locals) x u) where
+    -- what parameters and locals say
+    both : {ts : List Token} {G : List Class} {Γ : Context} → InScope tab ts G Γ s → (text : List ℕ) → Spells ts text x → Typed ts (variableNamed (Γ .variables) text) u
+    both {ts} i text sp =
+        let few : length ts ≤ 2048 = omega (arith, i .world .tokens .count, i .world .tokens .few) in
+        rw (i .seen)
+        (variable-right (i .given) (i .own) text (typed-none few high (listed (s .parameters) first (i .world .tokens) (i .given-listed) text sp))
+        (listed (s .locals) second (i .world .tokens) (i .own-listed) text sp))
+
+    pub name-local : u < nothing → NameTyped tab s x u
+    name-local low = record { says = λ ts G Γ i text sp. variable-means G Γ text low (both i text sp) }
+
+    pub name-field : nothing ≤ u → {r : ℕ} → FieldTyped tab (s .tokens) (s .classes) (s .owner) x r → NameTyped tab s x r
+    name-field far h =
+        record {
+          says = λ ts G Γ i text sp.
+              let few : length ts ≤ 2048 = omega (arith, i .world .tokens .count, i .world .tokens .few) in
+              field-means G Γ text (typed-none few far (both i text sp)) (rw (i .many) (h .says ts G (i .world) (Γ .owner) (i .declarer) text sp));
+        }

@@ -1,0 +1,32 @@
+-- Each return is a law of `StatementLaws`.
+use borrow.Author.Needs.{needs}
+use Rattle.bodies.proofs.stmt.assignment.Statement.{statement}
+use Rattle.bodies.proofs.stmt.assignment.Tie as tie
+use Rattle.bodies.proofs.stmt.assignment.Reads as reads
+use Rattle.bodies.proofs.stmt.assignment.Lts as lts
+use Rattle.bodies.proofs.expr.name.Reads as name-reads
+use Rattle.bodies.proofs.stmt.assigned.Reads as assigned-reads
+use Rattle.bodies.proofs.StatementLaws.{assignment-target, assignment-refused}
+
+name-requires : tie.Need-name-requires
+name-requires c κs = search needs
+
+enum-known-x : tie.Need-enum-known-x
+enum-known-x c = search needs
+
+assigned-requires : tie.Need-assigned-requires
+assigned-requires c κs = search needs
+
+enum-known-x-2 : tie.Need-enum-known-x-2
+enum-known-x-2 c = search needs
+
+returns : tie.Need-returns
+returns c = search assignment-target
+
+returns-2 : tie.Need-returns-2
+returns-2 c = search assignment-refused
+
+pub assignment-spec : {M : Type 1} → statement M
+assignment-spec =
+    tie.close
+    (tie.spec name-requires enum-known-x assigned-requires enum-known-x-2 returns returns-2)

@@ -1,0 +1,4 @@
+-- What the functions that judge bodies ensure.
+pub mod Scoping
+pub mod ExpressionPost
+pub mod StatementPost

@@ -1,0 +1,47 @@
+-- What a body sees, as the code has it, and what the look-up of a name ensures.
+use Prim.Native.Nat.{ℕ, _≤_, _<_}
+use mathlib.Core.Path.{_≡_}
+use mathlib.Core.List.{List, _++_}
+use mathlib.Core.Option.{Option, none, some}
+use lib.ListN.{length}
+use Rattle.lexer.specs.Tokens.{Token}
+use Rattle.parser.specs.Tree.{Sort, Part, Variable, Class}
+use Rattle.parser.specs.Layout.{rowOf, rowVariables}
+use Rattle.parser.specs.Measure.{nodes}
+use Rattle.reader.specs.Holds.{Holds}
+use Rattle.reader.specs.Matches.{Matches}
+use Rattle.checker.specs.ClassTable.{Context, Meaning, meaning, meaningType}
+use Rattle.lookup.specs.Standing.{Spells, Numbers, nothing, Codes, VariablesStand, World}
+use Rattle.bodies.specs.declared.scope.Scope.{Scope}
+
+-- a list of variables begins in a row
+pub record ListedAt (tab : List ℕ) (n : ℕ) (ts : List Token) (row : ℕ) (vs : List Variable) : Type 0 where
+  pub at : rowVariables vs ≡ row
+  pub stand : VariablesStand tab ts vs
+  pub few : length vs ≤ n
+
+-- the scope is that of the context, in the class table that the table holds
+pub record InScope (tab : List ℕ) (ts : List Token) (G : List Class) (Γ : Context) (s : Scope) : Type 0 where
+  pub world : World tab (s .tokens) ts G
+  pub many : length G ≡ s .classes
+  pub declarer : Numbers ts (Γ .owner) (s .owner)
+  pub given : List Variable
+  pub own : List Variable
+  pub seen : Γ .variables ≡ given ++ own
+  pub given-listed : ListedAt tab (s .tokens) ts (s .parameters) given
+  pub own-listed : ListedAt tab (s .tokens) ts (s .locals) own
+
+-- a part lies in a row, and no more than `left` tokens are its nodes'
+pub record PartAt (tab : List ℕ) (ts : List Token) (row left : ℕ) {s : Sort} (t : Part s) : Type 0 where
+  pub at : rowOf t ≡ row
+  pub holds : Holds tab t
+  pub matches : Matches ts t
+  pub few : nodes t ≤ left
+
+-- the type of what a name means, by number
+pub data Means (ts : List Token) : Option Meaning → ℕ → Type 0 where
+  unmeant : {w : ℕ} → w ≡ nothing → Means ts none w
+  meant : {m : Meaning} {w : ℕ} → Codes ts (meaningType m) w → Means ts (some m) w
+
+pub record NameTyped (tab : List ℕ) (s : Scope) (x : ℕ) (r : ℕ) : Type 0 where
+  pub says : (ts : List Token) (G : List Class) (Γ : Context) → InScope tab ts G Γ s → (text : List ℕ) → Spells ts text x → Means ts (meaning G Γ text) r

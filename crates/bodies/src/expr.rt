@@ -1,0 +1,271 @@
+// Expressions are judged in a cycle: an expression, its parts, the arguments of a call. `left` is how many tokens may still be covered by nodes.
+use crate::scope::Scope;
+use crate::scope::name_type;
+use lookup::answer::Judged;
+use lookup::chain::find_method;
+use lookup::chain::fits;
+use lookup::rows::ABSENT;
+use lookup::rows::word;
+use lookup::types::BOOLEAN;
+use lookup::types::INT;
+use lookup::types::INT_ARRAY;
+use lookup::types::NOTHING;
+use lookup::types::known;
+use lookup::types::type_of;
+use parser::kinds;
+use parser::kinds::is_atom;
+use parser::table::kind;
+ghost use Prim.Native.Nat.{_≤_, _<_};
+ghost use lib.ListN.{length};
+ghost use Rattle.reader.specs.WalkPost.{Walkable};
+ghost use Rattle.bodies.specs.ExpressionPost.{NamePost, ThisPost, AtomPost, ExpressionPost, OperandPost, SinglePost, PairPost, CreationPost, DottedPost, CallPost, InvocationPost, ArgumentsPost, ObjectPost, SameCount};
+
+// `this`, which main has not: 34.
+fn receiver(table: &[u32], s: Scope, row: usize) -> Judged
+    requires { ⌜ 16384 ≤ length (now table) ⌝ }
+    ensures { λ r. ⌜ ThisPost (now (table .entry)) s row r ⌝ }
+{
+    if ABSENT <= s.owner {
+        return Judged::Refused(34, word(table, 3, row));
+    }
+    Judged::Fine(s.owner)
+}
+
+// A name: 30.
+pub fn name(table: &[u32], s: Scope, row: usize) -> Judged
+    requires { ⌜ Walkable (now table) (s .tokens) ⌝ }
+    ensures { λ r. ⌜ NamePost (now (table .entry)) s row r ⌝ }
+{
+    let t = name_type(table, s, word(table, 2, row));
+    if t < NOTHING {
+        return Judged::Fine(t);
+    }
+    Judged::Refused(30, word(table, 3, row))
+}
+
+// An expression of one token, of kind k.
+fn atom(table: &[u32], s: Scope, k: u32, row: usize) -> Judged
+    requires { ⌜ Walkable (now table) (s .tokens) ⌝ }
+    ensures { λ r. ⌜ AtomPost (now (table .entry)) s k row r ⌝ }
+{
+    if k == kinds::LITERAL {
+        return Judged::Fine(INT);
+    }
+    if k == kinds::TRUE {
+        return Judged::Fine(BOOLEAN);
+    }
+    if k == kinds::FALSE {
+        return Judged::Fine(BOOLEAN);
+    }
+    if k == kinds::THIS {
+        return receiver(table, s, row);
+    }
+    name(table, s, row)
+}
+
+// `new C()`: 24.
+fn new_object(table: &[u32], n: usize, row: usize) -> Judged
+    requires { ⌜ Walkable (now table) n × (row < 4294967296) ⌝ }
+    ensures { λ r. ⌜ ObjectPost (now (table .entry)) n row r ⌝ }
+{
+    let x = word(table, 2, row + 1);
+    if known(table, n, x) {
+        return Judged::Fine(x);
+    }
+    Judged::Refused(24, word(table, 1, row + 1))
+}
+
+// Whether a list of arguments is as long as a list of parameters.
+fn same_count(table: &[u32], left: usize, a: usize, p: usize) -> bool
+    requires { ⌜ 16384 ≤ length (now table) ⌝ }
+    ensures { λ r. ⌜ SameCount (now (table .entry)) left a p r ⌝ }
+{
+    if left == 0 {
+        return true;
+    }
+    if ABSENT <= a {
+        return ABSENT <= p;
+    }
+    if ABSENT <= p {
+        return false;
+    }
+    same_count(table, left - 1, word(table, 6, a), word(table, 6, p))
+}
+
+// An expression.
+pub fn expression(table: &[u32], s: Scope, left: usize, row: usize) -> Judged
+    requires { ⌜ Walkable (now table) (s .tokens) × (row < 4294967296) × (left ≤ s .tokens) ⌝ }
+    ensures { λ r. ⌜ ExpressionPost (now (table .entry)) s left row r ⌝ }
+{
+    if left == 0 {
+        return Judged::Refused(0, 0);
+    }
+    let k = kind(table, s.tokens, row);
+    if is_atom(k) {
+        return atom(table, s, k, row);
+    }
+    if k == kinds::NEW {
+        return creation(table, s, left - 1, row);
+    }
+    if k == kinds::DOT {
+        return dotted(table, s, left - 1, row);
+    }
+    if k == kinds::NOT {
+        return single(table, s, left - 1, row, BOOLEAN, BOOLEAN);
+    }
+    if k == kinds::OPEN_BRACKET {
+        return pair(table, s, left - 1, row, INT_ARRAY, INT, INT);
+    }
+    if k == kinds::AND {
+        return pair(table, s, left - 1, row, BOOLEAN, BOOLEAN, BOOLEAN);
+    }
+    if k == kinds::LESS {
+        return pair(table, s, left - 1, row, INT, INT, BOOLEAN);
+    }
+    pair(table, s, left - 1, row, INT, INT, INT)
+}
+
+// An expression that must fit a type: 31.
+pub fn operand(table: &[u32], s: Scope, left: usize, row: usize, want: usize) -> Judged
+    requires { ⌜ Walkable (now table) (s .tokens) × (row < 4294967296) × (left ≤ s .tokens) ⌝ }
+    ensures { λ r. ⌜ OperandPost (now (table .entry)) s left row want r ⌝ }
+{
+    let e = expression(table, s, left, row);
+    match e {
+        Judged::Fine(t) => {
+            if fits(table, s.tokens, s.classes, t, want) {
+                return Judged::Fine(0);
+            }
+            Judged::Refused(31, word(table, 3, row))
+        }
+        Judged::Refused(number, at) => Judged::Refused(number, at),
+    }
+}
+
+// A node with one part, whose type is `answer`.
+fn single(table: &[u32], s: Scope, left: usize, row: usize, want: usize, answer: usize) -> Judged
+    requires { ⌜ Walkable (now table) (s .tokens) × (row < 4294967296) × (left ≤ s .tokens) ⌝ }
+    ensures { λ r. ⌜ SinglePost (now (table .entry)) s left row want answer r ⌝ }
+{
+    let a = operand(table, s, left, word(table, 4, row), want);
+    match a {
+        Judged::Fine(_) => Judged::Fine(answer),
+        Judged::Refused(number, at) => Judged::Refused(number, at),
+    }
+}
+
+// A node with two parts, whose type is `answer`.
+fn pair(
+    table: &[u32],
+    s: Scope,
+    left: usize,
+    row: usize,
+    first: usize,
+    second: usize,
+    answer: usize,
+) -> Judged
+    requires { ⌜ Walkable (now table) (s .tokens) × (row < 4294967296) × (left ≤ s .tokens) ⌝ }
+    ensures { λ r. ⌜ PairPost (now (table .entry)) s left row first second answer r ⌝ }
+{
+    let a = operand(table, s, left, word(table, 4, row), first);
+    match a {
+        Judged::Fine(_) => {
+            let b = operand(table, s, left, word(table, 5, row), second);
+            match b {
+                Judged::Fine(_) => Judged::Fine(answer),
+                Judged::Refused(number, at) => Judged::Refused(number, at),
+            }
+        }
+        Judged::Refused(number, at) => Judged::Refused(number, at),
+    }
+}
+
+// `new int[e]` or `new C()`.
+fn creation(table: &[u32], s: Scope, left: usize, row: usize) -> Judged
+    requires { ⌜ Walkable (now table) (s .tokens) × (row < 4294967296) × (left ≤ s .tokens) ⌝ }
+    ensures { λ r. ⌜ CreationPost (now (table .entry)) s left row r ⌝ }
+{
+    if kind(table, s.tokens, row + 1) == kinds::INT {
+        return single(table, s, left, row, INT, INT_ARRAY);
+    }
+    new_object(table, s.tokens, row)
+}
+
+// `e.length` or a call.
+fn dotted(table: &[u32], s: Scope, left: usize, row: usize) -> Judged
+    requires { ⌜ Walkable (now table) (s .tokens) × (row < 4294967296) × (left ≤ s .tokens) ⌝ }
+    ensures { λ r. ⌜ DottedPost (now (table .entry)) s left row r ⌝ }
+{
+    if kind(table, s.tokens, row + 1) == kinds::LENGTH {
+        return single(table, s, left, row, INT_ARRAY, INT);
+    }
+    call(table, s, left, row)
+}
+
+// `e.m(e, ..)`: the receiver must be an object, 31.
+fn call(table: &[u32], s: Scope, left: usize, row: usize) -> Judged
+    requires { ⌜ Walkable (now table) (s .tokens) × (row < 4294967296) × (left ≤ s .tokens) ⌝ }
+    ensures { λ r. ⌜ CallPost (now (table .entry)) s left row r ⌝ }
+{
+    let first = word(table, 4, row);
+    let e = expression(table, s, left, first);
+    match e {
+        Judged::Fine(t) => {
+            if INT <= t {
+                return Judged::Refused(31, word(table, 3, first));
+            }
+            invocation(table, s, left, row, t)
+        }
+        Judged::Refused(number, at) => Judged::Refused(number, at),
+    }
+}
+
+// The method, in a class of name c, and the arguments: 32, 33.
+fn invocation(table: &[u32], s: Scope, left: usize, row: usize, c: usize) -> Judged
+    requires { ⌜ Walkable (now table) (s .tokens) × (row < 4294967296) × (left ≤ s .tokens) ⌝ }
+    ensures { λ r. ⌜ InvocationPost (now (table .entry)) s left row c r ⌝ }
+{
+    let m = find_method(table, s.tokens, s.classes, c, word(table, 2, row + 1));
+    if ABSENT <= m {
+        return Judged::Refused(32, word(table, 1, row + 1));
+    }
+    let given = word(table, 5, row);
+    let taken = word(table, 4, m);
+    if same_count(table, s.tokens, given, taken) {
+        let a = arguments(table, s, left, given, taken);
+        match a {
+            Judged::Fine(_) => {
+                return Judged::Fine(type_of(table, s.tokens, word(table, 3, m)));
+            }
+            Judged::Refused(number, at) => {
+                return Judged::Refused(number, at);
+            }
+        }
+    }
+    Judged::Refused(33, word(table, 1, row + 1))
+}
+
+// Arguments, each of which must fit its parameter.
+fn arguments(table: &[u32], s: Scope, left: usize, row: usize, parameter: usize) -> Judged
+    requires { ⌜ Walkable (now table) (s .tokens) × (row < 4294967296) × (left ≤ s .tokens) ⌝ }
+    ensures { λ r. ⌜ ArgumentsPost (now (table .entry)) s left row parameter r ⌝ }
+{
+    if left == 0 {
+        return Judged::Fine(0);
+    }
+    if ABSENT <= row {
+        return Judged::Fine(0);
+    }
+    let want = type_of(table, s.tokens, word(table, 3, parameter));
+    let a = operand(table, s, left, row, want);
+    match a {
+        Judged::Fine(_) => arguments(
+            table,
+            s,
+            left - 1,
+            word(table, 6, row),
+            word(table, 6, parameter),
+        ),
+        Judged::Refused(number, at) => Judged::Refused(number, at),
+    }
+}

@@ -1,0 +1,31 @@
+// What a body sees: the declaring class, by the number of its name, and where its parameters and its locals begin; in main there are none of these.
+use lookup::chain::field_type;
+use lookup::member::variable_type;
+use lookup::types::NOTHING;
+ghost use Rattle.reader.specs.WalkPost.{Walkable};
+ghost use Rattle.bodies.specs.Scoping.{NameTyped};
+
+pub struct Scope {
+    pub tokens: usize,
+    pub classes: usize,
+    pub owner: usize,
+    pub parameters: usize,
+    pub locals: usize,
+}
+
+// The type of what a name means: the parameter or local, else the nearest field upwards from the declaring class.
+pub fn name_type(table: &[u32], s: Scope, x: usize) -> usize
+    requires { ⌜ Walkable (now table) (s .tokens) ⌝ }
+    ensures { λ r. ⌜ NameTyped (now (table .entry)) s x r ⌝ }
+{
+    let n = s.tokens;
+    let t = variable_type(table, n, n, s.parameters, x);
+    if t < NOTHING {
+        return t;
+    }
+    let u = variable_type(table, n, n, s.locals, x);
+    if u < NOTHING {
+        return u;
+    }
+    field_type(table, n, s.classes, s.owner, x)
+}
