@@ -19,7 +19,7 @@ use Rattle.parser.specs.Tree.{Part.literal, Part.truth, Part.variable, P
 use Rattle.parser.specs.Stream.{tokenAt, kindAt, startAt, placeAt, nameAt, Level, Level.conjunction, Level.comparison, Level.sum, Level.product, operatorOf}
 use Rattle.parser.specs.Parse.{Parsed, ok, bad, out, bind, Mode, operation, operations, operand, unary, postfix, primary, suffixes, argumentList, someArguments, anExpression, step, run}
 use Rattle.parser.specs.Layout.{absent, rowOf, node, given, store}
-use Rattle.parser.specs.Post.{kindIn, TokensIn, part, Met, met-ok, met-bad, Within, ModePost, RestPost, Rest, restMode, moreOperations, moreSuffixes, levelAt, isOperator, isAtom, startsArray, rank, fuel}
+use Rattle.parser.specs.Post.{kindIn, TokensIn, part, Met, met-ok, met-bad, Within, ModePost, RestPost, LevelsPost, Rest, restMode, moreOperations, moreSuffixes, levelAt, isOperator, isAtom, startsArray, rank, fuel}
 use Rattle.parser.proofs.Laws.{there, there-by, same-kind, tokens-kept, given-put, given-node, kind-of, is, is-not, passes, at-result, bind-ok, bind-bad, stepped, within-ok, within-more}
 
 -- a node as the code writes it
@@ -114,15 +114,48 @@ module _ (whole first : Mode expression) (rest : Rest) {n i : ℕ} {T : List ℕ
         says = λ ts h. stepped whole ts i (fuel whole n i) (λ f enough. at-result (steps ts h _) (bind-bad _ e (p .says ts h f (omega arith))));
       }
 
-pub operation-ok : {L : Level} {n i x j : ℕ} {T T₁ T₂ : List ℕ} {r₁ r : Answer} → n ≤ 2048 → ModePost (operand L) n n i T r₁ T₁ → r₁ ≡ At x j
+operation-ok : {L : Level} {n i x j : ℕ} {T T₁ T₂ : List ℕ} {r₁ r : Answer} → n ≤ 2048 → ModePost (operand L) n n i T r₁ T₁ → r₁ ≡ At x j
     → RestPost (moreOperations L i) n x j T₁ r T₂ → ModePost (operation L) n n i T r T₂
 unfolding step
 operation-ok {L} {i = i} few p e q = whole-ok (operation L) (operand L) (moreOperations L i) (λ ts h P. refl) (rank-operand L) few p e q
 
-pub operation-bad : {L : Level} {n i k : ℕ} {T T₁ : List ℕ} {r₁ : Answer} → n ≤ 2048 → ModePost (operand L) n n i T r₁ T₁ → r₁ ≡ Bad k
+operation-bad : {L : Level} {n i k : ℕ} {T T₁ : List ℕ} {r₁ : Answer} → n ≤ 2048 → ModePost (operand L) n n i T r₁ T₁ → r₁ ≡ Bad k
     → ModePost (operation L) n n i T (Bad k) T₁
 unfolding step
 operation-bad {L} {i = i} few p e = whole-bad (operation L) (operand L) (moreOperations L i) (λ ts h P. refl) (rank-operand L) few p e
+
+-- ALL LEVELS FROM ONE OPERAND
+module _ {n i : ℕ} {T T₁ : List ℕ} {r : Answer} where
+  at-level : {k k′ : ℕ} → k ≡ k′ → ModePost (operation (levelAt k)) n n i T r T₁ → ModePost (operation (levelAt k′)) n n i T r T₁
+  at-level e p = subst (λ (k : ℕ). ModePost (operation (levelAt k)) n n i T r T₁) e p
+
+  at-answer : {m : Mode expression} {r′ : Answer} → r ≡ r′ → ModePost m n n i T r T₁ → ModePost m n n i T r′ T₁
+  at-answer {m} e p = subst (λ (r : Answer). ModePost m n n i T r T₁) e p
+
+-- an operation that is refused is the first operand of a looser one, which is refused there too; d is how many levels lie between
+refused-below : {n i z : ℕ} {T T₁ : List ℕ} (d level top : ℕ) → top ≡ level + d → top ≤ 3 → n ≤ 2048 → ModePost (operation (levelAt top)) n n i T (Bad z) T₁
+    → ModePost (operation (levelAt level)) n n i T (Bad z) T₁
+refused-below zero level top e h few p = at-level (omega arith) p
+refused-below (suc d) level top e h few p = operation-bad few (operand-next level (omega arith) (refused-below d (level + 1) top (omega arith) h few p)) refl
+
+module _ {n first left i : ℕ} {T T₁ : List ℕ} {r₁ : Answer} (level top : ℕ) (few : n ≤ 2048) (high : top ≤ 3)
+    (q : RestPost (moreOperations (levelAt top) first) n left i T r₁ T₁) where
+  pub levels-more : {x j : ℕ} {T₂ : List ℕ} {r : Answer} → r₁ ≡ At x j → level < top → LevelsPost level (top - 1) n first x j T₁ r T₂
+      → LevelsPost level top n first left i T r T₂
+  levels-more e lt p = record { says = λ base o. p .says base (operand-next (top - 1) (omega arith) (at-level (omega arith) (at-answer e (operation-ok few o refl q)))) }
+
+  pub levels-last : {x j : ℕ} → r₁ ≡ At x j → level ≤ top → top ≤ level → LevelsPost level top n first left i T (At x j) T₁
+  levels-last e le ge = record { says = λ base o. at-level (omega arith) (at-answer e (operation-ok few o refl q)) }
+
+  pub levels-bad : {z : ℕ} → r₁ ≡ Bad z → level ≤ top → LevelsPost level top n first left i T (Bad z) T₁
+  levels-bad e le = record { says = λ base o. refused-below (top - level) level top (omega arith) high few (at-answer e (operation-ok few o refl q)) }
+
+module _ {n i : ℕ} {T T₁ : List ℕ} {r₁ : Answer} (level : ℕ) (p : ModePost unary n n i T r₁ T₁) where
+  pub levels-ok : {x j : ℕ} {T₂ : List ℕ} {r : Answer} → r₁ ≡ At x j → LevelsPost level 3 n i x j T₁ r T₂ → ModePost (operation (levelAt level)) n n i T r T₂
+  levels-ok e q = q .says T (operand-last 3 (omega arith) (omega arith) (at-answer e p))
+
+  pub unary-bad : {z : ℕ} → n ≤ 2048 → r₁ ≡ Bad z → level ≤ 3 → ModePost (operation (levelAt level)) n n i T (Bad z) T₁
+  unary-bad few e le = refused-below (3 - level) level 3 (omega arith) (omega arith) few (operation-bad few (operand-last 3 (omega arith) (omega arith) p) e)
 
 -- what is no `new int` is a primary and its suffixes
 not-array : (T : List ℕ) (n i : ℕ) → startsArray T n i ≡ false → (ts : List Token) → TokensIn T n ts → (P : (s : Sort) → Mode s → ℕ → Parsed (Part s))

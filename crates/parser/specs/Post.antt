@@ -14,7 +14,7 @@ use Rattle.parser.specs.declared.answer.Answer.{Answer}
 use Rattle.parser.specs.declared.answer.Answer.the-variants.{At, Bad}
 use Rattle.parser.specs.Tree.{Sort, Sort.expression, Sort.arguments, Sort.statement, Sort.statements, Part, Expression, Statement}
 use Rattle.parser.specs.Stream.{kindAt, startAt, Level, Level.conjunction, Level.comparison, Level.sum, Level.product, operatorOf}
-use Rattle.parser.specs.Parse.{Parsed, ok, bad, out, Mode, operation, operations, unary, postfix, primary, suffixes, argumentList, someArguments, aStatement, statementList, accepts, run, branchesFrom, repeatedFrom}
+use Rattle.parser.specs.Parse.{Parsed, ok, bad, out, Mode, operation, operations, operand, unary, postfix, primary, suffixes, argumentList, someArguments, aStatement, statementList, accepts, run, branchesFrom, repeatedFrom}
 use Rattle.parser.specs.Layout.{absent, rowOf, store, given}
 
 -- THE TOKENS IN THE TABLE
@@ -115,6 +115,11 @@ pub record RestPost (R : Rest) (n left i : ℕ) (before : List ℕ) (r : Answer)
   pub within : Within i n n r
   pub says : (l : Expression) (base : List ℕ) → left ≡ rowOf l → before ≡ store l base
       → (ts : List Token) → TokensIn before n ts → (f : ℕ) → 16 * (n - i) < f → Met (part expression) base after r (run f ts (restMode R l) i)
+
+-- what the parser ensures that goes on with the operators of each level from `top` down to `level`: after an operand of `top`, which was written over `base`,
+-- the whole is an operation of `level`
+pub record LevelsPost (level top n first left i : ℕ) (before : List ℕ) (r : Answer) (after : List ℕ) : Type 0 where
+  pub says : (base : List ℕ) → ModePost (operand (levelAt top)) n n first base (At left i) before → ModePost (operation (levelAt level)) n n first base r after
 
 -- STATEMENTS
 

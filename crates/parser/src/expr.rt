@@ -22,29 +22,43 @@ ghost use mathlib.Core.Bool.{true};
 ghost use Prim.Native.Nat.{_+_, _<_, _≤_};
 ghost use lib.ListN.{length};
 ghost use Rattle.parser.specs.Parse as Parse;
-ghost use Rattle.parser.specs.Post.{Ready, ModePost, RestPost, moreOperations, moreSuffixes, levelAt, kindIn, startsArray};
+ghost use Rattle.parser.specs.Post.{Ready, ModePost, RestPost, LevelsPost, moreOperations, moreSuffixes, levelAt, kindIn, startsArray};
 
-// Operands of a level, joined by its operators.
+// Operands of a level, joined by its operators. At every level a unary expression comes first. It is read here, and the levels are gone through after it, so
+// that an open parenthesis holds one frame of the stack and not one for each level.
 pub fn operation(table: &mut [u32], n: usize, level: u32, i: usize) -> Answer
     requires { ⌜ Ready (now table) n i × (level ≤ 3) ⌝ }
     ensures { λ r. ⌜ ModePost (Parse.operation (levelAt level)) n n i (now (table .entry)) r (now (table .exit)) ⌝ }
 {
-    let a = operand(table, n, level, i);
+    let a = unary(table, n, i);
     match a {
-        Answer::At(row, next) => operations(table, n, level, i, row, next),
+        Answer::At(row, next) => levels(table, n, level, 3, i, row, next),
         Answer::Bad(at) => Answer::Bad(at),
     }
 }
 
-// An operand of a level: of the next one, or a unary expression.
-fn operand(table: &mut [u32], n: usize, level: u32, i: usize) -> Answer
-    requires { ⌜ Ready (now table) n i × (level ≤ 3) ⌝ }
-    ensures { λ r. ⌜ ModePost (Parse.operand (levelAt level)) n n i (now (table .entry)) r (now (table .exit)) ⌝ }
+// What follows the first operand of level `top`, and then of each looser level down to `level`.
+fn levels(
+    table: &mut [u32],
+    n: usize,
+    level: u32,
+    top: u32,
+    first: usize,
+    left: usize,
+    i: usize,
+) -> Answer
+    requires { ⌜ Ready (now table) n i × (level ≤ top) × (top ≤ 3) × (first < n) × (left < n) ⌝ }
+    ensures { λ r. ⌜ LevelsPost level top n first left i (now (table .entry)) r (now (table .exit)) ⌝ }
 {
-    if level < 3 {
-        operation(table, n, level + 1, i)
-    } else {
-        unary(table, n, i)
+    let a = operations(table, n, top, first, left, i);
+    match a {
+        Answer::At(row, next) => {
+            if level < top {
+                return levels(table, n, level, top - 1, first, row, next);
+            }
+            Answer::At(row, next)
+        }
+        Answer::Bad(at) => Answer::Bad(at),
     }
 }
 
@@ -72,6 +86,18 @@ fn operations(
         }
     } else {
         Answer::At(left, i)
+    }
+}
+
+// An operand of a level: of the next one, or a unary expression.
+fn operand(table: &mut [u32], n: usize, level: u32, i: usize) -> Answer
+    requires { ⌜ Ready (now table) n i × (level ≤ 3) ⌝ }
+    ensures { λ r. ⌜ ModePost (Parse.operand (levelAt level)) n n i (now (table .entry)) r (now (table .exit)) ⌝ }
+{
+    if level < 3 {
+        operation(table, n, level + 1, i)
+    } else {
+        unary(table, n, i)
     }
 }
 

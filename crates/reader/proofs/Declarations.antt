@@ -1,21 +1,23 @@
--- What the walk over methods, classes and the program returns meets their contracts, one law for each return.
+-- What the walk over methods, classes and the program returns meets their contracts, and a turn of a loop goes on from one member to the next: a law for each.
 use Prim.Native.Nat.{ℕ, _+_, _≤_, _<_}
-use mathlib.Core.Path.{_≡_, refl, sym, ap, _∙_}
+use mathlib.Core.Path.{_≡_, refl, sym, ap, _∙_, subst}
 use mathlib.Core.List.{List, [], _∷_}
 use mathlib.Core.Bool.{true, false}
 use mathlib.Core.Option.{Option, none}
 use native.Mathlib.Omega.{arith}
+use native.Mathlib.Decide.{decLt}
 use Rattle.base.specs.Table.{col}
 use Rattle.lexer.specs.Tokens.{Token}
 use Rattle.parser.specs.Tree.{Method, Class}
 use Rattle.parser.specs.Layout.{absent, rowMethods, rowClasses}
-use Rattle.parser.specs.Measure.{methodsNodes, methodsDeep, classesNodes, classesDeep, programNodes, programDeep}
+use Rattle.parser.specs.Measure.{deep, methodsNodes, methodsDeep, classesNodes, classesDeep, programNodes, programDeep}
 use Rattle.parser.specs.Post.{TokensIn}
 use Rattle.reader.specs.Holds.{HoldsMethods, HoldsClasses}
 use Rattle.reader.specs.Matches.{MethodsMatch, ClassesMatch}
-use Rattle.reader.specs.WalkPost.{MethodsOrdered, ClassesOrdered, nowhere, countMost, Found, Answers, Walkable, Walks, WalksMethods, WalksClasses, WalksProgram}
+use Rattle.reader.specs.WalkPost.{MethodsOrdered, ClassesOrdered, nowhere, countMost, Found, Answers, Walkable, follower, Walks, WalksMethods, WalksClasses, WalksProgram}
 use Rattle.reader.specs.declared.walk.Walked.{Walked}
-use Rattle.reader.proofs.Depths.{Joins, nothing, joined, same-answer}
+use Rattle.reader.proofs.Depths.{least-assoc, Joins, nothing, joined, joined-nothing, same-answer}
+use Rattle.reader.proofs.Lists.{follower-up}
 use Rattle.reader.proofs.Nodes.{sound}
 
 -- METHODS
@@ -30,8 +32,12 @@ module _ {tab : List ℕ} {n row : ℕ} {w : Walked} where
       go ts tok [] e h m o = nothing c p
       go ts tok (x ∷ xs) e h m o = absurd (omega (arith, m .0 .after .there, tok .count, r .few))
 
-  module _ (near : row < 2047) {next : ℕ} (column : next ≡ col tab 6 row) where
-    pub methods-wrong : next ≤ row → WalksMethods tab n row w
+  -- nothing was walked yet
+  pub methods-none : {all rest : Walked} → all .count ≡ 0 → all .place ≡ nowhere → WalksMethods tab n row rest → Joins all rest w → WalksMethods tab n row w
+  methods-none c p k j = record { says = λ ts tok ms e h m o. joined-nothing c p (k .says ts tok ms e h m o) j }
+
+  module _ (near : row < 2047) where
+    methods-wrong : col tab 6 row ≤ row → WalksMethods tab n row w
     unfolding HoldsMethods MethodsMatch MethodsOrdered methodsDeep methodsNodes
     methods-wrong le = record { says = λ ts tok ms. go ts ms }
       where
@@ -40,20 +46,28 @@ module _ {tab : List ℕ} {n row : ℕ} {w : Walked} where
         go ts [] e h m o = absurd (omega arith)
         go ts (x ∷ xs) e h m o = absurd (omega (arith, o .0, h .1, ap (col tab 6) e))
 
-    pub methods-more : {left right : ℕ} {body value rest after : Walked} → left ≡ col tab 4 (row + 1) → Walks tab n true left 1 body
-        → right ≡ col tab 5 (row + 1) → Walks tab n false right 1 value → WalksMethods tab n next rest → Joins value rest after → Joins body after w
-        → WalksMethods tab n row w
-    unfolding HoldsMethods MethodsMatch MethodsOrdered methodsDeep methodsNodes
-    methods-more l f r g k j i = record { says = λ ts tok ms. go ts tok ms }
-      where
-        go : (ts : List Token) → TokensIn tab n ts → (ms : List Method) → rowMethods ms ≡ row → HoldsMethods tab ms → MethodsMatch ts ms → MethodsOrdered ms
-            → Answers (methodsDeep ms) (methodsNodes ms) w
-        go ts tok [] e h m o = absurd (omega arith)
-        go ts tok (x ∷ xs) e h m o =
-            same-answer refl (omega arith)
-            (joined (f .says ts tok (x .body) 0 (sym (h .0 .start) ∙ ap (λ (i : ℕ). col tab 4 (i + 1)) e ∙ sym l) (sound refl (h .0 .body) (m .0 .body) (o .1)))
-            (joined (g .says ts tok (x .value) 0 (sym (h .0 .return) ∙ ap (λ (i : ℕ). col tab 5 (i + 1)) e ∙ sym r) (sound refl (h .0 .value) (m .0 .value) (o .2)))
-            (k .says ts tok xs (sym (h .1) ∙ ap (col tab 6) e ∙ sym column) (h .2) (m .1) (o .3)) j) i)
+    module _ {left right : ℕ} {body value own rest : Walked} (l : left ≡ col tab 4 (row + 1)) (f : Walks tab n true left 1 body)
+        (r : right ≡ col tab 5 (row + 1)) (g : Walks tab n false right 1 value) (j : Joins body value own) (i : Joins own rest w) where
+      methods-more : WalksMethods tab n (col tab 6 row) rest → WalksMethods tab n row w
+      unfolding HoldsMethods MethodsMatch MethodsOrdered methodsDeep methodsNodes
+      methods-more k = record { says = λ ts tok ms. go ts tok ms }
+        where
+          go : (ts : List Token) → TokensIn tab n ts → (ms : List Method) → rowMethods ms ≡ row → HoldsMethods tab ms → MethodsMatch ts ms → MethodsOrdered ms
+              → Answers (methodsDeep ms) (methodsNodes ms) w
+          go ts tok [] e h m o = absurd (omega arith)
+          go ts tok (x ∷ xs) e h m o =
+              same-answer (sym (least-assoc (deep 1 (x .body)) (deep 1 (x .value)) (methodsDeep xs))) refl
+              (joined
+              (joined (f .says ts tok (x .body) 0 (sym (h .0 .start) ∙ ap (λ (i : ℕ). col tab 4 (i + 1)) e ∙ sym l) (sound refl (h .0 .body) (m .0 .body) (o .1)))
+              (g .says ts tok (x .value) 0 (sym (h .0 .return) ∙ ap (λ (i : ℕ). col tab 5 (i + 1)) e ∙ sym r) (sound refl (h .0 .value) (m .0 .value) (o .2))) j)
+              (k .says ts tok xs (sym (h .1) ∙ ap (col tab 6) e) (h .2) (m .1) (o .3)) i)
+
+      -- the method in this row, and those from the next on
+      pub methods-step : {next : ℕ} → next ≡ follower tab true row → WalksMethods tab n next rest → WalksMethods tab n row w
+      methods-step e k = elim (decLt row (col tab 6 row)) [
+        | yes up ↦ methods-more (subst (λ (q : ℕ). WalksMethods tab n q rest) (e ∙ follower-up tab row up) k)
+        | no wrong ↦ methods-wrong (omega arith)
+      ]
 
 -- CLASSES
 
@@ -67,8 +81,12 @@ module _ {tab : List ℕ} {n row : ℕ} {w : Walked} where
       go ts tok [] e h m o = nothing c p
       go ts tok (x ∷ xs) e h m o = absurd (omega (arith, m .0 .name .token .there, tok .count, r .few))
 
-  module _ (near : row < absent) {next : ℕ} (column : next ≡ col tab 6 row) where
-    pub classes-wrong : next ≤ row → WalksClasses tab n row w
+  -- nothing was walked yet
+  pub classes-none : {all rest : Walked} → all .count ≡ 0 → all .place ≡ nowhere → WalksClasses tab n row rest → Joins all rest w → WalksClasses tab n row w
+  classes-none c p k j = record { says = λ ts tok ks e h m o. joined-nothing c p (k .says ts tok ks e h m o) j }
+
+  module _ (near : row < absent) where
+    classes-wrong : col tab 6 row ≤ row → WalksClasses tab n row w
     unfolding HoldsClasses ClassesMatch ClassesOrdered classesDeep classesNodes
     classes-wrong le = record { says = λ ts tok ks. go ts ks }
       where
@@ -77,17 +95,24 @@ module _ {tab : List ℕ} {n row : ℕ} {w : Walked} where
         go ts [] e h m o = absurd (omega arith)
         go ts (x ∷ xs) e h m o = absurd (omega (arith, o .0, h .1, ap (col tab 6) e))
 
-    pub classes-more : {first : ℕ} {own rest : Walked} → first ≡ col tab 5 row → WalksMethods tab n first own → WalksClasses tab n next rest → Joins own rest w
-        → WalksClasses tab n row w
-    unfolding HoldsClasses ClassesMatch ClassesOrdered classesDeep classesNodes
-    classes-more l f k j = record { says = λ ts tok ks. go ts tok ks }
-      where
-        go : (ts : List Token) → TokensIn tab n ts → (ks : List Class) → rowClasses ks ≡ row → HoldsClasses tab ks → ClassesMatch ts ks → ClassesOrdered ks
-            → Answers (classesDeep ks) (classesNodes ks) w
-        go ts tok [] e h m o = absurd (omega arith)
-        go ts tok (x ∷ xs) e h m o =
-            joined (f .says ts tok (x .methods) (sym (h .0 .second) ∙ ap (col tab 5) e ∙ sym l) (h .0 .methods) (m .0 .methods) (o .1))
-            (k .says ts tok xs (sym (h .1) ∙ ap (col tab 6) e ∙ sym column) (h .2) (m .1) (o .2)) j
+    module _ {first : ℕ} {own rest : Walked} (l : first ≡ col tab 5 row) (f : WalksMethods tab n first own) (j : Joins own rest w) where
+      classes-more : WalksClasses tab n (col tab 6 row) rest → WalksClasses tab n row w
+      unfolding HoldsClasses ClassesMatch ClassesOrdered classesDeep classesNodes
+      classes-more k = record { says = λ ts tok ks. go ts tok ks }
+        where
+          go : (ts : List Token) → TokensIn tab n ts → (ks : List Class) → rowClasses ks ≡ row → HoldsClasses tab ks → ClassesMatch ts ks → ClassesOrdered ks
+              → Answers (classesDeep ks) (classesNodes ks) w
+          go ts tok [] e h m o = absurd (omega arith)
+          go ts tok (x ∷ xs) e h m o =
+              joined (f .says ts tok (x .methods) (sym (h .0 .second) ∙ ap (col tab 5) e ∙ sym l) (h .0 .methods) (m .0 .methods) (o .1))
+              (k .says ts tok xs (sym (h .1) ∙ ap (col tab 6) e) (h .2) (m .1) (o .2)) j
+
+      -- the class in this row, and those from the next on
+      pub classes-step : {next : ℕ} → next ≡ follower tab true row → WalksClasses tab n next rest → WalksClasses tab n row w
+      classes-step e k = elim (decLt row (col tab 6 row)) [
+        | yes up ↦ classes-more (subst (λ (q : ℕ). WalksClasses tab n q rest) (e ∙ follower-up tab row up) k)
+        | no wrong ↦ classes-wrong (omega arith)
+      ]
 
 -- THE PROGRAM
 

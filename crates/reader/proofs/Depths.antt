@@ -152,3 +152,7 @@ enclosed {x} {k} {a} {w} h j =
 -- the same answer, of equal things
 pub same-answer : {x y : Option ℕ} {k l : ℕ} {w : Walked} → x ≡ y → k ≡ l → Answers x k w → Answers y l w
 same-answer {x} {y} {k} {l} {w} e q h = subst (λ (o : Option ℕ). Answers o l w) e (subst (λ (m : ℕ). Answers x m w) q h)
+
+-- where one part is nothing, two answer what the other does
+pub joined-nothing : {x : Option ℕ} {k : ℕ} {a b w : Walked} → a .count ≡ 0 → a .place ≡ nowhere → Answers x k b → Joins a b w → Answers x k w
+joined-nothing {x} c p h j = same-answer {x = x} refl (omega arith) (joined (nothing c p) h j)

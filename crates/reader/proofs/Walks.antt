@@ -1,4 +1,4 @@
--- What the walk's functions return meets their contracts, one law for each return.
+-- What `part` and `node` return meets their contracts, and a turn of the loop in `part` goes on from one member of a list to the next: a law for each.
 use Prim.Native.Nat.{ℕ, _+_, _≤_, _<_}
 use mathlib.Core.Path.{_≡_, refl, sym, ap, _∙_, subst}
 use mathlib.Core.List.{List}
@@ -6,6 +6,7 @@ use mathlib.Core.Logic.{_≢_, _⊎_, ⊎-elim, inl, inr}
 use mathlib.Core.Bool.{Bool, true, false}
 use mathlib.Core.Option.{Option, none, some}
 use native.Mathlib.Omega.{arith}
+use native.Mathlib.Decide.{decLt}
 use lib.ListN.{length}
 use lib.Dec.{eqb}
 use Rattle.base.specs.Table.{col}
@@ -21,9 +22,10 @@ use Rattle.parser.specs.Measure.{nodes, least, deep}
 use Rattle.parser.specs.Post.{kindIn, TokensIn}
 use Rattle.reader.specs.Holds.{Holds}
 use Rattle.reader.specs.Matches.{Matches}
-use Rattle.reader.specs.WalkPost.{Ordered, nowhere, Answers, Walkable, listed, Sound, Walks}
+use Rattle.reader.specs.WalkPost.{Ordered, nowhere, Answers, Walkable, follower, listed, Sound, Walks}
 use Rattle.reader.specs.declared.walk.Walked.{Walked}
-use Rattle.reader.proofs.Depths.{least-absent, NotBefore, both, fine-here, first-here, not-before, Joins, Encloses, nothing, joined, enclosed, same-answer}
+use Rattle.reader.proofs.Depths.{least-none, least-absent, NotBefore, both, fine-here, first-here, not-before, Joins, Encloses, nothing, joined, joined-nothing, enclosed, same-answer}
+use Rattle.reader.proofs.Lists.{follower-up, follower-none}
 use Rattle.reader.proofs.Nodes.{true-false, Apart, sound, apart}
 
 -- ROWS
@@ -121,6 +123,11 @@ members (sequence x xs) lt e h m o =
 split : {tab : List ℕ} {ts : List Token} {low : ℕ} {s : Sort} (t : Part s) → rowOf t < absent → Sound tab ts low true t → Split tab ts low t
 split t lt h = members t lt (h .chained lt) (h .holds) (h .matches) (h .ordered)
 
+-- an empty list, which may stand where no list does
+empty : {tab : List ℕ} {ts : List Token} {low : ℕ} → Sound tab ts low false noArguments
+unfolding Holds Matches Ordered
+empty = record { chained = λ lt. absurd (omega arith); holds = tt; matches = tt; ordered = tt }
+
 sound-as : {tab : List ℕ} {ts : List Token} {low : ℕ} {b c : Bool} {s : Sort} {t : Part s} → b ≡ c → Sound tab ts low b t → Sound tab ts low c t
 sound-as {tab} {ts} {low} {t = t} e h = subst (λ (x : Bool). Sound tab ts low x t) e h
 
@@ -134,27 +141,47 @@ module _ {tab : List ℕ} {n : ℕ} {chain : Bool} {row d : ℕ} {w : Walked} wh
             ⊎-elim (λ lt. absurd (omega (arith, tok .count, r .few))) (λ z. same-answer (sym (z .2 d)) (sym (z .1)) (nothing c p)) (row-or-empty ts t (h .matches));
       }
 
-  pub part-single : chain ≡ false → Walks tab n false row d w → Walks tab n chain row d w
-  part-single e h = subst (λ (x : Bool). Walks tab n x row d w) (sym e) h
+  -- nothing was walked yet
+  pub part-none : {all rest : Walked} → all .count ≡ 0 → all .place ≡ nowhere → Walks tab n chain row d rest → Joins all rest w → Walks tab n chain row d w
+  part-none c p k j = record { says = λ ts tok t low e h. joined-nothing c p (k .says ts tok t low e h) j }
 
-  module _ (near : row < absent) (listing : chain ≡ true) {next : ℕ} (column : next ≡ col tab 6 row) where
-    pub part-wrong : next ≤ row → Walks tab n chain row d w
-    part-wrong le =
+module _ {tab : List ℕ} {n row d : ℕ} {w : Walked} (near : row < absent) where
+  part-wrong : col tab 6 row ≤ row → Walks tab n true row d w
+  part-wrong le =
+      record {
+        says = λ ts tok t low e h.
+            let v : Split tab ts low t = split t (omega arith) h in
+            absurd (omega (arith, v .rises, v .next, ap (col tab 6) e));
+      }
+
+  module _ {first rest : Walked} (f : Walks tab n false row d first) (j : Joins first rest w) where
+    part-more : Walks tab n true (col tab 6 row) d rest → Walks tab n true row d w
+    part-more g =
         record {
           says = λ ts tok t low e h.
-              let v : Split tab ts low t = split t (omega arith) (sound-as listing h) in
-              absurd (omega (arith, v .rises, v .next, column, ap (col tab 6) e));
-        }
-
-    pub part-more : {first rest : Walked} → Walks tab n false row d first → Walks tab n chain next d rest → Joins first rest w → Walks tab n chain row d w
-    part-more f g j =
-        record {
-          says = λ ts tok t low e h.
-              let v : Split tab ts low t = split t (omega arith) (sound-as listing h) in
+              let v : Split tab ts low t = split t (omega arith) h in
               same-answer (sym (v .depth d)) (sym (v .size))
               (joined (f .says ts tok (v .head) low (sym (v .row) ∙ e) (v .sound₁))
-              (g .says ts tok (v .tail) low (sym (v .next) ∙ ap (col tab 6) e ∙ sym column) (sound-as (sym listing) (v .sound₂))) j);
+              (g .says ts tok (v .tail) low (sym (v .next) ∙ ap (col tab 6) e) (v .sound₂)) j);
         }
+
+    -- what is no list has one member; the walk from no row on is that of an empty list
+    part-only : Walks tab n false absent d rest → Walks tab n false row d w
+    unfolding deep nodes
+    part-only g =
+        record {
+          says = λ ts tok t low e h.
+              same-answer (least-none (deep d t)) (omega arith) (joined (f .says ts tok t low e h) (g .says ts tok noArguments low refl empty) j);
+        }
+
+-- the member in this row, and those from the next on
+pub part-step : {tab : List ℕ} {n row d next : ℕ} {first rest w : Walked} (chain : Bool) → row < absent → Walks tab n false row d first → next ≡ follower tab chain row
+    → Walks tab n chain next d rest → Joins first rest w → Walks tab n chain row d w
+part-step {tab} {n} {row} {d} {rest = rest} true near f e g j = elim (decLt row (col tab 6 row)) [
+  | yes up ↦ part-more near f j (subst (λ (i : ℕ). Walks tab n true i d rest) (e ∙ follower-up tab row up) g)
+  | no wrong ↦ part-wrong near (omega arith)
+]
+part-step {tab} {n} {row} {d} {rest = rest} false near f e g j = part-only near f j (subst (λ (i : ℕ). Walks tab n false i d rest) (e ∙ follower-none tab row) g)
 
 -- NODES
 

@@ -1,4 +1,5 @@
 // The walk over the tree in the work table: how many nodes there are, and the smallest position of a node that is too deep.
+// It goes down the tree by calls, no deeper than the bound of depth, and along a list by a loop: a list may be as long as there are tokens.
 // A row's first two parts lie in columns 4 and 5,
 // and only three kinds of nodes tell more: a block's first part and a call's second are lists, linked by column 6, and an `if` has a third part, in column 7.
 use parser::kinds::DOT;
@@ -10,7 +11,7 @@ ghost use mathlib.Core.Bool.{false};
 ghost use Prim.Native.Nat.{_+_, _<_, _≤_, min};
 ghost use lib.ListN.{length};
 ghost use Rattle.base.specs.Table as Table;
-ghost use Rattle.reader.specs.WalkPost.{Walkable, Walks, WalksMethods, WalksClasses, WalksProgram};
+ghost use Rattle.reader.specs.WalkPost.{Walkable, follower, Walks, WalksMethods, WalksClasses, WalksProgram};
 
 // The number of nodes, 65,535 where there are more; and the smallest position of a node that is too deep, 4,294,967,296 where none is.
 pub struct Walked {
@@ -49,6 +50,16 @@ fn least(a: usize, b: usize) -> usize
     if a < b { a } else { b }
 }
 
+// No part.
+fn nothing() -> Walked
+    ensures { λ r. ⌜ (r .count ≡ 0) × (r .place ≡ 4294967296) ⌝ }
+{
+    Walked {
+        count: 0,
+        place: NOWHERE,
+    }
+}
+
 // Two parts together.
 fn join(a: Walked, b: Walked) -> Walked
     ensures { λ r. ⌜ (r .count ≡ min (a .count + b .count) 65535) × (r .place ≡ min (a .place) (b .place)) ⌝ }
@@ -81,27 +92,33 @@ fn column(table: &[u32], k: usize, row: usize) -> usize
     table[2048 * k + row] as usize
 }
 
+// The row of the member after this one in a list, 2048 where there is none. In a tree each link goes up: one that does not ends the walk.
+fn following(table: &[u32], chain: bool, row: usize) -> usize
+    requires { ⌜ (16384 ≤ length (now table)) × (row < 2048) ⌝ }
+    ensures { λ r. ⌜ r ≡ follower (now (table .entry)) chain row ⌝ }
+{
+    if chain {
+        let next = column(table, 6, row);
+        if row < next {
+            return next;
+        }
+    }
+    ABSENT
+}
+
 // The part whose row this is, at depth d: a list if `chain`, and a node otherwise.
 fn part(table: &[u32], n: usize, chain: bool, row: usize, d: usize) -> Walked
     requires { ⌜ Walkable (now table) n × (d ≤ 65) ⌝ }
     ensures { λ r. ⌜ Walks (now (table .entry)) n chain row d r ⌝ }
 {
-    if ABSENT <= row {
-        return Walked {
-            count: 0,
-            place: NOWHERE,
-        };
+    let mut all = nothing();
+    let mut at = row;
+    while at < ABSENT {
+        let member = node(table, n, at, d);
+        all = join(all, member);
+        at = following(table, chain, at);
     }
-    let first = node(table, n, row, d);
-    if chain {
-        let next = column(table, 6, row);
-        if next <= row {
-            return first;
-        }
-        let rest = part(table, n, chain, next, d);
-        return join(first, rest);
-    }
-    first
+    all
 }
 
 // The node of a row, at depth d. What lies below a node that is too deep begins no earlier.
@@ -133,21 +150,16 @@ fn methods(table: &[u32], n: usize, row: usize) -> Walked
     requires { ⌜ Walkable (now table) n ⌝ }
     ensures { λ r. ⌜ WalksMethods (now (table .entry)) n row r ⌝ }
 {
-    if LAST <= row {
-        return Walked {
-            count: 0,
-            place: NOWHERE,
-        };
+    let mut all = nothing();
+    let mut at = row;
+    while at < LAST {
+        let body = part(table, n, true, column(table, 4, at + 1), 1);
+        let value = part(table, n, false, column(table, 5, at + 1), 1);
+        let own = join(body, value);
+        all = join(all, own);
+        at = following(table, true, at);
     }
-    let body = part(table, n, true, column(table, 4, row + 1), 1);
-    let value = part(table, n, false, column(table, 5, row + 1), 1);
-    let next = column(table, 6, row);
-    if next <= row {
-        return body;
-    }
-    let rest = methods(table, n, next);
-    let after = join(value, rest);
-    join(body, after)
+    all
 }
 
 // The classes from this row on.
@@ -155,19 +167,14 @@ fn classes(table: &[u32], n: usize, row: usize) -> Walked
     requires { ⌜ Walkable (now table) n ⌝ }
     ensures { λ r. ⌜ WalksClasses (now (table .entry)) n row r ⌝ }
 {
-    if ABSENT <= row {
-        return Walked {
-            count: 0,
-            place: NOWHERE,
-        };
+    let mut all = nothing();
+    let mut at = row;
+    while at < ABSENT {
+        let own = methods(table, n, column(table, 5, at));
+        all = join(all, own);
+        at = following(table, true, at);
     }
-    let own = methods(table, n, column(table, 5, row));
-    let next = column(table, 6, row);
-    if next <= row {
-        return own;
-    }
-    let rest = classes(table, n, next);
-    join(own, rest)
+    all
 }
 
 // The whole program: main's statement is in row 14, the first class in column 6 of row 0.

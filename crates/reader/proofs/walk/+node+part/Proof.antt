@@ -1,4 +1,5 @@
--- The proof of the cycle of calls on parts and nodes. The measure is 4,096 for each level of depth left, and for a part the number of rows left. Each return is a law of `Walks`.
+-- The proof of the cycle of calls on parts and nodes. The measure is 2 for each level of depth left, and 1 more for a part.
+-- The loop of `part` keeps what `SoFar` says, and its measure is the number of rows left. Each return and each turn is by a law of `Walks`.
 use Prim.Native.Nat.{ℕ, _+_, _*_, _-_, _<_}
 use borrow.Fn.Kinds.{In}
 use borrow.Fn.PlainCycle.{Measures, is, falls, and}
@@ -10,16 +11,20 @@ use Rattle.reader.proofs.walk.part.Kinds as part-kinds
 use Rattle.reader.proofs.walk.+node+part.Lts-part as part-lts
 use Rattle.parser.proofs.table.kind.Reads as kind-reads
 use Rattle.reader.proofs.walk.column.Reads as column-reads
+use Rattle.reader.proofs.walk.following.Reads as following-reads
 use Rattle.reader.proofs.walk.join.Reads as join-reads
+use Rattle.reader.proofs.walk.nothing.Reads as nothing-reads
 use Rattle.reader.proofs.walk.whole.Reads as whole-reads
 use Rattle.reader.proofs.walk.+node+part.{statement}
 use Rattle.reader.proofs.walk.+node+part.Tie.{close}
-use mathlib.Core.Path.{refl}
+use native.Mathlib.Omega.{arith}
 use borrow.Author.Needs.{needs}
-use Rattle.reader.proofs.Walks.{part-absent, part-single, part-wrong, part-more, node-far, node-two, node-three}
+use Rattle.reader.specs.WalkPost.{Walks}
+use Rattle.reader.proofs.Lists.{SoFar, so-far-none, so-far-more, so-far-end, follower-rises}
+use Rattle.reader.proofs.Walks.{part-none, part-step, part-absent, node-far, node-two, node-three}
 
 abbrev μ-node : Measures 1 node-kinds.ps ℕ
-μ-node κs a = 4096 * (66 - a .1 .1 .1 .0)
+μ-node κs a = 2 * (66 - a .1 .1 .1 .0)
 
 abbrev node-at : ℕ → In 1 node-kinds.ps
 node-at t = and 1 node-kinds.ps (is 1 node-kinds.ps μ-node t) node.Pre
@@ -28,7 +33,7 @@ abbrev node-below : ℕ → In 1 node-kinds.ps
 node-below t = and 1 node-kinds.ps (falls 1 node-kinds.ps _<_ μ-node t) node.Pre
 
 abbrev μ-part : Measures 1 part-kinds.ps ℕ
-μ-part κs a = 4096 * (66 - a .1 .1 .1 .1 .0) + (2049 - a .1 .1 .1 .0)
+μ-part κs a = 2 * (66 - a .1 .1 .1 .1 .0) + 1
 
 abbrev part-at : ℕ → In 1 part-kinds.ps
 part-at t = and 1 part-kinds.ps (is 1 part-kinds.ps μ-part t) part.Pre
@@ -40,7 +45,13 @@ abbrev node-calls : ℕ → node-lts.Claims
 node-calls t = (column-reads.Asked, column-reads.Learnt, kind-reads.Asked, kind-reads.Learnt, part-below t, part.Post, join-reads.Asked, join-reads.Learnt, whole-reads.Asked, whole-reads.Learnt)
 
 abbrev part-calls : ℕ → part-lts.Claims
-part-calls t = (node-below t, node.Post, column-reads.Asked, column-reads.Learnt, part-below t, part.Post, join-reads.Asked, join-reads.Learnt)
+part-calls t = (nothing-reads.Asked, nothing-reads.Learnt, node-below t, node.Post, join-reads.Asked, join-reads.Learnt, following-reads.Asked, following-reads.Learnt)
+
+abbrev part-Inv-loop : part-lts.InvT-loop
+part-Inv-loop table n chain row d all₀ at₀ all at = SoFar (λ i w. Walks table n chain i d w) row at all
+
+abbrev part-μ-loop : part-lts.MeasureT-loop
+part-μ-loop table n chain row d all₀ at₀ all at = 2048 - at
 
 module _ (t : ℕ) where
   node-column-requires : node-lts.Need-column-requires (node-calls t) (node-at t) node.Post
@@ -97,32 +108,32 @@ module _ (t : ℕ) where
   node-returns-3 : node-lts.Need-returns-3 (node-calls t) (node-at t) node.Post
   node-returns-3 c = node-two _ _ (c .before .before .before .before .before .before .before .kind .ensures) (c .before .before .before .before .before .before .column2 .ensures .0) (c .before .before .before .before .before .part .ensures) (c .before .before .before .before .column3 .ensures .0) (c .before .before .before .part2 .ensures) (c .before .before .join .ensures) (c .before .before .before .before .before .before .before .before .before .before .pre .1 .1) (c .before .before .before .before .before .before .before .before .if1 .left) (c .before .if2 .left) (c .whole2 .ensures)
 
-  part-returns : part-lts.Need-returns (part-calls t) (part-at t) part.Post
-  part-returns c = part-absent (c .before .before .pre .1 .0) (c .if1 .taken) refl refl
+  part-nothing-requires : part-lts.Need-nothing-requires (part-calls t) (part-at t) part.Post part-Inv-loop part-μ-loop
+  part-nothing-requires c κs = search needs
 
-  part-node-requires : part-lts.Need-node-requires (part-calls t) (part-at t) part.Post
+  part-loop-holds : part-lts.Need-loop-holds (part-calls t) (part-at t) part.Post part-Inv-loop part-μ-loop
+  part-loop-holds c = so-far-none _ (c .nothing .ensures .0) (c .nothing .ensures .1) (λ rest w k j. part-none (c .nothing .ensures .0) (c .nothing .ensures .1) k j)
+
+  part-node-requires : part-lts.Need-node-requires (part-calls t) (part-at t) part.Post part-Inv-loop part-μ-loop
   part-node-requires c κs = search needs
 
-  part-column-requires : part-lts.Need-column-requires (part-calls t) (part-at t) part.Post
-  part-column-requires c κs = search needs
-
-  part-returns-2 : part-lts.Need-returns-2 (part-calls t) (part-at t) part.Post
-  part-returns-2 c = part-wrong (c .before .before .before .before .if1 .left) (c .before .before .if2 .taken) (c .before .column .ensures .0) (c .if3 .taken)
-
-  part-part-requires : part-lts.Need-part-requires (part-calls t) (part-at t) part.Post
-  part-part-requires c κs = search needs
-
-  part-join-requires : part-lts.Need-join-requires (part-calls t) (part-at t) part.Post
+  part-join-requires : part-lts.Need-join-requires (part-calls t) (part-at t) part.Post part-Inv-loop part-μ-loop
   part-join-requires c κs = search needs
 
-  part-returns-3 : part-lts.Need-returns-3 (part-calls t) (part-at t) part.Post
-  part-returns-3 c = part-more (c .before .before .before .before .before .before .if1 .left) (c .before .before .before .before .if2 .taken) (c .before .before .before .column .ensures .0) (c .before .before .before .before .before .node .ensures) (c .before .part .ensures) (c .join .ensures)
+  part-following-requires : part-lts.Need-following-requires (part-calls t) (part-at t) part.Post part-Inv-loop part-μ-loop
+  part-following-requires c κs = search needs
 
-  part-returns-4 : part-lts.Need-returns-4 (part-calls t) (part-at t) part.Post
-  part-returns-4 c = part-single (c .if2 .left) (c .before .node .ensures)
+  part-loop-less : part-lts.Need-loop-less (part-calls t) (part-at t) part.Post part-Inv-loop part-μ-loop
+  part-loop-less c = omega (arith, follower-rises (c .before .before .before .before .before .before .before .args .table .now) (c .before .before .before .before .loop .at) (c .before .before .before .before .before .before .before .args .chain) (c .before .before .before .loop-test .taken))
+
+  part-loop-again : part-lts.Need-loop-again (part-calls t) (part-at t) part.Post part-Inv-loop part-μ-loop
+  part-loop-again c = so-far-more _ (c .before .before .node .result) (λ rest w k j. part-step (c .before .before .before .before .before .before .before .args .chain) (c .before .before .before .loop-test .taken) (c .before .before .node .ensures) (c .following .ensures) k j) (c .before .before .before .before .loop .inv) (c .before .join .ensures)
+
+  part-returns : part-lts.Need-returns (part-calls t) (part-at t) part.Post part-Inv-loop part-μ-loop
+  part-returns c = so-far-end _ (c .before .before .nothing .result) (c .before .before .nothing .ensures .0) (c .before .before .nothing .ensures .1) (part-absent (c .before .before .before .before .pre .1 .0) (c .loop-test .left) (c .before .before .nothing .ensures .0) (c .before .before .nothing .ensures .1)) (c .before .loop .inv)
 
 pub +node+part-spec : {M : Type 1} → statement M
 +node+part-spec =
     close μ-node μ-part
     (λ t. node-lts.spec (node-calls t) (node-at t) node.Post (node-column-requires t) (node-returns t) (node-kind-requires t) (node-column-requires-2 t) (node-add-part t) (node-part-requires t) (node-column-requires-3 t) (node-add-part-2 t) (node-part-requires-2 t) (node-join-requires t) (node-column-requires-4 t) (node-add-part-3 t) (node-part-requires-3 t) (node-join-requires-2 t) (node-whole-requires t) (node-returns-2 t) (node-whole-requires-2 t) (node-returns-3 t))
-    (λ t. part-lts.spec (part-calls t) (part-at t) part.Post (part-returns t) (part-node-requires t) (part-column-requires t) (part-returns-2 t) (part-part-requires t) (part-join-requires t) (part-returns-3 t) (part-returns-4 t))
+    (λ t. part-lts.spec (part-calls t) (part-at t) part.Post part-Inv-loop part-μ-loop (part-nothing-requires t) (part-loop-holds t) (part-node-requires t) (part-join-requires t) (part-following-requires t) (part-loop-less t) (part-loop-again t) (part-returns t))

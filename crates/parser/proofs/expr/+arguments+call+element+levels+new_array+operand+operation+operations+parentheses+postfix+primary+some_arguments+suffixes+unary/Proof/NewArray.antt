@@ -1,14 +1,14 @@
 -- The answers of `new-array`.
 use Prim.Native.Nat.{ℕ, _<_}
 use Rattle.parser.proofs.expr.new_array.Reads as new-array
-use Rattle.parser.proofs.expr.+arguments+call+element+new_array+operand+operation+operations+parentheses+postfix+primary+some_arguments+suffixes+unary.Lts-new_array as new-array-lts
+use Rattle.parser.proofs.expr.+arguments+call+element+levels+new_array+operand+operation+operations+parentheses+postfix+primary+some_arguments+suffixes+unary.Lts-new_array as new-array-lts
 use Prim.Native.Nat.{_+_}
 use borrow.Author.Needs.{needs}
 use native.Mathlib.Omega.{arith}
 use lib.Dec.{lit<}
 use Rattle.parser.proofs.Laws.{there, within-ok}
 use Rattle.parser.proofs.Postfix.{array-ok, array-close, array-bad, array-open}
-use Rattle.parser.proofs.expr.+arguments+call+element+new_array+operand+operation+operations+parentheses+postfix+primary+some_arguments+suffixes+unary.Proof.At.{new-array-at, new-array-calls}
+use Rattle.parser.proofs.expr.+arguments+call+element+levels+new_array+operand+operation+operations+parentheses+postfix+primary+some_arguments+suffixes+unary.Proof.At.{new-array-at, new-array-calls}
 
 module _ (t : ℕ) where
   pub new-array-add-kind : new-array-lts.Need-add-kind (new-array-calls t) (new-array-at t) new-array.Post

@@ -1,13 +1,13 @@
 -- The answers of `unary`.
 use Prim.Native.Nat.{ℕ, _<_}
 use Rattle.parser.proofs.expr.unary.Reads as unary
-use Rattle.parser.proofs.expr.+arguments+call+element+new_array+operand+operation+operations+parentheses+postfix+primary+some_arguments+suffixes+unary.Lts-unary as unary-lts
+use Rattle.parser.proofs.expr.+arguments+call+element+levels+new_array+operand+operation+operations+parentheses+postfix+primary+some_arguments+suffixes+unary.Lts-unary as unary-lts
 use borrow.Author.Needs.{needs}
 use native.Mathlib.Omega.{arith}
 use lib.Dec.{lit<}
 use Rattle.parser.proofs.Laws.{there, within-ok}
 use Rattle.parser.proofs.Expressions.{negation-ok, negation-bad, to-postfix}
-use Rattle.parser.proofs.expr.+arguments+call+element+new_array+operand+operation+operations+parentheses+postfix+primary+some_arguments+suffixes+unary.Proof.At.{unary-at, unary-calls}
+use Rattle.parser.proofs.expr.+arguments+call+element+levels+new_array+operand+operation+operations+parentheses+postfix+primary+some_arguments+suffixes+unary.Proof.At.{unary-at, unary-calls}
 
 module _ (t : ℕ) where
   pub unary-kind-requires : unary-lts.Need-kind-requires (unary-calls t) (unary-at t) unary.Post

@@ -4,43 +4,46 @@ use borrow.Fn.Kinds.{In}
 use borrow.Fn.PlainCycle.{Measures, is, falls, and}
 use Rattle.parser.proofs.expr.arguments.Reads as arguments
 use Rattle.parser.proofs.expr.arguments.Kinds as arguments-kinds
-use Rattle.parser.proofs.expr.+arguments+call+element+new_array+operand+operation+operations+parentheses+postfix+primary+some_arguments+suffixes+unary.Lts-arguments as arguments-lts
+use Rattle.parser.proofs.expr.+arguments+call+element+levels+new_array+operand+operation+operations+parentheses+postfix+primary+some_arguments+suffixes+unary.Lts-arguments as arguments-lts
 use Rattle.parser.proofs.expr.call.Reads as call
 use Rattle.parser.proofs.expr.call.Kinds as call-kinds
-use Rattle.parser.proofs.expr.+arguments+call+element+new_array+operand+operation+operations+parentheses+postfix+primary+some_arguments+suffixes+unary.Lts-call as call-lts
+use Rattle.parser.proofs.expr.+arguments+call+element+levels+new_array+operand+operation+operations+parentheses+postfix+primary+some_arguments+suffixes+unary.Lts-call as call-lts
 use Rattle.parser.proofs.expr.element.Reads as element
 use Rattle.parser.proofs.expr.element.Kinds as element-kinds
-use Rattle.parser.proofs.expr.+arguments+call+element+new_array+operand+operation+operations+parentheses+postfix+primary+some_arguments+suffixes+unary.Lts-element as element-lts
+use Rattle.parser.proofs.expr.+arguments+call+element+levels+new_array+operand+operation+operations+parentheses+postfix+primary+some_arguments+suffixes+unary.Lts-element as element-lts
+use Rattle.parser.proofs.expr.levels.Reads as levels
+use Rattle.parser.proofs.expr.levels.Kinds as levels-kinds
+use Rattle.parser.proofs.expr.+arguments+call+element+levels+new_array+operand+operation+operations+parentheses+postfix+primary+some_arguments+suffixes+unary.Lts-levels as levels-lts
 use Rattle.parser.proofs.expr.new_array.Reads as new-array
 use Rattle.parser.proofs.expr.new_array.Kinds as new-array-kinds
-use Rattle.parser.proofs.expr.+arguments+call+element+new_array+operand+operation+operations+parentheses+postfix+primary+some_arguments+suffixes+unary.Lts-new_array as new-array-lts
+use Rattle.parser.proofs.expr.+arguments+call+element+levels+new_array+operand+operation+operations+parentheses+postfix+primary+some_arguments+suffixes+unary.Lts-new_array as new-array-lts
 use Rattle.parser.proofs.expr.operand.Reads as operand
 use Rattle.parser.proofs.expr.operand.Kinds as operand-kinds
-use Rattle.parser.proofs.expr.+arguments+call+element+new_array+operand+operation+operations+parentheses+postfix+primary+some_arguments+suffixes+unary.Lts-operand as operand-lts
+use Rattle.parser.proofs.expr.+arguments+call+element+levels+new_array+operand+operation+operations+parentheses+postfix+primary+some_arguments+suffixes+unary.Lts-operand as operand-lts
 use Rattle.parser.proofs.expr.operation.Reads as operation
 use Rattle.parser.proofs.expr.operation.Kinds as operation-kinds
-use Rattle.parser.proofs.expr.+arguments+call+element+new_array+operand+operation+operations+parentheses+postfix+primary+some_arguments+suffixes+unary.Lts-operation as operation-lts
+use Rattle.parser.proofs.expr.+arguments+call+element+levels+new_array+operand+operation+operations+parentheses+postfix+primary+some_arguments+suffixes+unary.Lts-operation as operation-lts
 use Rattle.parser.proofs.expr.operations.Reads as operations
 use Rattle.parser.proofs.expr.operations.Kinds as operations-kinds
-use Rattle.parser.proofs.expr.+arguments+call+element+new_array+operand+operation+operations+parentheses+postfix+primary+some_arguments+suffixes+unary.Lts-operations as operations-lts
+use Rattle.parser.proofs.expr.+arguments+call+element+levels+new_array+operand+operation+operations+parentheses+postfix+primary+some_arguments+suffixes+unary.Lts-operations as operations-lts
 use Rattle.parser.proofs.expr.parentheses.Reads as parentheses
 use Rattle.parser.proofs.expr.parentheses.Kinds as parentheses-kinds
-use Rattle.parser.proofs.expr.+arguments+call+element+new_array+operand+operation+operations+parentheses+postfix+primary+some_arguments+suffixes+unary.Lts-parentheses as parentheses-lts
+use Rattle.parser.proofs.expr.+arguments+call+element+levels+new_array+operand+operation+operations+parentheses+postfix+primary+some_arguments+suffixes+unary.Lts-parentheses as parentheses-lts
 use Rattle.parser.proofs.expr.postfix.Reads as postfix
 use Rattle.parser.proofs.expr.postfix.Kinds as postfix-kinds
-use Rattle.parser.proofs.expr.+arguments+call+element+new_array+operand+operation+operations+parentheses+postfix+primary+some_arguments+suffixes+unary.Lts-postfix as postfix-lts
+use Rattle.parser.proofs.expr.+arguments+call+element+levels+new_array+operand+operation+operations+parentheses+postfix+primary+some_arguments+suffixes+unary.Lts-postfix as postfix-lts
 use Rattle.parser.proofs.expr.primary.Reads as primary
 use Rattle.parser.proofs.expr.primary.Kinds as primary-kinds
-use Rattle.parser.proofs.expr.+arguments+call+element+new_array+operand+operation+operations+parentheses+postfix+primary+some_arguments+suffixes+unary.Lts-primary as primary-lts
+use Rattle.parser.proofs.expr.+arguments+call+element+levels+new_array+operand+operation+operations+parentheses+postfix+primary+some_arguments+suffixes+unary.Lts-primary as primary-lts
 use Rattle.parser.proofs.expr.some_arguments.Reads as some-arguments
 use Rattle.parser.proofs.expr.some_arguments.Kinds as some-arguments-kinds
-use Rattle.parser.proofs.expr.+arguments+call+element+new_array+operand+operation+operations+parentheses+postfix+primary+some_arguments+suffixes+unary.Lts-some_arguments as some-arguments-lts
+use Rattle.parser.proofs.expr.+arguments+call+element+levels+new_array+operand+operation+operations+parentheses+postfix+primary+some_arguments+suffixes+unary.Lts-some_arguments as some-arguments-lts
 use Rattle.parser.proofs.expr.suffixes.Reads as suffixes
 use Rattle.parser.proofs.expr.suffixes.Kinds as suffixes-kinds
-use Rattle.parser.proofs.expr.+arguments+call+element+new_array+operand+operation+operations+parentheses+postfix+primary+some_arguments+suffixes+unary.Lts-suffixes as suffixes-lts
+use Rattle.parser.proofs.expr.+arguments+call+element+levels+new_array+operand+operation+operations+parentheses+postfix+primary+some_arguments+suffixes+unary.Lts-suffixes as suffixes-lts
 use Rattle.parser.proofs.expr.unary.Reads as unary
 use Rattle.parser.proofs.expr.unary.Kinds as unary-kinds
-use Rattle.parser.proofs.expr.+arguments+call+element+new_array+operand+operation+operations+parentheses+postfix+primary+some_arguments+suffixes+unary.Lts-unary as unary-lts
+use Rattle.parser.proofs.expr.+arguments+call+element+levels+new_array+operand+operation+operations+parentheses+postfix+primary+some_arguments+suffixes+unary.Lts-unary as unary-lts
 use Rattle.parser.proofs.expr.new_object.Reads as new-object-reads
 use Rattle.parser.proofs.expr.starts_array.Reads as starts-array-reads
 use Rattle.parser.proofs.kinds.is_atom.Reads as is-atom-reads
@@ -78,6 +81,15 @@ element-at t = and 1 element-kinds.ps (is 1 element-kinds.ps μ-element t) eleme
 abbrev pub element-below : ℕ → In 1 element-kinds.ps
 element-below t = and 1 element-kinds.ps (falls 1 element-kinds.ps _<_ μ-element t) element.Pre
 
+abbrev pub μ-levels : Measures 1 levels-kinds.ps ℕ
+μ-levels κs a = 16 * (a .1 .0 - a .1 .1 .1 .1 .1 .1 .0) + (1 + a .1 .1 .1 .0)
+
+abbrev pub levels-at : ℕ → In 1 levels-kinds.ps
+levels-at t = and 1 levels-kinds.ps (is 1 levels-kinds.ps μ-levels t) levels.Pre
+
+abbrev pub levels-below : ℕ → In 1 levels-kinds.ps
+levels-below t = and 1 levels-kinds.ps (falls 1 levels-kinds.ps _<_ μ-levels t) levels.Pre
+
 abbrev pub μ-new-array : Measures 1 new-array-kinds.ps ℕ
 μ-new-array κs a = 16 * (a .1 .0 - a .1 .1 .0) + 1
 
@@ -88,7 +100,7 @@ abbrev pub new-array-below : ℕ → In 1 new-array-kinds.ps
 new-array-below t = and 1 new-array-kinds.ps (falls 1 new-array-kinds.ps _<_ μ-new-array t) new-array.Pre
 
 abbrev pub μ-operand : Measures 1 operand-kinds.ps ℕ
-μ-operand κs a = 16 * (a .1 .0 - a .1 .1 .1 .0) + (4 + 2 * (3 - a .1 .1 .0))
+μ-operand κs a = 16 * (a .1 .0 - a .1 .1 .1 .0) + 5
 
 abbrev pub operand-at : ℕ → In 1 operand-kinds.ps
 operand-at t = and 1 operand-kinds.ps (is 1 operand-kinds.ps μ-operand t) operand.Pre
@@ -97,7 +109,7 @@ abbrev pub operand-below : ℕ → In 1 operand-kinds.ps
 operand-below t = and 1 operand-kinds.ps (falls 1 operand-kinds.ps _<_ μ-operand t) operand.Pre
 
 abbrev pub μ-operation : Measures 1 operation-kinds.ps ℕ
-μ-operation κs a = 16 * (a .1 .0 - a .1 .1 .1 .0) + (5 + 2 * (3 - a .1 .1 .0))
+μ-operation κs a = 16 * (a .1 .0 - a .1 .1 .1 .0) + 4
 
 abbrev pub operation-at : ℕ → In 1 operation-kinds.ps
 operation-at t = and 1 operation-kinds.ps (is 1 operation-kinds.ps μ-operation t) operation.Pre
@@ -177,6 +189,9 @@ call-calls t = (kind-reads.Asked, kind-reads.Learnt, is-name-reads.Asked, is-nam
 abbrev pub element-calls : ℕ → element-lts.Claims
 element-calls t = (operation-below t, operation.Post, kind-reads.Asked, kind-reads.Learnt, node-reads.Asked, node-reads.Learnt, suffixes-below t, suffixes.Post)
 
+abbrev pub levels-calls : ℕ → levels-lts.Claims
+levels-calls t = (operations-below t, operations.Post, levels-below t, levels.Post)
+
 abbrev pub new-array-calls : ℕ → new-array-lts.Claims
 new-array-calls t = (kind-reads.Asked, kind-reads.Learnt, operation-below t, operation.Post, node-reads.Asked, node-reads.Learnt, suffixes-below t, suffixes.Post)
 
@@ -184,7 +199,7 @@ abbrev pub operand-calls : ℕ → operand-lts.Claims
 operand-calls t = (operation-below t, operation.Post, unary-below t, unary.Post)
 
 abbrev pub operation-calls : ℕ → operation-lts.Claims
-operation-calls t = (operand-below t, operand.Post, operations-below t, operations.Post)
+operation-calls t = (unary-below t, unary.Post, levels-below t, levels.Post)
 
 abbrev pub operations-calls : ℕ → operations-lts.Claims
 operations-calls t = (kind-reads.Asked, kind-reads.Learnt, is-operator-reads.Asked, is-operator-reads.Learnt, operand-below t, operand.Post, node-reads.Asked, node-reads.Learnt, operations-below t, operations.Post)

@@ -1,14 +1,14 @@
 -- The answers of `element`.
 use Prim.Native.Nat.{ℕ, _<_}
 use Rattle.parser.proofs.expr.element.Reads as element
-use Rattle.parser.proofs.expr.+arguments+call+element+new_array+operand+operation+operations+parentheses+postfix+primary+some_arguments+suffixes+unary.Lts-element as element-lts
+use Rattle.parser.proofs.expr.+arguments+call+element+levels+new_array+operand+operation+operations+parentheses+postfix+primary+some_arguments+suffixes+unary.Lts-element as element-lts
 use mathlib.Core.Path.{refl}
 use borrow.Author.Needs.{needs}
 use native.Mathlib.Omega.{arith}
 use lib.Dec.{lit<}
 use Rattle.parser.proofs.Laws.{there, within-ok}
 use Rattle.parser.proofs.Postfix.{element-ok, element-close, element-bad}
-use Rattle.parser.proofs.expr.+arguments+call+element+new_array+operand+operation+operations+parentheses+postfix+primary+some_arguments+suffixes+unary.Proof.At.{element-at, element-calls}
+use Rattle.parser.proofs.expr.+arguments+call+element+levels+new_array+operand+operation+operations+parentheses+postfix+primary+some_arguments+suffixes+unary.Proof.At.{element-at, element-calls}
 
 module _ (t : ℕ) where
   pub element-add-operation : element-lts.Need-add-operation (element-calls t) (element-at t) element.Post

@@ -1,11 +1,11 @@
 -- The answers of `primary`.
 use Prim.Native.Nat.{ℕ, _<_}
 use Rattle.parser.proofs.expr.primary.Reads as primary
-use Rattle.parser.proofs.expr.+arguments+call+element+new_array+operand+operation+operations+parentheses+postfix+primary+some_arguments+suffixes+unary.Lts-primary as primary-lts
+use Rattle.parser.proofs.expr.+arguments+call+element+levels+new_array+operand+operation+operations+parentheses+postfix+primary+some_arguments+suffixes+unary.Lts-primary as primary-lts
 use borrow.Author.Needs.{needs}
 use native.Mathlib.Omega.{arith}
 use Rattle.parser.proofs.Postfix.{atom-there, an-atom, no-primary}
-use Rattle.parser.proofs.expr.+arguments+call+element+new_array+operand+operation+operations+parentheses+postfix+primary+some_arguments+suffixes+unary.Proof.At.{primary-at, primary-calls}
+use Rattle.parser.proofs.expr.+arguments+call+element+levels+new_array+operand+operation+operations+parentheses+postfix+primary+some_arguments+suffixes+unary.Proof.At.{primary-at, primary-calls}
 
 module _ (t : ℕ) where
   pub primary-kind-requires : primary-lts.Need-kind-requires (primary-calls t) (primary-at t) primary.Post

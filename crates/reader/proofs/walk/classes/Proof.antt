@@ -1,0 +1,48 @@
+-- `classes` meets its contract. Its loop keeps what `SoFar` says, by the laws of `Declarations`, and its measure is the number of rows left.
+use Prim.Native.Nat.{_-_}
+use mathlib.Core.Bool.{true}
+use native.Mathlib.Omega.{arith}
+use borrow.Author.Needs.{needs}
+use Rattle.reader.specs.WalkPost.{WalksClasses}
+use Rattle.reader.proofs.Lists.{SoFar, so-far-none, so-far-more, so-far-end, follower-rises}
+use Rattle.reader.proofs.Declarations.{classes-none, classes-step, classes-absent}
+use Rattle.reader.proofs.walk.classes.Statement.{statement}
+use Rattle.reader.proofs.walk.classes.Tie as tie
+
+abbrev Inv-loop : tie.InvT-loop
+Inv-loop table n row all₀ at₀ all at = SoFar (WalksClasses table n) row at all
+
+abbrev μ-loop : tie.MeasureT-loop
+μ-loop table n row all₀ at₀ all at = 2048 - at
+
+nothing-requires : tie.Need-nothing-requires Inv-loop μ-loop
+nothing-requires c κs = search needs
+
+loop-holds : tie.Need-loop-holds Inv-loop μ-loop
+loop-holds c = so-far-none _ (c .nothing .ensures .0) (c .nothing .ensures .1) (λ rest w k j. classes-none (c .nothing .ensures .0) (c .nothing .ensures .1) k j)
+
+column-requires : tie.Need-column-requires Inv-loop μ-loop
+column-requires c κs = search needs
+
+methods-requires : tie.Need-methods-requires Inv-loop μ-loop
+methods-requires c κs = search needs
+
+join-requires : tie.Need-join-requires Inv-loop μ-loop
+join-requires c κs = search needs
+
+following-requires : tie.Need-following-requires Inv-loop μ-loop
+following-requires c κs = search needs
+
+loop-less : tie.Need-loop-less Inv-loop μ-loop
+loop-less c = omega (arith, follower-rises (c .before .before .before .before .before .before .before .before .args .table .now) (c .before .before .before .before .before .loop .at) true (c .before .before .before .before .loop-test .taken))
+
+loop-again : tie.Need-loop-again Inv-loop μ-loop
+loop-again c = so-far-more _ (c .before .before .methods .result) (λ rest w k j. classes-step (c .before .before .before .before .loop-test .taken) (c .before .before .before .column .ensures .0) (c .before .before .methods .ensures) j (c .following .ensures) k) (c .before .before .before .before .before .loop .inv) (c .before .join .ensures)
+
+returns : tie.Need-returns Inv-loop μ-loop
+returns c = so-far-end _ (c .before .before .nothing .result) (c .before .before .nothing .ensures .0) (c .before .before .nothing .ensures .1) (classes-absent (c .before .before .before .before .pre) (c .loop-test .left) (c .before .before .nothing .ensures .0) (c .before .before .nothing .ensures .1)) (c .before .loop .inv)
+
+pub classes-spec : {M : Type 1} → statement M
+classes-spec =
+    tie.close
+    (tie.spec Inv-loop μ-loop nothing-requires loop-holds column-requires methods-requires join-requires following-requires loop-less loop-again returns)
