@@ -32,7 +32,7 @@ use Rattle.lookup.specs.declared.answer.Judged.the-variants.{Fine, Refused}
 use Rattle.lookup.specs.Standing.{absent, wordAt, Lexemes, Spells, Numbers, no-name, a-name, nothing, Codes, code-int, code-boolean, code-intArray, code-class, VariablesStand, no-variables, more-variables, MethodStands, World, chainFrom}
 use Rattle.lookup.specs.StandingLaws.{word-in, word-out, name-kind, kinds, start-word, name-word, row-there, codes-below}
 use Rattle.lookup.specs.Lookups.{TypeOf, Knows, Fits, rowFound, FindsMethod}
-use Rattle.lookup.specs.MethodLaws.{found-stands}
+use Rattle.lookup.specs.ChainLaws.{found-stands}
 use Rattle.lookup.specs.Answers.{settled, settled-fine, settled-refused, Judges, well, ill}
 use Rattle.bodies.specs.declared.scope.Scope.{Scope}
 use Rattle.bodies.specs.Scoping.{ListedAt, InScope, PartAt, Means, unmeant, meant, NameTyped}

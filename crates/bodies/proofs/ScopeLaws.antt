@@ -11,7 +11,7 @@ use Rattle.parser.specs.Tree.{Variable, Class}
 use Rattle.checker.specs.ClassTable.{Slot, Context, Meaning, ofRow, ofObject, variableNamed, chain, nearestField, meaning}
 use Rattle.lookup.specs.Standing.{Lexemes, Spells, nothing, chainFrom}
 use Rattle.lookup.specs.Lookups.{Typed, untyped, typed, VariableTyped, FieldTyped}
-use Rattle.lookup.specs.MethodLaws.{typed-some, typed-none, variable-left, variable-right}
+use Rattle.lookup.specs.VariableLaws.{typed-some, typed-none, variable-left, variable-right}
 use Rattle.bodies.specs.declared.scope.Scope.{Scope}
 use Rattle.bodies.specs.Scoping.{ListedAt, InScope, Means, unmeant, meant, NameTyped}
 

@@ -24,35 +24,9 @@ use Rattle.typing.specs.Chains.{all-classes}
 use Rattle.typing.specs.ClassTableLaws.{all-methods}
 use Rattle.lookup.specs.Standing.{absent, wordAt, Lexemes, Spells, Numbers, no-name, a-name, nothing, Codes, code-int, code-boolean, code-intArray, code-class, ClassStands, World, classOf, chainFrom, parentName}
 use Rattle.lookup.specs.StandingLaws.{word-in, word-out, name-word, row-there, same-names, other-names, all-stand, methods-stand, spelt-class, codes-below, same-codes, other-codes, ClassAt, no-class, a-class, class-at}
-use Rattle.lookup.specs.MethodLaws.{chain-stands}
+use Rattle.lookup.specs.ChainLaws.{chain-none-left, chain-none, chain-some, chain-stands}
 use Rattle.lookup.specs.Lookups.{Typed, untyped, typed, VariableTyped, rowMethod, MethodRow, Above, amongNumbers, OnChain, Ends, FieldTyped, rowFound, FindsMethod, Fits}
 use Rattle.lookup.proofs.MemberLaws.{typed-moved}
-
--- CHAINS, STEP BY STEP
-
-pub chain-none-left : (G : List Class) (name : Option (List ℕ)) → chainFrom 0 G name ≡ []
-unfolding chainWithin
-chain-none-left G none = refl
-chain-none-left G (some c) = refl
-
-pub chain-none : (left : ℕ) (G : List Class) (name : Option (List ℕ)) → classOf G name ≡ none → chainFrom left G name ≡ []
-unfolding chainWithin
-chain-none left G none e = refl
-chain-none zero G (some c) e = refl
-chain-none (suc left) G (some c) e = rw e
-
-up : (left : ℕ) (G : List Class) (p : Option Name) → option p [] (λ q. chainWithin left G (q .text)) ≡ chainFrom left G (parentName p)
-up left G none = refl
-up left G (some q) = refl
-
-pub chain-some : (left : ℕ) (G : List Class) (name : Option (List ℕ)) {k : Class} → (left ≡ 0 → ⊥) → classOf G name ≡ some k
-    → chainFrom left G name ≡ k ∷ chainFrom (left - 1) G (parentName (k .parent))
-unfolding chainWithin
-chain-some left G none n e = absurd (none-some refl e)
-chain-some zero G (some c) n e = absurd (n refl)
-chain-some (suc left) G (some c) {k} n e =
-    let z : suc left - 1 ≡ left = omega arith in
-    rw (e, z) (ap (λ (ks : List Class). k ∷ ks) (up left G (k .parent)))
 
 -- ABOVE
 

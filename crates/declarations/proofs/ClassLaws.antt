@@ -1,0 +1,265 @@
+-- What the judgements of parents, chains and classes return meets their contracts: the index tells whether a parent is a class of the table, and the other tests are
+-- those of the look-ups and of the members, class by class.
+use Prim.Native.Nat.{ℕ, zero, suc, _-_, _≤_, _<_}
+use native.Mathlib.Omega.{arith}
+use mathlib.Core.Path.{_≡_, refl, sym, ap, _∙_, subst}
+use mathlib.Core.List.{List, [], _∷_}
+use mathlib.Core.Bool.{Bool, true, false, true≢false, false≢true}
+use mathlib.Core.Option.{Option, none, some}
+use lib.ListN.{length}
+use lib.Dec.{leb}
+use borrow.Author.Tests.{le-leb, lt-leb}
+use Rattle.base.specs.Choice.{if_then_else_, option}
+use Rattle.base.specs.Lists.{All, all-nil, all-cons}
+use Rattle.base.specs.Outcome.{Outcome, accepted, refused, _>>=_}
+use Rattle.base.specs.Table.{col}
+use Rattle.lexer.specs.Tokens.{Token}
+use Rattle.parser.specs.Tree.{Name, Class}
+use Rattle.parser.specs.Layout.{rowVariables, rowMethods, rowParent, rowClasses}
+use Rattle.reader.specs.Matches.{NameMatches, ParentMatches}
+use Rattle.checker.specs.ClassTable.{classNamed, endsWithin}
+use Rattle.checker.specs.Declarations.{knownParent, knownParents, endless, fields, heads, declarations}
+use Rattle.typing.specs.Choices.{bind-assoc}
+use Rattle.lookup.specs.declared.answer.Judged.{Judged}
+use Rattle.lookup.specs.declared.answer.Judged.the-variants.{Fine, Refused}
+use Rattle.lookup.specs.Standing.{absent, wordAt, Lexemes, Spells, a-name, ClassStands, ClassesStand, no-classes, more-classes, World}
+use Rattle.lookup.specs.StandingLaws.{word-in, start-word, name-word, row-there, ClassAt, no-class, a-class, class-at}
+use Rattle.lookup.specs.Lookups.{Above, Ends}
+use Rattle.lookup.specs.Answers.{settled, goes-on, stops}
+use Rattle.declarations.specs.Earlier.{Along, AlongMethods}
+use Rattle.declarations.specs.Judgements.{FieldsJudged, HeadsJudged, orphaned, OrphanAt, ClassesAt, ParentsJudged, endlessAnswer, ChainsJudged, Own, MembersJudged, DeclarationsJudged}
+
+-- ROWS
+
+-- a word of the row of a class
+class-word : {tab : List ℕ} {n : ℕ} {ts : List Token} → Lexemes tab n ts → (k : Class) {row : ℕ} → k .name .row ≡ row → ClassStands tab n ts k → (j : ℕ) {w v : ℕ}
+    → w ≡ wordAt tab j row → col tab j (k .name .row) ≡ v → w ≡ v
+class-word {tab} lx k at s j e c = e ∙ ap (wordAt tab j) (sym at) ∙ word-in tab j (k .name .row) (row-there lx (k .name .row) (s .named .token .there)) c
+
+-- where its name stands, and the name's number
+class-place : {tab : List ℕ} {n : ℕ} {ts : List Token} → Lexemes tab n ts → (k : Class) {row p : ℕ} → k .name .row ≡ row → ClassStands tab n ts k → p ≡ wordAt tab 1 row → p ≡ k .name .start
+class-place {tab} lx k at s e₁ = e₁ ∙ ap (wordAt tab 1) (sym at) ∙ start-word lx (k .name .row) (s .named .token .there) ∙ s .named .start
+
+class-number : {tab : List ℕ} {n : ℕ} {ts : List Token} → Lexemes tab n ts → (k : Class) {row x : ℕ} → k .name .row ≡ row → ClassStands tab n ts k → x ≡ wordAt tab 2 row
+    → Spells ts (k .name .text) x
+class-number {tab} {ts = ts} lx k at s e₂ = subst (Spells ts (k .name .text)) (ap (wordAt tab 2) at ∙ sym e₂) (name-word lx (k .name .row) (s .named .token))
+
+-- the first of the classes of a row, and the others
+record FirstClass (tab : List ℕ) (n : ℕ) (ts : List Token) (k : Class) (ks : List Class) (left row : ℕ) : Type 0 where
+  near : row < absent
+  stands : ClassStands tab n ts k
+  rest : {next : ℕ} → next ≡ wordAt tab 6 row → (left ≡ 0 → ⊥) → ClassesAt tab n ts ks (left - 1) next
+
+first-class : {tab : List ℕ} {n : ℕ} {ts : List Token} → Lexemes tab n ts → {k : Class} {ks : List Class} {left row : ℕ} → ClassesAt tab n ts (k ∷ ks) left row
+    → FirstClass tab n ts k ks left row
+first-class {tab} {n} {ts} lx {k} {ks} {left} {row} a = go (a .stand)
+  where
+    go : ClassesStand tab n ts (k ∷ ks) → FirstClass tab n ts k ks left row
+    go (more-classes s c₆ h) = record {
+      near = omega (arith, a .here, row-there lx (k .name .row) (s .named .token .there));
+      stands = s;
+      rest = λ e₆ more. record { here = sym (class-word lx k (a .here) s 6 e₆ c₆); stand = h; few = omega (arith, a .few) };
+    }
+
+-- PARENTS
+
+module _ {tab : List ℕ} {class p : ℕ} (e₃ : p ≡ wordAt tab 3 class) where
+  pub orphan-none : absent ≤ p → OrphanAt tab class false
+  unfolding ParentMatches
+  orphan-none far = record { says = λ n ts G w k at s. go n ts G w (k .parent) (s .parent-matches) (class-word (w .tokens) k at s 3 e₃ (s .above)) }
+    where
+      go : (n : ℕ) (ts : List Token) (G : List Class) → World tab n ts G → (q : Option Name) → ParentMatches ts q → p ≡ rowParent q → false ≡ orphaned G q
+      go n ts G w none m e = refl
+      go n ts G w (some q) m e = absurd (omega (arith, e, row-there (w .tokens) (q .row) (m .token .there)))
+
+  pub orphan-is : p < absent → {x c : ℕ} → x ≡ wordAt tab 2 p → c ≡ wordAt tab 7 x → OrphanAt tab class (leb absent c)
+  unfolding ParentMatches
+  orphan-is near {x} {c} e₂ e₇ = record { says = λ n ts G w k at s. go n ts G w (k .parent) (s .parent-matches) (class-word (w .tokens) k at s 3 e₃ (s .above)) }
+    where
+      found : (n : ℕ) (ts : List Token) (G : List Class) (q : Name) → ClassAt tab n ts G (some (q .text)) x c → leb absent c ≡ orphaned G (some q)
+      found n ts G q (no-class e far) = rw (e, le-leb absent c far)
+      found n ts G q (a-class k e at low s sp) = rw (e, lt-leb absent c low)
+
+      go : (n : ℕ) (ts : List Token) (G : List Class) → World tab n ts G → (q : Option Name) → ParentMatches ts q → p ≡ rowParent q → leb absent c ≡ orphaned G q
+      go n ts G w none m e = absurd (omega (arith, e))
+      go n ts G w (some q) m e =
+          found n ts G q (class-at w (some (q .text)) x c (a-name (subst (Spells ts (q .text)) (ap (wordAt tab 2) (sym e) ∙ sym e₂) (name-word (w .tokens) (q .row) (m .token)))) e₇)
+
+-- 21 by the class that a parent's name finds
+abbrev parentBy : Option Class → (start : ℕ) → Outcome (Unit {0})
+parentBy o start = option o (refused 21 start) λ _. accepted tt
+
+unknown : (o : Option Class) (start : ℕ) → true ≡ (option o true λ _. false) → parentBy o start ≡ refused 21 start
+unknown none start e = refl
+unknown (some k) start e = absurd (true≢false e)
+
+known-class : (o : Option Class) (start : ℕ) → false ≡ (option o true λ _. false) → parentBy o start ≡ accepted tt
+known-class none start e = absurd (false≢true e)
+known-class (some k) start e = refl
+
+module _ {tab : List ℕ} {left row : ℕ} where
+  pub parents-none-left : left ≡ 0 → ParentsJudged tab left row (Fine 0)
+  unfolding knownParents
+  parents-none-left e = record { says = λ n ts G w ks a. go G ks (a .few) }
+    where
+      go : (G ks : List Class) → length ks ≤ left → Fine 0 ≡ settled (knownParents G ks)
+      go G [] few = refl
+      go G (k ∷ ks) few = absurd (omega arith)
+
+  pub parents-absent : absent ≤ row → ParentsJudged tab left row (Fine 0)
+  unfolding knownParents
+  parents-absent far = record { says = λ n ts G w ks a. go n ts G w ks a }
+    where
+      go : (n : ℕ) (ts : List Token) (G : List Class) → World tab n ts G → (ks : List Class) → ClassesAt tab n ts ks left row → Fine 0 ≡ settled (knownParents G ks)
+      go n ts G w [] a = refl
+      go n ts G w (k ∷ ks) a = absurd (omega (arith, first-class (w .tokens) a .near))
+
+  module _ (near : row < absent) {b : Bool} (h : OrphanAt tab row b) where
+    pub parents-orphan : b ≡ true → {p q : ℕ} → p ≡ wordAt tab 3 row → q ≡ wordAt tab 1 p → ParentsJudged tab left row (Refused 21 q)
+    unfolding knownParents ParentMatches
+    parents-orphan is {p} {q} e₃ e₁ = record { says = λ n ts G w ks a. go n ts G w ks a }
+      where
+        parent : (n : ℕ) (ts : List Token) (G : List Class) → World tab n ts G → (o : Option Name) → ParentMatches ts o → p ≡ rowParent o → true ≡ orphaned G o
+            → knownParent G o ≡ refused 21 q
+        parent n ts G w none m e r = absurd (true≢false r)
+        parent n ts G w (some x) m e r =
+            unknown (classNamed G (x .text)) (x .start) r
+            ∙ ap (λ (i : ℕ). refused 21 i) (sym (e₁ ∙ ap (wordAt tab 1) e ∙ start-word (w .tokens) (x .row) (m .token .there) ∙ m .start))
+
+        go : (n : ℕ) (ts : List Token) (G : List Class) → World tab n ts G → (ks : List Class) → ClassesAt tab n ts ks left row → Refused 21 q ≡ settled (knownParents G ks)
+        go n ts G w [] a = absurd (omega (arith, a .here))
+        go n ts G w (k ∷ ks) a =
+            let s = first-class (w .tokens) a .stands in
+            rw (parent n ts G w (k .parent) (s .parent-matches) (class-word (w .tokens) k (a .here) s 3 e₃ (s .above)) (sym is ∙ h .says n ts G w k (a .here) s))
+
+    pub parents-next : (left ≡ 0 → ⊥) → b ≡ false → {next : ℕ} {r : Judged} → next ≡ wordAt tab 6 row → ParentsJudged tab (left - 1) next r → ParentsJudged tab left row r
+    unfolding knownParents
+    parents-next more is {next} {r} e₆ h′ = record { says = λ n ts G w ks a. go n ts G w ks a }
+      where
+        parent : (G : List Class) (o : Option Name) → false ≡ orphaned G o → knownParent G o ≡ accepted tt
+        parent G none r = refl
+        parent G (some x) r = known-class (classNamed G (x .text)) (x .start) r
+
+        go : (n : ℕ) (ts : List Token) (G : List Class) → World tab n ts G → (ks : List Class) → ClassesAt tab n ts ks left row → r ≡ settled (knownParents G ks)
+        go n ts G w [] a = absurd (omega (arith, a .here))
+        go n ts G w (k ∷ ks) a =
+            let f = first-class (w .tokens) a in
+            rw (parent G (k .parent) (sym is ∙ h .says n ts G w k (a .here) (f .stands))) (h′ .says n ts G w ks (f .rest e₆ more))
+
+-- CHAINS
+
+-- whether the chain of the class of a row ends
+ends-here : {tab : List ℕ} {classes row x : ℕ} {b : Bool} → x ≡ wordAt tab 2 row → Ends tab classes x b → {n : ℕ} {ts : List Token} {G : List Class} → World tab n ts G
+    → length G ≡ classes → (k : Class) → k .name .row ≡ row → ClassStands tab n ts k → endsWithin (length G) G (k .name .text) ≡ b
+ends-here e₂ h {n} {ts} {G} w l k at s =
+    ap (λ (i : ℕ). endsWithin i G (k .name .text)) l ∙ sym (h .says n ts G w (k .name .text) (class-number (w .tokens) k at s e₂))
+
+module _ {tab : List ℕ} {classes left row : ℕ} where
+  pub chains-none-left : left ≡ 0 → ChainsJudged tab classes left row (Fine 0)
+  unfolding endless
+  chains-none-left e = record { says = λ n ts G w l ks a. go G ks (a .few) }
+    where
+      go : (G ks : List Class) → length ks ≤ left → Fine 0 ≡ endlessAnswer (endless G ks)
+      go G [] few = refl
+      go G (k ∷ ks) few = absurd (omega arith)
+
+  pub chains-absent : absent ≤ row → ChainsJudged tab classes left row (Fine 0)
+  unfolding endless
+  chains-absent far = record { says = λ n ts G w l ks a. go n ts G w ks a }
+    where
+      go : (n : ℕ) (ts : List Token) (G : List Class) → World tab n ts G → (ks : List Class) → ClassesAt tab n ts ks left row → Fine 0 ≡ endlessAnswer (endless G ks)
+      go n ts G w [] a = refl
+      go n ts G w (k ∷ ks) a = absurd (omega (arith, first-class (w .tokens) a .near))
+
+  module _ (near : row < absent) {x : ℕ} (e₂ : x ≡ wordAt tab 2 row) {b : Bool} (h : Ends tab classes x b) where
+    pub chains-endless : b ≡ false → {p : ℕ} → p ≡ wordAt tab 1 row → ChainsJudged tab classes left row (Refused 22 p)
+    unfolding endless
+    chains-endless is {p} e₁ = record { says = λ n ts G w l ks a. go n ts G w l ks a }
+      where
+        go : (n : ℕ) (ts : List Token) (G : List Class) → World tab n ts G → length G ≡ classes → (ks : List Class) → ClassesAt tab n ts ks left row
+            → Refused 22 p ≡ endlessAnswer (endless G ks)
+        go n ts G w l [] a = absurd (omega (arith, a .here))
+        go n ts G w l (k ∷ ks) a =
+            let s = first-class (w .tokens) a .stands in
+            rw (ends-here e₂ h w l k (a .here) s ∙ is) (ap (Refused 22) (class-place (w .tokens) k (a .here) s e₁))
+
+    pub chains-next : (left ≡ 0 → ⊥) → b ≡ true → {next : ℕ} {r : Judged} → next ≡ wordAt tab 6 row → ChainsJudged tab classes (left - 1) next r → ChainsJudged tab classes left row r
+    unfolding endless
+    chains-next more is {next} {r} e₆ h′ = record { says = λ n ts G w l ks a. go n ts G w l ks a }
+      where
+        go : (n : ℕ) (ts : List Token) (G : List Class) → World tab n ts G → length G ≡ classes → (ks : List Class) → ClassesAt tab n ts ks left row
+            → r ≡ endlessAnswer (endless G ks)
+        go n ts G w l [] a = absurd (omega (arith, a .here))
+        go n ts G w l (k ∷ ks) a =
+            let f = first-class (w .tokens) a in
+            rw (ends-here e₂ h w l k (a .here) (f .stands) ∙ is) (h′ .says n ts G w l ks (f .rest e₆ more))
+
+-- MEMBERS
+
+module _ {tab : List ℕ} {n class first : ℕ} (e₄ : first ≡ wordAt tab 4 class) {f : Judged} (h : FieldsJudged tab n n first 0 first f) where
+  own-fields : {ts : List Token} {G : List Class} → World tab n ts G → (k : Class) → k .name .row ≡ class → ClassStands tab n ts k → f ≡ settled (fields G [] (k .fields))
+  own-fields {ts} {G} w k at s =
+      let e = sym (class-word (w .tokens) k at s 4 e₄ (s .first)) in
+      h .says ts G w [] (k .fields) (record { stand = s .fields; begins = e; before = refl; here = e }) (s .few-fields)
+
+  pub members-stop : {classes number p : ℕ} → f ≡ Refused number p → MembersJudged tab n classes class (Refused number p)
+  members-stop is = record { says = λ ts G w l k at s own. ap settled (sym (stops (fields G [] (k .fields)) (λ _. heads G k [] (k .methods)) (own-fields w k at s) is)) }
+
+  pub members-next : {classes u : ℕ} → f ≡ Fine u → {methods p : ℕ} {r : Judged} → methods ≡ wordAt tab 5 class → Above tab class p
+      → HeadsJudged tab n classes n p methods 0 methods r → MembersJudged tab n classes class r
+  members-next is {methods} {p} {r} e₅ up h′ = record {
+    says = λ ts G w l k at s own.
+        let e = sym (class-word (w .tokens) k at s 5 e₅ (s .second)) in
+        h′ .says ts G w l k (record { own = own; above = up .says n ts (w .tokens) k at s }) [] (k .methods)
+        (record { stand = s .methods; begins = e; before = refl; here = e }) (s .few-methods)
+        ∙ ap settled (sym (goes-on (fields G [] (k .fields)) (λ _. heads G k [] (k .methods)) (own-fields w k at s) is));
+  }
+
+-- DECLARATIONS
+
+declarations-more : (G : List Class) (k : Class) (ks : List Class)
+    → declarations G (k ∷ ks) ≡ ((fields G [] (k .fields) >>= λ _. heads G k [] (k .methods)) >>= λ _. declarations G ks)
+unfolding declarations
+declarations-more G k ks = bind-assoc (fields G [] (k .fields)) (λ _. heads G k [] (k .methods)) (λ _. declarations G ks)
+
+module _ {tab : List ℕ} {n classes left row : ℕ} where
+  pub declarations-none-left : left ≡ 0 → DeclarationsJudged tab n classes left row (Fine 0)
+  unfolding declarations
+  declarations-none-left e = record { says = λ ts G w l ks a own. go G ks (a .few) }
+    where
+      go : (G ks : List Class) → length ks ≤ left → Fine 0 ≡ settled (declarations G ks)
+      go G [] few = refl
+      go G (k ∷ ks) few = absurd (omega arith)
+
+  pub declarations-absent : absent ≤ row → DeclarationsJudged tab n classes left row (Fine 0)
+  unfolding declarations
+  declarations-absent far = record { says = λ ts G w l ks a own. go ts G w ks a }
+    where
+      go : (ts : List Token) (G : List Class) → World tab n ts G → (ks : List Class) → ClassesAt tab n ts ks left row → Fine 0 ≡ settled (declarations G ks)
+      go ts G w [] a = refl
+      go ts G w (k ∷ ks) a = absurd (omega (arith, first-class (w .tokens) a .near))
+
+  module _ (near : row < absent) {o : Judged} (h : MembersJudged tab n classes row o) where
+    pub declarations-stop : {number p : ℕ} → o ≡ Refused number p → DeclarationsJudged tab n classes left row (Refused number p)
+    declarations-stop {number} {p} is = record { says = λ ts G w l ks a own. go ts G w l ks a own }
+      where
+        go : (ts : List Token) (G : List Class) → World tab n ts G → length G ≡ classes → (ks : List Class) → ClassesAt tab n ts ks left row → Own G ks
+            → Refused number p ≡ settled (declarations G ks)
+        go ts G w l [] a own = absurd (omega (arith, a .here))
+        go ts G w l (k ∷ ks) a (all-cons own owns) =
+            ap settled (sym (declarations-more G k ks
+            ∙ stops (fields G [] (k .fields) >>= λ _. heads G k [] (k .methods)) (λ _. declarations G ks)
+            (h .says ts G w l k (a .here) (first-class (w .tokens) a .stands) own) is))
+
+    pub declarations-next : (left ≡ 0 → ⊥) → {u : ℕ} → o ≡ Fine u → {next : ℕ} {r : Judged} → next ≡ wordAt tab 6 row
+        → DeclarationsJudged tab n classes (left - 1) next r → DeclarationsJudged tab n classes left row r
+    declarations-next more is {next} {r} e₆ h′ = record { says = λ ts G w l ks a own. go ts G w l ks a own }
+      where
+        go : (ts : List Token) (G : List Class) → World tab n ts G → length G ≡ classes → (ks : List Class) → ClassesAt tab n ts ks left row → Own G ks
+            → r ≡ settled (declarations G ks)
+        go ts G w l [] a own = absurd (omega (arith, a .here))
+        go ts G w l (k ∷ ks) a (all-cons own owns) =
+            let f = first-class (w .tokens) a in
+            h′ .says ts G w l ks (f .rest e₆ more) owns
+            ∙ ap settled (sym (declarations-more G k ks
+            ∙ goes-on (fields G [] (k .fields) >>= λ _. heads G k [] (k .methods)) (λ _. declarations G ks) (h .says ts G w l k (a .here) (f .stands) own) is))

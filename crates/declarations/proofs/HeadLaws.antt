@@ -1,0 +1,321 @@
+-- What the judgements of method heads return meets their contracts: each test of the code is the definition's, on the method whose row it is. The method that is
+-- redeclared stands on the chain from the parent on, which is the class's own chain without its first.
+use Prim.Native.Nat.{ℕ, zero, suc, _+_, _-_, _≤_, _<_}
+use native.Mathlib.Omega.{arith}
+use mathlib.Core.Path.{_≡_, refl, sym, ap, _∙_, subst}
+use mathlib.Core.List.{List, [], _∷_, _++_, map}
+use mathlib.Core.Bool.{Bool, true, false, _&&_}
+use mathlib.Core.Option.{Option, none, some}
+use lib.ListN.{length, drop}
+use lib.Dec.{leb}
+use borrow.Author.Tests.{le-leb, lt-leb}
+use Rattle.base.specs.Choice.{if_then_else_, option}
+use Rattle.base.specs.Outcome.{Outcome, accepted, refused, _>>=_}
+use Rattle.lexer.specs.Tokens.{Token}
+use Rattle.parser.specs.Tree.{Variable, Method, Class}
+use Rattle.parser.specs.Layout.{rowVariables, headOf}
+use Rattle.checker.specs.ClassTable.{Found, classNamed, chain, nearestMethod, sameType, fits, known}
+use Rattle.checker.specs.Declarations.{occurs, knownType, variables, sameTypes, redeclares, redeclaration, newMethod, heads}
+use Rattle.checker.specs.Typing.{methodName}
+use Rattle.typing.specs.Choices.{none-some}
+use Rattle.lookup.specs.declared.answer.Judged.{Judged}
+use Rattle.lookup.specs.declared.answer.Judged.the-variants.{Fine, Refused}
+use Rattle.lookup.specs.Standing.{absent, wordAt, Lexemes, Spells, Codes, VariablesStand, no-variables, more-variables, MethodStands, World, chainFrom, parentName}
+use Rattle.lookup.specs.StandingLaws.{word-in, row-there, same-codes, other-codes}
+use Rattle.lookup.specs.ChainLaws.{chain-some, found-stands}
+use Rattle.lookup.specs.Lookups.{TypeOf, Fits, Repeated, rowFound, FindsMethod}
+use Rattle.lookup.specs.Answers.{settled, goes-on, stops}
+use Rattle.declarations.specs.Earlier.{onto, Listed, Along, AlongMethods}
+use Rattle.declarations.specs.Judgements.{KnownAt, VariablesJudged, TypesCompared, RedeclaresAt, Parented, redeclared, CompatibleAt, opened, closed, OpeningJudged, RestJudged, HeadJudged, HeadsJudged}
+use Rattle.declarations.proofs.EarlierLaws.{onto-none, onto-next, DeclaredAt, declared-at, method-declared, method-here, method-near, method-repeated, method-step}
+use Rattle.declarations.proofs.VariableLaws.{declared-known, type-place}
+
+-- PARAMETER TYPES
+
+-- the variable that stands in a row, and where the next one does
+record First (tab : List ℕ) (ts : List Token) (v : Variable) (vs : List Variable) (row : ℕ) : Type 0 where
+  near : row < absent
+  declared : DeclaredAt tab ts v row
+  next : wordAt tab 6 row ≡ rowVariables vs
+  rest : VariablesStand tab ts vs
+
+first-of : {tab : List ℕ} {n : ℕ} {ts : List Token} → Lexemes tab n ts → {v : Variable} {vs : List Variable} {row : ℕ} → v .name .row ≡ row → VariablesStand tab ts (v ∷ vs)
+    → First tab ts v vs row
+first-of {tab} lx {v} {vs} at (more-variables m c₃ c₆ s) =
+    let there = row-there lx (v .name .row) (m .name .token .there) in
+    record { near = omega (arith, at, there); declared = declared-at lx v at m c₃; next = ap (wordAt tab 6) (sym at) ∙ word-in tab 6 (v .name .row) there c₆; rest = s }
+
+-- the number of the type of the variable of a row
+type-code : {tab : List ℕ} {n : ℕ} {ts : List Token} → Lexemes tab n ts → {v : Variable} {row t p : ℕ} → DeclaredAt tab ts v row → t ≡ wordAt tab 3 row → TypeOf tab n t p
+    → Codes ts (v .type .type) p
+type-code {ts = ts} lx {v} d e₃ h = h .says ts lx (v .type) (sym (d .type) ∙ sym e₃) (d .matches .type)
+
+module _ {tab : List ℕ} {n left a b : ℕ} where
+  pub types-none-left : left ≡ 0 → TypesCompared tab n left a b true
+  unfolding sameTypes
+  types-none-left e = record { says = λ ts lx vs ws d s f r few few′. go vs ws few few′ }
+    where
+      go : (vs ws : List Variable) → length vs ≤ left → length ws ≤ left → true ≡ sameTypes vs ws
+      go [] [] few few′ = refl
+      go [] (w ∷ ws) few few′ = absurd (omega arith)
+      go (v ∷ vs) ws few few′ = absurd (omega arith)
+
+  pub types-first-ends : absent ≤ a → TypesCompared tab n left a b (leb absent b)
+  unfolding sameTypes
+  types-first-ends far = record { says = λ ts lx vs ws d s f r few few′. go ts lx vs ws d s f r }
+    where
+      go : (ts : List Token) → Lexemes tab n ts → (vs ws : List Variable) → rowVariables vs ≡ a → VariablesStand tab ts vs → rowVariables ws ≡ b → VariablesStand tab ts ws
+          → leb absent b ≡ sameTypes vs ws
+      go ts lx [] [] d s f r = le-leb absent b (omega (arith, f))
+      go ts lx [] (w ∷ ws) d s f r = lt-leb absent b (first-of lx f r .near)
+      go ts lx (v ∷ vs) ws d s f r = absurd (omega (arith, first-of lx d s .near))
+
+  module _ (near : a < absent) where
+    pub types-second-ends : absent ≤ b → TypesCompared tab n left a b false
+    unfolding sameTypes
+    types-second-ends far = record { says = λ ts lx vs ws d s f r few few′. go ts lx vs ws d f r }
+      where
+        go : (ts : List Token) → Lexemes tab n ts → (vs ws : List Variable) → rowVariables vs ≡ a → rowVariables ws ≡ b → VariablesStand tab ts ws → false ≡ sameTypes vs ws
+        go ts lx [] ws d f r = absurd (omega (arith, d))
+        go ts lx (v ∷ vs) [] d f r = refl
+        go ts lx (v ∷ vs) (w ∷ ws) d f r = absurd (omega (arith, first-of lx f r .near))
+
+    module _ (near′ : b < absent) {t p u q : ℕ} (e₃ : t ≡ wordAt tab 3 a) (h : TypeOf tab n t p) (e₃′ : u ≡ wordAt tab 3 b) (h′ : TypeOf tab n u q) where
+      pub types-differ : (p ≡ q → ⊥) → TypesCompared tab n left a b false
+      unfolding sameTypes
+      types-differ other = record { says = λ ts lx vs ws d s f r few few′. go ts lx vs ws d s f r }
+        where
+          go : (ts : List Token) → Lexemes tab n ts → (vs ws : List Variable) → rowVariables vs ≡ a → VariablesStand tab ts vs → rowVariables ws ≡ b → VariablesStand tab ts ws
+              → false ≡ sameTypes vs ws
+          go ts lx [] ws d s f r = absurd (omega (arith, d))
+          go ts lx (v ∷ vs) [] d s f r = absurd (omega (arith, f))
+          go ts lx (v ∷ vs) (w ∷ ws) d s f r =
+              let c = type-code lx (first-of lx d s .declared) e₃ h in
+              let c′ = type-code lx (first-of lx f r .declared) e₃′ h′ in
+              rw (other-codes lx c c′ other)
+
+      pub types-next : p ≡ q → {next next′ : ℕ} {o : Bool} → next ≡ wordAt tab 6 a → next′ ≡ wordAt tab 6 b → TypesCompared tab n (left - 1) next next′ o
+          → TypesCompared tab n left a b o
+      unfolding sameTypes
+      types-next is {next} {next′} {o} e₆ e₆′ k = record { says = λ ts lx vs ws d s f r few few′. go ts lx vs ws d s f r few few′ }
+        where
+          go : (ts : List Token) → Lexemes tab n ts → (vs ws : List Variable) → rowVariables vs ≡ a → VariablesStand tab ts vs → rowVariables ws ≡ b → VariablesStand tab ts ws
+              → length vs ≤ left → length ws ≤ left → o ≡ sameTypes vs ws
+          go ts lx [] ws d s f r few few′ = absurd (omega (arith, d))
+          go ts lx (v ∷ vs) [] d s f r few few′ = absurd (omega (arith, f))
+          go ts lx (v ∷ vs) (w ∷ ws) d s f r few few′ =
+              let x = first-of lx d s in
+              let y = first-of lx f r in
+              rw (same-codes lx (type-code lx (x .declared) e₃ h) (type-code lx (y .declared) e₃′ h′) is)
+              (k .says ts lx vs ws (sym (x .next) ∙ sym e₆) (x .rest) (sym (y .next) ∙ sym e₆′) (y .rest) (omega arith) (omega arith))
+
+-- REDECLARATIONS
+
+-- where a method's parameters begin
+parameters-word : {tab : List ℕ} {n : ℕ} {ts : List Token} → Lexemes tab n ts → (m : Method) {row w : ℕ} → m .name .row ≡ row → MethodStands tab n ts m → w ≡ wordAt tab 4 row
+    → rowVariables (m .parameters) ≡ w
+parameters-word {tab} lx m at s e₄ =
+    sym (word-in tab 4 (m .name .row) (row-there lx (m .name .row) (s .head .name .token .there)) (s .first)) ∙ ap (wordAt tab 4) at ∙ sym e₄
+
+module _ {tab : List ℕ} {n lower upper v w : ℕ} (e₄ : v ≡ wordAt tab 4 lower) (e₄′ : w ≡ wordAt tab 4 upper) {b : Bool} (h : TypesCompared tab n n v w b) where
+  same-parameters : {ts : List Token} → Lexemes tab n ts → (l u : Method) → l .name .row ≡ lower → MethodStands tab n ts l → u .name .row ≡ upper → MethodStands tab n ts u
+      → sameTypes (l .parameters) (u .parameters) ≡ b
+  same-parameters {ts} lx l u at s at′ s′ =
+      sym (h .says ts lx (l .parameters) (u .parameters) (parameters-word lx l at s e₄) (s .parameters) (parameters-word lx u at′ s′ e₄′) (s′ .parameters)
+      (s .few-parameters) (s′ .few-parameters))
+
+  pub redeclares-not : {classes : ℕ} → b ≡ false → RedeclaresAt tab n classes lower upper false
+  redeclares-not is = record { says = λ ts G world k l u at s at′ s′. rw (same-parameters (world .tokens) l u at s at′ s′ ∙ is) }
+
+  pub redeclares-fits : {classes : ℕ} → b ≡ true → {p s q t : ℕ} → p ≡ wordAt tab 3 lower → TypeOf tab n p s → q ≡ wordAt tab 3 upper → TypeOf tab n q t → {r : Bool} → Fits tab n classes s t r
+      → RedeclaresAt tab n classes lower upper r
+  redeclares-fits {classes} is e₃ f e₃′ f′ {r} k = record { says = λ ts G world c l u at s at′ s′. go ts G world c l u at s at′ s′ }
+    where
+      go : (ts : List Token) (G : List Class) → World tab n ts G → length G ≡ classes → (l u : Method) → l .name .row ≡ lower → MethodStands tab n ts l
+          → u .name .row ≡ upper → MethodStands tab n ts u → r ≡ redeclares G l u
+      go ts G world c l u at s at′ s′ =
+          let lx = world .tokens in
+          rw (same-parameters lx l u at s at′ s′ ∙ is)
+          (k .says ts G world c (l .result .type) (u .result .type) (type-code lx (method-declared lx l at s) e₃ f) (type-code lx (method-declared lx u at′ s′) e₃′ f′))
+
+-- the answer of 26 by the method that is found
+abbrev compared : List Class → Method → Option Found → Outcome (Unit {0})
+compared G m o = option o (accepted tt) λ F. redeclared (redeclares G m (F .method)) m
+
+-- it is looked for from the parent on
+above-class : (G : List Class) (k : Class) {classes : ℕ} → length G ≡ classes → (classes ≡ 0 → ⊥) → classNamed G (k .name .text) ≡ some k
+    → drop 1 (chain G (k .name .text)) ≡ chainFrom (classes - 1) G (parentName (k .parent))
+unfolding chain
+above-class G k {classes} l more own =
+    ap (drop 1) (chain-some (length G) G (some (k .name .text)) (λ z. more (sym l ∙ z)) own) ∙ ap (λ (i : ℕ). chainFrom (i - 1) G (parentName (k .parent))) l
+
+module _ {tab : List ℕ} {n classes parent row : ℕ} where
+  pub compatible-empty : classes ≡ 0 → CompatibleAt tab n classes parent row true
+  unfolding classNamed
+  compatible-empty e = record { says = λ ts G w l k p m at s. go G k m l (p .own) }
+    where
+      go : (G : List Class) (k : Class) (m : Method) → length G ≡ classes → classNamed G (k .name .text) ≡ some k → redeclaration G k m ≡ accepted tt
+      go [] k m l own = absurd (none-some refl own)
+      go (j ∷ G) k m l own = absurd (omega arith)
+
+  module _ (more : classes ≡ 0 → ⊥) {x u : ℕ} (e₂ : x ≡ wordAt tab 2 row) (h : FindsMethod tab n (classes - 1) parent x u) where
+    -- the method that is found, and the answer by it
+    found-above : {ts : List Token} {G : List Class} → World tab n ts G → length G ≡ classes → (k : Class) → Parented ts G k parent → (m : Method) → m .name .row ≡ row
+        → MethodStands tab n ts m → (b : Bool)
+        → ((o : Option Found) → u ≡ rowFound o → ((F : Found) → o ≡ some F → MethodStands tab n ts (F .method)) → compared G m o ≡ redeclared b m)
+        → redeclaration G k m ≡ redeclared b m
+    found-above {ts} {G} w l k p m at s b f =
+        let text = m .name .text in
+        let ks = chainFrom (classes - 1) G (parentName (k .parent)) in
+        ap (λ (cs : List Class). compared G m (nearestMethod cs text)) (above-class G k l more (p .own))
+        ∙ f (nearestMethod ks text)
+        (h .says ts G w (parentName (k .parent)) (p .above) text (subst (Spells ts text) (sym e₂) (method-declared (w .tokens) m at s .number)))
+        (λ F e. found-stands w (classes - 1) (parentName (k .parent)) text e)
+
+    pub compatible-new : absent ≤ u → CompatibleAt tab n classes parent row true
+    compatible-new far = record { says = λ ts G w l k p m at s. found-above w l k p m at s true (go ts G w m) }
+      where
+        go : (ts : List Token) (G : List Class) → World tab n ts G → (m : Method) (o : Option Found) → u ≡ rowFound o
+            → ((F : Found) → o ≡ some F → MethodStands tab n ts (F .method)) → compared G m o ≡ accepted tt
+        go ts G w m none e f = refl
+        go ts G w m (some F) e f = absurd (omega (arith, e, row-there (w .tokens) (F .method .name .row) (f F refl .head .name .token .there)))
+
+    pub compatible-is : u < absent → {r : Bool} → RedeclaresAt tab n classes row u r → CompatibleAt tab n classes parent row r
+    compatible-is near {r} h′ = record { says = λ ts G w l k p m at s. found-above w l k p m at s r (go ts G w l m at s) }
+      where
+        go : (ts : List Token) (G : List Class) → World tab n ts G → length G ≡ classes → (m : Method) → m .name .row ≡ row → MethodStands tab n ts m
+            → (o : Option Found) → u ≡ rowFound o → ((F : Found) → o ≡ some F → MethodStands tab n ts (F .method)) → compared G m o ≡ redeclared r m
+        go ts G w l m at s none e f = absurd (omega (arith, e))
+        go ts G w l m at s (some F) e f = ap (λ (b : Bool). redeclared b m) (sym (h′ .says ts G w l m (F .method) at s (sym e) (f F refl)))
+
+-- ONE HEAD
+
+module _ {tab : List ℕ} {n first index row t : ℕ} (e₃ : t ≡ wordAt tab 3 row) {b : Bool} (k : KnownAt tab n t b) where
+  pub opening-unknown : b ≡ false → {p : ℕ} → p ≡ wordAt tab 1 t → OpeningJudged tab n first index row (Refused 24 p)
+  unfolding opened
+  opening-unknown is {p} e₁ = record { says = λ ts G w us m ms a. go ts G w us m ms a }
+    where
+      go : (ts : List Token) (G : List Class) → World tab n ts G → (us : List Method) (m : Method) (ms : List Method) → AlongMethods tab n ts us (m ∷ ms) first index row
+          → Refused 24 p ≡ settled (opened G (onto [] (map methodName us)) m)
+      go ts G w us m ms a =
+          let d = method-declared (w .tokens) m (a .here) (method-here us m ms a) in
+          rw (declared-known k e₃ w d ∙ is) (ap (Refused 24) (type-place e₃ e₁ d))
+
+  module _ (is : b ≡ true) {x : ℕ} (e₂ : x ≡ wordAt tab 2 row) {c : Bool} (h : Repeated tab index first x c) where
+    pub opening-repeated : c ≡ true → {p : ℕ} → p ≡ wordAt tab 1 row → OpeningJudged tab n first index row (Refused 25 p)
+    unfolding opened
+    opening-repeated again {p} e₁ = record { says = λ ts G w us m ms a. go ts G w us m ms a }
+      where
+        go : (ts : List Token) (G : List Class) → World tab n ts G → (us : List Method) (m : Method) (ms : List Method) → AlongMethods tab n ts us (m ∷ ms) first index row
+            → Refused 25 p ≡ settled (opened G (onto [] (map methodName us)) m)
+        go ts G w us m ms a =
+            let d = method-declared (w .tokens) m (a .here) (method-here us m ms a) in
+            let o = method-repeated us m ms a (w .tokens) h (methodName m) (subst (Spells ts (methodName m)) (sym e₂) (d .number)) in
+            rw (declared-known k e₃ w d ∙ is, onto-none (methodName m) (map methodName us) ∙ sym o ∙ again) (ap (Refused 25) (e₁ ∙ d .start))
+
+    pub opening-fine : c ≡ false → OpeningJudged tab n first index row (Fine 0)
+    unfolding opened
+    opening-fine new = record { says = λ ts G w us m ms a. go ts G w us m ms a }
+      where
+        go : (ts : List Token) (G : List Class) → World tab n ts G → (us : List Method) (m : Method) (ms : List Method) → AlongMethods tab n ts us (m ∷ ms) first index row
+            → Fine 0 ≡ settled (opened G (onto [] (map methodName us)) m)
+        go ts G w us m ms a =
+            let d = method-declared (w .tokens) m (a .here) (method-here us m ms a) in
+            let o = method-repeated us m ms a (w .tokens) h (methodName m) (subst (Spells ts (methodName m)) (sym e₂) (d .number)) in
+            rw (declared-known k e₃ w d ∙ is, onto-none (methodName m) (map methodName us) ∙ sym o ∙ new)
+
+module _ {tab : List ℕ} {n row first : ℕ} {v : Judged} (e₄ : first ≡ wordAt tab 4 row) (h : VariablesJudged tab n n 2048 0 first 0 first v) where
+  own-parameters : {ts : List Token} {G : List Class} → World tab n ts G → (m : Method) → m .name .row ≡ row → MethodStands tab n ts m → v ≡ settled (variables G [] (m .parameters))
+  own-parameters {ts} {G} w m at s =
+      let e = parameters-word (w .tokens) m at s e₄ in
+      h .says ts G w [] (record { stand = no-variables; begins = refl; many = refl }) [] (m .parameters)
+      (record { stand = s .parameters; begins = e; before = refl; here = e }) (s .few-parameters)
+
+  pub rest-stop : {classes parent number p : ℕ} → v ≡ Refused number p → RestJudged tab n classes parent row (Refused number p)
+  unfolding closed
+  rest-stop is = record { says = λ ts G w l k p m at s. ap settled (sym (stops (variables G [] (m .parameters)) (λ _. redeclaration G k m) (own-parameters w m at s) is)) }
+
+  module _ {classes parent u : ℕ} (is : v ≡ Fine u) {b : Bool} (c : CompatibleAt tab n classes parent row b) where
+    closed-by : {ts : List Token} {G : List Class} → World tab n ts G → length G ≡ classes → (k : Class) → Parented ts G k parent → (m : Method) → m .name .row ≡ row
+        → MethodStands tab n ts m → closed G k m ≡ redeclared b m
+    unfolding closed
+    closed-by {ts} {G} w l k p m at s =
+        goes-on (variables G [] (m .parameters)) (λ _. redeclaration G k m) (own-parameters w m at s) is ∙ c .says ts G w l k p m at s
+
+    pub rest-fine : b ≡ true → RestJudged tab n classes parent row (Fine 0)
+    rest-fine well = record { says = λ ts G w l k p m at s. ap settled (sym (closed-by w l k p m at s ∙ ap (λ (a : Bool). redeclared a m) well)) }
+
+    pub rest-bad : b ≡ false → {p : ℕ} → p ≡ wordAt tab 1 row → RestJudged tab n classes parent row (Refused 26 p)
+    rest-bad ill e₁ = record {
+      says = λ ts G w l k p m at s.
+          ap (Refused 26) (e₁ ∙ method-declared (w .tokens) m at s .start) ∙ ap settled (sym (closed-by w l k p m at s ∙ ap (λ (a : Bool). redeclared a m) ill));
+    }
+
+module _ {tab : List ℕ} {n classes parent first index row : ℕ} {o : Judged} (h : OpeningJudged tab n first index row o) where
+  pub head-stop : {number p : ℕ} → o ≡ Refused number p → HeadJudged tab n classes parent first index row (Refused number p)
+  head-stop is = record { says = λ ts G w l k p us m ms a. ap settled (sym (stops (opened G (onto [] (map methodName us)) m) (λ _. closed G k m) (h .says ts G w us m ms a) is)) }
+
+  pub head-next : {u : ℕ} → o ≡ Fine u → {r : Judged} → RestJudged tab n classes parent row r → HeadJudged tab n classes parent first index row r
+  head-next is h′ = record {
+    says = λ ts G w l k p us m ms a.
+        h′ .says ts G w l k p m (a .here) (method-here us m ms a)
+        ∙ ap settled (sym (goes-on (opened G (onto [] (map methodName us)) m) (λ _. closed G k m) (h .says ts G w us m ms a) is));
+  }
+
+-- HEADS
+
+four-stages : (a b c d e : Outcome (Unit {0})) → (a >>= λ _. b >>= λ _. c >>= λ _. d >>= λ _. e) ≡ (((a >>= λ _. b) >>= λ _. c >>= λ _. d) >>= λ _. e)
+four-stages (refused n p) b c d e = refl
+four-stages (accepted u) (refused n p) c d e = refl
+four-stages (accepted u) (accepted v) (refused n p) d e = refl
+four-stages (accepted u) (accepted v) (accepted w) d e = refl
+
+heads-more : (G : List Class) (k : Class) (earlier : List (List ℕ)) (m : Method) (ms : List Method)
+    → heads G k earlier (m ∷ ms) ≡ ((opened G earlier m >>= λ _. closed G k m) >>= λ _. heads G k (methodName m ∷ earlier) ms)
+unfolding heads opened closed
+heads-more G k earlier m ms =
+    four-stages (knownType G (m .result)) (newMethod earlier m) (variables G [] (m .parameters)) (redeclaration G k m) (heads G k (methodName m ∷ earlier) ms)
+
+module _ {tab : List ℕ} {n classes left parent first index row : ℕ} where
+  pub heads-none-left : left ≡ 0 → HeadsJudged tab n classes left parent first index row (Fine 0)
+  unfolding heads
+  heads-none-left e = record { says = λ ts G w l k p us ms a few. go G k (onto [] (map methodName us)) ms few }
+    where
+      go : (G : List Class) (k : Class) (earlier : List (List ℕ)) (ms : List Method) → length ms ≤ left → Fine 0 ≡ settled (heads G k earlier ms)
+      go G k earlier [] few = refl
+      go G k earlier (m ∷ ms) few = absurd (omega arith)
+
+  pub heads-absent : absent ≤ row → HeadsJudged tab n classes left parent first index row (Fine 0)
+  unfolding heads
+  heads-absent far = record { says = λ ts G w l k p us ms a few. go ts G w k us ms a }
+    where
+      go : (ts : List Token) (G : List Class) → World tab n ts G → (k : Class) (us ms : List Method) → AlongMethods tab n ts us ms first index row
+          → Fine 0 ≡ settled (heads G k (onto [] (map methodName us)) ms)
+      go ts G w k us [] a = refl
+      go ts G w k us (m ∷ ms) a = absurd (omega (arith, method-near us m ms a (w .tokens)))
+
+  module _ (near : row < absent) {o : Judged} (h : HeadJudged tab n classes parent first index row o) where
+    pub heads-stop : {number p : ℕ} → o ≡ Refused number p → HeadsJudged tab n classes left parent first index row (Refused number p)
+    heads-stop {number} {p} is = record { says = λ ts G w l k q us ms a few. go ts G w l k q us ms a }
+      where
+        go : (ts : List Token) (G : List Class) → World tab n ts G → length G ≡ classes → (k : Class) → Parented ts G k parent → (us ms : List Method)
+            → AlongMethods tab n ts us ms first index row → Refused number p ≡ settled (heads G k (onto [] (map methodName us)) ms)
+        go ts G w l k q us [] a = absurd (omega (arith, a .here))
+        go ts G w l k q us (m ∷ ms) a =
+            let earlier = onto [] (map methodName us) in
+            ap settled (sym (heads-more G k earlier m ms
+            ∙ stops (opened G earlier m >>= λ _. closed G k m) (λ _. heads G k (methodName m ∷ earlier) ms) (h .says ts G w l k q us m ms a) is))
+
+    pub heads-next : {u : ℕ} → o ≡ Fine u → {next : ℕ} {r : Judged} → next ≡ wordAt tab 6 row → HeadsJudged tab n classes (left - 1) parent first (index + 1) next r
+        → HeadsJudged tab n classes left parent first index row r
+    heads-next {u} is {next} {r} e₆ h′ = record { says = λ ts G w l k q us ms a few. go ts G w l k q us ms a few }
+      where
+        go : (ts : List Token) (G : List Class) → World tab n ts G → length G ≡ classes → (k : Class) → Parented ts G k parent → (us ms : List Method)
+            → AlongMethods tab n ts us ms first index row → length ms ≤ left → r ≡ settled (heads G k (onto [] (map methodName us)) ms)
+        go ts G w l k q us [] a few = absurd (omega (arith, a .here))
+        go ts G w l k q us (m ∷ ms) a few =
+            let earlier = onto [] (map methodName us) in
+            h′ .says ts G w l k q (us ++ m ∷ []) ms (method-step us m ms a (w .tokens) e₆) (omega arith)
+            ∙ ap (λ (names : List (List ℕ)). settled (heads G k names ms)) (onto-next methodName [] us m)
+            ∙ ap settled (sym (heads-more G k earlier m ms
+            ∙ goes-on (opened G earlier m >>= λ _. closed G k m) (λ _. heads G k (methodName m ∷ earlier) ms) (h .says ts G w l k q us m ms a) is))

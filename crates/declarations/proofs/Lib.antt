@@ -1,0 +1,8 @@
+-- Laws that the proofs of judging the declarations cite, one for each return.
+pub mod EarlierLaws
+pub mod VariableLaws
+pub mod HeadLaws
+pub mod ClassLaws
+pub mod Counts
+pub mod Placing
+pub mod IndexLaws

@@ -1,0 +1,133 @@
+-- A table that holds a derived program has its classes standing in it: their rows are what the tree says, they match their tokens, and the derivation bounds their lists.
+use Prim.Native.Nat.{ℕ, _+_, _≤_}
+use mathlib.Core.Path.{_≡_, refl}
+use mathlib.Core.List.{List, [], _∷_}
+use native.Mathlib.Omega.{arith}
+use lib.ListN.{length}
+use Rattle.lexer.specs.Tokens.{Token}
+use Rattle.parser.specs.Tree.{Sort, Sort.expression, Sort.arguments, Sort.statement, Sort.statements, Part, Variable, Method, Class, Program}
+use Rattle.parser.specs.Layout.{rowOf}
+use Rattle.parser.specs.Measure.{nodes}
+use Rattle.parser.specs.Grammar.{Kind, Derives, DerivesMethod, DerivesMethods, DerivesClass, DerivesClasses, DerivesProgram}
+use Rattle.parser.specs.Grammar.{Derives.operate, Derives.one-operand, Derives.negate, Derives.no-negation, Derives.make-array, Derives.no-array, Derives.index, Derives.take-length, Derives.invoke, Derives.no-suffix}
+use Rattle.parser.specs.Grammar.{Derives.a-literal, Derives.a-true, Derives.a-false, Derives.a-name, Derives.a-this, Derives.make-object, Derives.parentheses, Derives.none-given, Derives.some-given, Derives.one-argument, Derives.more-arguments}
+use Rattle.parser.specs.Grammar.{Derives.a-block, Derives.an-if, Derives.a-while, Derives.a-print, Derives.an-assignment, Derives.an-element-assignment, Derives.no-statement, Derives.more-statements}
+use Rattle.parser.specs.Grammar.{DerivesMethod.a-method, DerivesMethods.no-method, DerivesMethods.more-methods, DerivesClass.a-class-declaration, DerivesClasses.no-class, DerivesClasses.more-classes, DerivesProgram.a-program}
+use Rattle.reader.specs.Stored.{variable-lies, parent-order}
+use Rattle.reader.specs.Counting.{tree-nodes}
+use Rattle.reader.specs.Holds.{HoldsVariables, HoldsMethod, HoldsMethods, HoldsClass, HoldsClasses}
+use Rattle.reader.specs.Matches.{VariablesMatch, MethodMatches, MethodsMatch, ClassMatches, ClassesMatch}
+use Rattle.lookup.specs.Standing.{VariablesStand, MethodStands, MethodsStand, ClassStands, ClassesStand}
+use Rattle.lookup.specs.Standing as Standing
+use Rattle.declarations.proofs.Counts.{head-count, variables-count, formals-count, method-count, methods-count, class-count, classes-count}
+
+variables-stand : {tab : List ℕ} {ts : List Token} (vs : List Variable) → VariablesMatch ts vs → HoldsVariables tab vs → VariablesStand tab ts vs
+unfolding VariablesMatch HoldsVariables
+variables-stand [] m h = Standing.no-variables
+variables-stand (v ∷ vs) m h = Standing.more-variables (m .0) (h .0) (h .1) (variables-stand vs (m .1) (h .2))
+
+module _ {tab : List ℕ} {n : ℕ} {ts : List Token} where
+  method-stands : {i j : ℕ} {m : Method} → DerivesMethod ts i j m → j ≤ n → MethodMatches ts m → HoldsMethod tab m → MethodStands tab n ts m
+  method-stands (a-method {ps = ps} {ls = ls} _ head _ fs _ _ vs ss _ v _ _) few m h =
+      record {
+        head = m .head;
+        after = m .after;
+        result = h .result;
+        first = h .first;
+        second = h .second;
+        start = h .start;
+        return = h .return;
+        parameters = variables-stand ps (m .parameters) (h .parameters);
+        locals = variables-stand ls (m .locals) (h .locals);
+        few-parameters = omega (arith, head-count head, formals-count fs, variables-count vs, tree-nodes ss, tree-nodes v);
+        few-locals = omega (arith, head-count head, formals-count fs, variables-count vs, tree-nodes ss, tree-nodes v);
+        body = h .body;
+        body-matches = m .body;
+        body-nodes = omega (arith, head-count head, formals-count fs, variables-count vs, tree-nodes ss, tree-nodes v);
+        value = h .value;
+        value-matches = m .value;
+        value-nodes = omega (arith, head-count head, formals-count fs, variables-count vs, tree-nodes ss, tree-nodes v);
+      }
+
+  methods-stand : {i j : ℕ} {ms : List Method} → DerivesMethods ts i j ms → j ≤ n → MethodsMatch ts ms → HoldsMethods tab ms → MethodsStand tab n ts ms
+  unfolding MethodsMatch HoldsMethods
+  methods-stand no-method few m h = Standing.no-methods
+  methods-stand (more-methods d d′) few m h =
+      Standing.more-methods (method-stands d (omega (arith, methods-count d′)) (m .0) (h .0)) (h .1) (methods-stand d′ few (m .1) (h .2))
+
+  class-stands : {i j : ℕ} {k : Class} → DerivesClass ts i j k → j ≤ n → ClassMatches ts k → HoldsClass tab k → ClassStands tab n ts k
+  class-stands (a-class-declaration {fs = fs} _ _ p _ vs ms _) few m h =
+      record {
+        named = m .name;
+        above = h .parent;
+        parent-matches = m .parent;
+        first = h .first;
+        second = h .second;
+        fields = variables-stand fs (m .fields) (h .fields);
+        few-fields = omega (arith, parent-order p, variables-count vs, methods-count ms);
+        methods = methods-stand ms (omega arith) (m .methods) (h .methods);
+        few-methods = omega (arith, parent-order p, variables-count vs, methods-count ms);
+      }
+
+  pub classes-stand : {i j : ℕ} {ks : List Class} → DerivesClasses ts i j ks → j ≤ n → ClassesMatch ts ks → HoldsClasses tab ks → ClassesStand tab n ts ks
+  unfolding ClassesMatch HoldsClasses
+  classes-stand no-class few m h = Standing.no-classes
+  classes-stand (more-classes d d′) few m h =
+      Standing.more-classes (class-stands d (omega (arith, classes-count d′)) (m .0) (h .0)) (h .1) (classes-stand d′ few (m .1) (h .2))
+
+-- a statement's row is that of its first token
+abbrev FirstRow : Sort → (i row : ℕ) → Type 0
+FirstRow expression i r = Unit {0}
+FirstRow arguments i r = Unit {0}
+FirstRow statement i r = r ≡ i
+FirstRow statements i r = Unit {0}
+
+first-row : {ts : List Token} {s : Sort} {k : Kind s} {i j : ℕ} {t : Part s} → Derives ts s k i j t → FirstRow s i (rowOf t)
+first-row (operate l e r) = tt
+first-row (one-operand d) = tt
+first-row (negate e d) = tt
+first-row (no-negation d) = tt
+first-row (make-array e₁ e₂ e₃ d e₄) = tt
+first-row (no-array d) = tt
+first-row (index a e₁ d e₂) = tt
+first-row (take-length a e₁ e₂) = tt
+first-row (invoke d e₁ e₂ e₃ ds e₄) = tt
+first-row (no-suffix d) = tt
+first-row (a-literal e) = tt
+first-row (a-true e) = tt
+first-row (a-false e) = tt
+first-row (a-name e) = tt
+first-row (a-this e) = tt
+first-row (make-object e₁ e₂ e₃ e₄) = tt
+first-row (parentheses e₁ d e₂) = tt
+first-row none-given = tt
+first-row (some-given d) = tt
+first-row (one-argument d) = tt
+first-row (more-arguments d e ds) = tt
+first-row (a-block e₁ ds e₂) = refl
+first-row (an-if e₁ e₂ d e₃ s e₄ t) = refl
+first-row (a-while e₁ e₂ d e₃ s) = refl
+first-row (a-print e₁ e₂ e₃ e₄ e₅ e₆ d e₇ e₈) = refl
+first-row (an-assignment e₁ e₂ d e₃) = refl
+first-row (an-element-assignment e₁ e₂ a e₃ e₄ d e₅) = refl
+first-row no-statement = tt
+first-row (more-statements s ss) = tt
+
+-- what a program's derivation tells
+pub record Derived (ts : List Token) (p : Program) : Type 0 where
+  pub main : p .main .row ≡ 1
+  pub row : rowOf (p .statement) ≡ 14
+  pub few-nodes : nodes (p .statement) ≤ length ts
+  pub few-classes : length (p .classes) ≤ length ts
+  pub from : ℕ
+  pub classes : DerivesClasses ts from (length ts) (p .classes)
+
+pub derived : {ts : List Token} {p : Program} → DerivesProgram ts p → Derived ts p
+derived (a-program {j = j} _ d _ _ cs) = record {
+  main = refl;
+  row = first-row d;
+  few-nodes = omega (arith, tree-nodes d, classes-count cs);
+  few-classes = omega (arith, classes-count cs);
+  from = j + 2;
+  classes = cs;
+}

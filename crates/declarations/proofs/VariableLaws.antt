@@ -1,0 +1,247 @@
+-- What the judgements of fields, parameters and locals return meets their contracts: each test of the code is the definition's, on the variable whose row it is.
+use Prim.Native.Nat.{ℕ, zero, suc, _+_, _-_, _≤_, _<_}
+use native.Mathlib.Omega.{arith}
+use mathlib.Core.Path.{_≡_, refl, sym, ap, _∙_, subst}
+use mathlib.Core.List.{List, [], _∷_, _++_, map, append-nil}
+use mathlib.Core.Bool.{Bool, true, false, _||_}
+use lib.ListN.{length, length-map}
+use lib.Dec.{ltb}
+use borrow.Author.Tests.{lt-ltb, le-ltb}
+use Rattle.base.specs.Choice.{if_then_else_}
+use Rattle.base.specs.Codes.{variablesMost}
+use Rattle.base.specs.Outcome.{Outcome, accepted, refused, _>>=_}
+use Rattle.lexer.specs.Tokens.{Token}
+use Rattle.parser.specs.Tree.{Variable, Class}
+use Rattle.parser.specs.Layout.{rowVariables}
+use Rattle.checker.specs.ClassTable.{known}
+use Rattle.checker.specs.Declarations.{occurs, textOf, knownType, fields, variables}
+use Rattle.lookup.specs.declared.answer.Judged.{Judged}
+use Rattle.lookup.specs.declared.answer.Judged.the-variants.{Fine, Refused}
+use Rattle.lookup.specs.Standing.{absent, wordAt, Spells, VariablesStand, World}
+use Rattle.lookup.specs.Lookups.{Names, TypeOf, Knows, Repeated}
+use Rattle.lookup.specs.Answers.{settled, goes-on, stops}
+use Rattle.declarations.specs.Earlier.{onto, Listed, Along}
+use Rattle.declarations.specs.Judgements.{KnownAt, FieldsJudged, newVariable, VariableJudged, VariablesJudged}
+use Rattle.declarations.proofs.EarlierLaws.{onto-occurs, onto-none, onto-length, onto-next, DeclaredAt, listed-repeated, variable-names, variable-near, variable-declared, variable-repeated, variable-step}
+
+-- TYPES
+
+pub known-at : {tab : List ℕ} {n row t : ℕ} {r : Bool} → TypeOf tab n row t → Knows tab n t r → KnownAt tab n row r
+known-at h k = record { says = λ ts G w t at m. k .says ts G w (t .type) (h .says ts (w .tokens) t at m) }
+
+-- whether the type of the variable of a row is known
+pub declared-known : {tab : List ℕ} {n row t : ℕ} {b : Bool} → KnownAt tab n t b → t ≡ wordAt tab 3 row → {ts : List Token} {G : List Class} → World tab n ts G → {v : Variable}
+    → DeclaredAt tab ts v row → known G (v .type .type) ≡ b
+declared-known k e₃ {ts} {G} w {v} d = sym (k .says ts G w (v .type) (sym (d .type) ∙ sym e₃) (d .matches .type))
+
+-- where the type stands
+pub type-place : {tab : List ℕ} {row t p : ℕ} → t ≡ wordAt tab 3 row → p ≡ wordAt tab 1 t → {ts : List Token} {v : Variable} → DeclaredAt tab ts v row → p ≡ v .type .start
+type-place {tab} e₃ e₁ d = e₁ ∙ ap (wordAt tab 1) (e₃ ∙ d .type) ∙ d .type-start
+
+-- FIELDS
+
+-- whether the name of the field of a row is repeated
+twice : {tab : List ℕ} {n first index row x : ℕ} {c : Bool} → x ≡ wordAt tab 2 row → Repeated tab index first x c → {ts : List Token} {G : List Class} → World tab n ts G
+    → (us : List Variable) (v : Variable) (vs : List Variable) → Along tab ts us (v ∷ vs) first index row → occurs (textOf v) (onto [] (map textOf us)) ≡ c
+twice e₂ h {ts} w us v vs a =
+    let d = variable-declared (w .tokens) us v vs a in
+    onto-none (textOf v) (map textOf us) ∙ sym (variable-repeated (w .tokens) us v vs a h (textOf v) (subst (Spells ts (textOf v)) (sym e₂) (d .number)))
+
+module _ {tab : List ℕ} {n left first index row : ℕ} where
+  pub fields-none-left : left ≡ 0 → FieldsJudged tab n left first index row (Fine 0)
+  unfolding fields
+  fields-none-left e = record { says = λ ts G w us vs a few. go G (onto [] (map textOf us)) vs few }
+    where
+      go : (G : List Class) (earlier : List (List ℕ)) (vs : List Variable) → length vs ≤ left → Fine 0 ≡ settled (fields G earlier vs)
+      go G earlier [] few = refl
+      go G earlier (v ∷ vs) few = absurd (omega arith)
+
+  pub fields-absent : absent ≤ row → FieldsJudged tab n left first index row (Fine 0)
+  unfolding fields
+  fields-absent far = record { says = λ ts G w us vs a few. go ts G w us vs a }
+    where
+      go : (ts : List Token) (G : List Class) → World tab n ts G → (us vs : List Variable) → Along tab ts us vs first index row
+          → Fine 0 ≡ settled (fields G (onto [] (map textOf us)) vs)
+      go ts G w us [] a = refl
+      go ts G w us (v ∷ vs) a = absurd (omega (arith, variable-near (w .tokens) us v vs a))
+
+  module _ (near : row < absent) {t : ℕ} (e₃ : t ≡ wordAt tab 3 row) {b : Bool} (k : KnownAt tab n t b) where
+    pub fields-unknown : b ≡ false → {p : ℕ} → p ≡ wordAt tab 1 t → FieldsJudged tab n left first index row (Refused 24 p)
+    unfolding fields
+    fields-unknown is {p} e₁ = record { says = λ ts G w us vs a few. go ts G w us vs a }
+      where
+        go : (ts : List Token) (G : List Class) → World tab n ts G → (us vs : List Variable) → Along tab ts us vs first index row
+            → Refused 24 p ≡ settled (fields G (onto [] (map textOf us)) vs)
+        go ts G w us [] a = absurd (omega (arith, a .here))
+        go ts G w us (v ∷ vs) a =
+            let d = variable-declared (w .tokens) us v vs a in
+            rw (declared-known k e₃ w d ∙ is) (ap (Refused 24) (type-place e₃ e₁ d))
+
+    module _ (is : b ≡ true) {x : ℕ} (e₂ : x ≡ wordAt tab 2 row) {c : Bool} (h : Repeated tab index first x c) where
+      pub fields-repeated : c ≡ true → {p : ℕ} → p ≡ wordAt tab 1 row → FieldsJudged tab n left first index row (Refused 23 p)
+      unfolding fields
+      fields-repeated again {p} e₁ = record { says = λ ts G w us vs a few. go ts G w us vs a }
+        where
+          go : (ts : List Token) (G : List Class) → World tab n ts G → (us vs : List Variable) → Along tab ts us vs first index row
+              → Refused 23 p ≡ settled (fields G (onto [] (map textOf us)) vs)
+          go ts G w us [] a = absurd (omega (arith, a .here))
+          go ts G w us (v ∷ vs) a =
+              let d = variable-declared (w .tokens) us v vs a in
+              rw (declared-known k e₃ w d ∙ is, twice e₂ h w us v vs a ∙ again) (ap (Refused 23) (e₁ ∙ d .start))
+
+      pub fields-next : c ≡ false → {next : ℕ} {r : Judged} → next ≡ wordAt tab 6 row → FieldsJudged tab n (left - 1) first (index + 1) next r
+          → FieldsJudged tab n left first index row r
+      unfolding fields
+      fields-next new {next} {r} e₆ h′ = record { says = λ ts G w us vs a few. go ts G w us vs a few }
+        where
+          go : (ts : List Token) (G : List Class) → World tab n ts G → (us vs : List Variable) → Along tab ts us vs first index row → length vs ≤ left
+              → r ≡ settled (fields G (onto [] (map textOf us)) vs)
+          go ts G w us [] a few = absurd (omega (arith, a .here))
+          go ts G w us (v ∷ vs) a few =
+              let d = variable-declared (w .tokens) us v vs a in
+              rw (declared-known k e₃ w d ∙ is, twice e₂ h w us v vs a ∙ new)
+              (h′ .says ts G w (us ++ v ∷ []) vs (variable-step (w .tokens) us v vs a e₆) (omega arith)
+              ∙ ap (λ (earlier : List (List ℕ)). settled (fields G earlier vs)) (onto-next textOf [] us v))
+
+-- PARAMETERS AND LOCALS
+
+module _ {tab : List ℕ} {n others before first index row t : ℕ} (e₃ : t ≡ wordAt tab 3 row) {b : Bool} (k : KnownAt tab n t b) where
+  pub variable-unknown : b ≡ false → {p : ℕ} → p ≡ wordAt tab 1 t → VariableJudged tab n others before first index row (Refused 24 p)
+  unfolding newVariable
+  variable-unknown is {p} e₁ = record { says = λ ts G w ps l us v vs a. go ts G w ps us v vs a }
+    where
+      go : (ts : List Token) (G : List Class) → World tab n ts G → (ps us : List Variable) (v : Variable) (vs : List Variable) → Along tab ts us (v ∷ vs) first index row
+          → Refused 24 p ≡ settled (newVariable G (onto (map textOf ps) (map textOf us)) v)
+      go ts G w ps us v vs a =
+          let d = variable-declared (w .tokens) us v vs a in
+          rw (declared-known k e₃ w d ∙ is) (ap (Refused 24) (type-place e₃ e₁ d))
+
+  module _ (is : b ≡ true) {x : ℕ} (e₂ : x ≡ wordAt tab 2 row) {c : Bool} (h : Repeated tab before others x c) where
+    pub variable-other : c ≡ true → {p : ℕ} → p ≡ wordAt tab 1 row → VariableJudged tab n others before first index row (Refused 27 p)
+    unfolding newVariable
+    variable-other again {p} e₁ = record { says = λ ts G w ps l us v vs a. go ts G w ps l us v vs a }
+      where
+        go : (ts : List Token) (G : List Class) → World tab n ts G → (ps : List Variable) → Listed tab ts ps others before → (us : List Variable) (v : Variable) (vs : List Variable)
+            → Along tab ts us (v ∷ vs) first index row → Refused 27 p ≡ settled (newVariable G (onto (map textOf ps) (map textOf us)) v)
+        go ts G w ps l us v vs a =
+            let d = variable-declared (w .tokens) us v vs a in
+            let o = listed-repeated (w .tokens) ps l h (textOf v) (subst (Spells ts (textOf v)) (sym e₂) (d .number)) in
+            rw (declared-known k e₃ w d ∙ is, onto-occurs (textOf v) (map textOf ps) (map textOf us), sym o ∙ again) (ap (Refused 27) (e₁ ∙ d .start))
+
+    module _ (new : c ≡ false) {c′ : Bool} (h′ : Repeated tab index first x c′) where
+      pub variable-twice : c′ ≡ true → {p : ℕ} → p ≡ wordAt tab 1 row → VariableJudged tab n others before first index row (Refused 27 p)
+      unfolding newVariable
+      variable-twice again {p} e₁ = record { says = λ ts G w ps l us v vs a. go ts G w ps l us v vs a }
+        where
+          go : (ts : List Token) (G : List Class) → World tab n ts G → (ps : List Variable) → Listed tab ts ps others before → (us : List Variable) (v : Variable) (vs : List Variable)
+              → Along tab ts us (v ∷ vs) first index row → Refused 27 p ≡ settled (newVariable G (onto (map textOf ps) (map textOf us)) v)
+          go ts G w ps l us v vs a =
+              let d = variable-declared (w .tokens) us v vs a in
+              let sp = subst (Spells ts (textOf v)) (sym e₂) (d .number) in
+              rw (
+                declared-known k e₃ w d ∙ is,
+                onto-occurs (textOf v) (map textOf ps) (map textOf us),
+                sym (listed-repeated (w .tokens) ps l h (textOf v) sp) ∙ new,
+                sym (variable-repeated (w .tokens) us v vs a h′ (textOf v) sp) ∙ again,
+              )
+              (ap (Refused 27) (e₁ ∙ d .start))
+
+      module _ (fresh : c′ ≡ false) where
+        pub variable-fine : before + index < 32 → VariableJudged tab n others before first index row (Fine 0)
+        unfolding newVariable
+        variable-fine few = record { says = λ ts G w ps l us v vs a. go ts G w ps l us v vs a }
+          where
+            go : (ts : List Token) (G : List Class) → World tab n ts G → (ps : List Variable) → Listed tab ts ps others before → (us : List Variable) (v : Variable) (vs : List Variable)
+                → Along tab ts us (v ∷ vs) first index row → Fine 0 ≡ settled (newVariable G (onto (map textOf ps) (map textOf us)) v)
+            go ts G w ps l us v vs a =
+                let d = variable-declared (w .tokens) us v vs a in
+                let sp = subst (Spells ts (textOf v)) (sym e₂) (d .number) in
+                let earlier = onto (map textOf ps) (map textOf us) in
+                rw (
+                  declared-known k e₃ w d ∙ is,
+                  onto-occurs (textOf v) (map textOf ps) (map textOf us),
+                  sym (listed-repeated (w .tokens) ps l h (textOf v) sp) ∙ new,
+                  sym (variable-repeated (w .tokens) us v vs a h′ (textOf v) sp) ∙ fresh,
+                  lt-ltb (length earlier) variablesMost
+                      (omega (arith, onto-length (map textOf ps) (map textOf us), length-map ps textOf, length-map us textOf, l .many, a .before)),
+                )
+
+        pub variable-many : 32 ≤ before + index → {p : ℕ} → p ≡ wordAt tab 1 row → VariableJudged tab n others before first index row (Refused 28 p)
+        unfolding newVariable
+        variable-many many {p} e₁ = record { says = λ ts G w ps l us v vs a. go ts G w ps l us v vs a }
+          where
+            go : (ts : List Token) (G : List Class) → World tab n ts G → (ps : List Variable) → Listed tab ts ps others before → (us : List Variable) (v : Variable) (vs : List Variable)
+                → Along tab ts us (v ∷ vs) first index row → Refused 28 p ≡ settled (newVariable G (onto (map textOf ps) (map textOf us)) v)
+            go ts G w ps l us v vs a =
+                let d = variable-declared (w .tokens) us v vs a in
+                let sp = subst (Spells ts (textOf v)) (sym e₂) (d .number) in
+                let earlier = onto (map textOf ps) (map textOf us) in
+                rw (
+                  declared-known k e₃ w d ∙ is,
+                  onto-occurs (textOf v) (map textOf ps) (map textOf us),
+                  sym (listed-repeated (w .tokens) ps l h (textOf v) sp) ∙ new,
+                  sym (variable-repeated (w .tokens) us v vs a h′ (textOf v) sp) ∙ fresh,
+                  le-ltb (length earlier) variablesMost
+                      (omega (arith, onto-length (map textOf ps) (map textOf us), length-map ps textOf, length-map us textOf, l .many, a .before)),
+                )
+                (ap (Refused 28) (e₁ ∙ d .start))
+
+-- the tests of a name, and what comes after them
+abbrev tests : (again few : Bool) (place : ℕ) (next : Outcome (Unit {0})) → Outcome (Unit {0})
+tests again few place next = if again then (λ _. refused 27 place) else λ _. if few then (λ _. next) else λ _. refused 28 place
+
+tests-then : (o : Outcome (Unit {0})) (again few : Bool) (place : ℕ) (next : Outcome (Unit {0}))
+    → (o >>= λ _. tests again few place next) ≡ ((o >>= λ _. tests again few place (accepted tt)) >>= λ _. next)
+tests-then (accepted u) true few place next = refl
+tests-then (accepted u) false true place next = refl
+tests-then (accepted u) false false place next = refl
+tests-then (refused n p) again few place next = refl
+
+-- one variable after the other
+variables-more : (G : List Class) (earlier : List (List ℕ)) (v : Variable) (vs : List Variable)
+    → variables G earlier (v ∷ vs) ≡ (newVariable G earlier v >>= λ _. variables G (textOf v ∷ earlier) vs)
+unfolding variables newVariable
+variables-more G earlier v vs =
+    tests-then (knownType G (v .type)) (occurs (textOf v) earlier) (ltb (length earlier) variablesMost) (v .name .start) (variables G (textOf v ∷ earlier) vs)
+
+module _ {tab : List ℕ} {n left others before first index row : ℕ} where
+  pub variables-none-left : left ≡ 0 → VariablesJudged tab n left others before first index row (Fine 0)
+  unfolding variables
+  variables-none-left e = record { says = λ ts G w ps l us vs a few. go G (onto (map textOf ps) (map textOf us)) vs few }
+    where
+      go : (G : List Class) (earlier : List (List ℕ)) (vs : List Variable) → length vs ≤ left → Fine 0 ≡ settled (variables G earlier vs)
+      go G earlier [] few = refl
+      go G earlier (v ∷ vs) few = absurd (omega arith)
+
+  pub variables-absent : absent ≤ row → VariablesJudged tab n left others before first index row (Fine 0)
+  unfolding variables
+  variables-absent far = record { says = λ ts G w ps l us vs a few. go ts G w (map textOf ps) us vs a }
+    where
+      go : (ts : List Token) (G : List Class) → World tab n ts G → (qs : List (List ℕ)) (us vs : List Variable) → Along tab ts us vs first index row
+          → Fine 0 ≡ settled (variables G (onto qs (map textOf us)) vs)
+      go ts G w qs us [] a = refl
+      go ts G w qs us (v ∷ vs) a = absurd (omega (arith, variable-near (w .tokens) us v vs a))
+
+  module _ (near : row < absent) {o : Judged} (h : VariableJudged tab n others before first index row o) where
+    pub variables-stop : {number p : ℕ} → o ≡ Refused number p → VariablesJudged tab n left others before first index row (Refused number p)
+    variables-stop {number} {p} is = record { says = λ ts G w ps l us vs a few. go ts G w ps l us vs a }
+      where
+        go : (ts : List Token) (G : List Class) → World tab n ts G → (ps : List Variable) → Listed tab ts ps others before → (us vs : List Variable)
+            → Along tab ts us vs first index row → Refused number p ≡ settled (variables G (onto (map textOf ps) (map textOf us)) vs)
+        go ts G w ps l us [] a = absurd (omega (arith, a .here))
+        go ts G w ps l us (v ∷ vs) a =
+            let earlier = onto (map textOf ps) (map textOf us) in
+            rw (variables-more G earlier v vs, stops (newVariable G earlier v) (λ _. variables G (textOf v ∷ earlier) vs) (h .says ts G w ps l us v vs a) is)
+
+    pub variables-next : {u : ℕ} → o ≡ Fine u → {next : ℕ} {r : Judged} → next ≡ wordAt tab 6 row → VariablesJudged tab n (left - 1) others before first (index + 1) next r
+        → VariablesJudged tab n left others before first index row r
+    variables-next {u} is {next} {r} e₆ h′ = record { says = λ ts G w ps l us vs a few. go ts G w ps l us vs a few }
+      where
+        go : (ts : List Token) (G : List Class) → World tab n ts G → (ps : List Variable) → Listed tab ts ps others before → (us vs : List Variable)
+            → Along tab ts us vs first index row → length vs ≤ left → r ≡ settled (variables G (onto (map textOf ps) (map textOf us)) vs)
+        go ts G w ps l us [] a few = absurd (omega (arith, a .here))
+        go ts G w ps l us (v ∷ vs) a few =
+            let earlier = onto (map textOf ps) (map textOf us) in
+            rw (variables-more G earlier v vs, goes-on (newVariable G earlier v) (λ _. variables G (textOf v ∷ earlier) vs) (h .says ts G w ps l us v vs a) is)
+            (h′ .says ts G w ps l (us ++ v ∷ []) vs (variable-step (w .tokens) us v vs a e₆) (omega arith)
+            ∙ ap (λ (names : List (List ℕ)). settled (variables G names vs)) (onto-next textOf (map textOf ps) us v))

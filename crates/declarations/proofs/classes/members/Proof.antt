@@ -1,0 +1,52 @@
+-- Each return is a law of `ClassLaws`.
+use borrow.Author.Needs.{needs}
+use Rattle.declarations.proofs.classes.members.Statement.{statement}
+use Rattle.declarations.proofs.classes.members.Tie as tie
+use Rattle.declarations.proofs.classes.members.Reads as reads
+use Rattle.declarations.proofs.classes.members.Lts as lts
+use Rattle.declarations.proofs.heads.heads.Reads as heads-reads
+use Rattle.declarations.proofs.variables.fields.Reads as fields-reads
+use Rattle.lookup.proofs.chain.above.Reads as above-reads
+use Rattle.lookup.proofs.rows.word.Reads as word-reads
+use Rattle.declarations.proofs.ClassLaws.{members-next, members-stop}
+
+word-requires : tie.Need-word-requires
+word-requires c κs = search needs
+
+fields-requires : tie.Need-fields-requires
+fields-requires c κs = search needs
+
+enum-told : tie.Need-enum-told
+enum-told c = search needs
+
+word-requires-2 : tie.Need-word-requires-2
+word-requires-2 c κs = search needs
+
+above-requires : tie.Need-above-requires
+above-requires c κs = search needs
+
+heads-requires : tie.Need-heads-requires
+heads-requires c κs = search needs
+
+enum-known-f : tie.Need-enum-known-f
+enum-known-f c = search needs
+
+returns : tie.Need-returns
+returns c = search members-next
+
+returns-2 : tie.Need-returns-2
+returns-2 c = search members-stop
+
+pub members-spec : {M : Type 1} → statement M
+members-spec =
+    tie.close
+    (tie.spec
+    word-requires
+    fields-requires
+    enum-told
+    word-requires-2
+    above-requires
+    heads-requires
+    enum-known-f
+    returns
+    returns-2)

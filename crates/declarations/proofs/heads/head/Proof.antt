@@ -1,0 +1,31 @@
+-- Each return is a law of `HeadLaws`.
+use borrow.Author.Needs.{needs}
+use Rattle.declarations.proofs.heads.head.Statement.{statement}
+use Rattle.declarations.proofs.heads.head.Tie as tie
+use Rattle.declarations.proofs.heads.head.Reads as reads
+use Rattle.declarations.proofs.heads.head.Lts as lts
+use Rattle.declarations.proofs.heads.opening.Reads as opening-reads
+use Rattle.declarations.proofs.heads.rest.Reads as rest-reads
+use Rattle.declarations.proofs.HeadLaws.{head-next, head-stop}
+
+opening-requires : tie.Need-opening-requires
+opening-requires c κs = search needs
+
+enum-told : tie.Need-enum-told
+enum-told c = search needs
+
+rest-requires : tie.Need-rest-requires
+rest-requires c κs = search needs
+
+enum-known-o : tie.Need-enum-known-o
+enum-known-o c = search needs
+
+returns : tie.Need-returns
+returns c = search head-next
+
+returns-2 : tie.Need-returns-2
+returns-2 c = search head-stop
+
+pub head-spec : {M : Type 1} → statement M
+head-spec =
+    tie.close (tie.spec opening-requires enum-told rest-requires enum-known-o returns returns-2)

@@ -1,0 +1,51 @@
+-- Each return is a law of `HeadLaws`.
+use borrow.Author.Needs.{needs}
+use Rattle.declarations.proofs.heads.opening.Statement.{statement}
+use Rattle.declarations.proofs.heads.opening.Tie as tie
+use Rattle.declarations.proofs.heads.opening.Reads as reads
+use Rattle.declarations.proofs.heads.opening.Lts as lts
+use Rattle.declarations.proofs.variables.is_known.Reads as is-known-reads
+use Rattle.lookup.proofs.member.repeated.Reads as repeated-reads
+use Rattle.lookup.proofs.rows.word.Reads as word-reads
+use Rattle.declarations.proofs.HeadLaws.{opening-repeated, opening-fine, opening-unknown}
+
+word-requires : tie.Need-word-requires
+word-requires c κs = search needs
+
+is-known-requires : tie.Need-is-known-requires
+is-known-requires c κs = search needs
+
+word-requires-2 : tie.Need-word-requires-2
+word-requires-2 c κs = search needs
+
+repeated-requires : tie.Need-repeated-requires
+repeated-requires c κs = search needs
+
+word-requires-3 : tie.Need-word-requires-3
+word-requires-3 c κs = search needs
+
+returns : tie.Need-returns
+returns c = search opening-repeated
+
+returns-2 : tie.Need-returns-2
+returns-2 c = search opening-fine
+
+word-requires-4 : tie.Need-word-requires-4
+word-requires-4 c κs = search needs
+
+returns-3 : tie.Need-returns-3
+returns-3 c = search opening-unknown
+
+pub opening-spec : {M : Type 1} → statement M
+opening-spec =
+    tie.close
+    (tie.spec
+    word-requires
+    is-known-requires
+    word-requires-2
+    repeated-requires
+    word-requires-3
+    returns
+    returns-2
+    word-requires-4
+    returns-3)

@@ -1,0 +1,34 @@
+-- `enter` meets its contract: each return is a law of `IndexLaws`.
+use borrow.Author.Needs.{needs}
+use Rattle.declarations.proofs.index.enter.Statement.{statement}
+use Rattle.declarations.proofs.index.enter.Tie as tie
+use Rattle.declarations.proofs.index.enter.Reads as reads
+use Rattle.declarations.proofs.index.enter.Lts as lts
+use Rattle.declarations.proofs.IndexLaws.{enter-row, enter-none}
+use native.Mathlib.Omega.{arith}
+
+cast-table : tie.Need-cast-table
+cast-table c = search needs
+
+add-table : tie.Need-add-table
+add-table c = search needs
+
+mul-table : tie.Need-mul-table
+mul-table c = search needs
+
+slice-write-table : tie.Need-slice-write-table
+slice-write-table c = search needs
+
+same-length : tie.Need-same-length
+same-length c = search needs
+
+returns : tie.Need-returns
+returns c = enter-row (c .before .args .table .now) (c .before .args .row) (c .before .args .class) (c .if1 .taken)
+
+returns-2 : tie.Need-returns-2
+returns-2 c = enter-none (c .before .args .table .now) (c .before .args .row) (c .before .args .class) (c .if1 .left)
+
+pub enter-spec : {M : Type 1} → statement M
+enter-spec =
+    tie.close
+    (tie.spec cast-table add-table mul-table slice-write-table same-length returns returns-2)

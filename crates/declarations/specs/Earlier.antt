@@ -1,0 +1,34 @@
+-- Where a list of declarations is judged member by member: the members before a row and those from it on, and the names declared earlier.
+use Prim.Native.Nat.{ℕ}
+use mathlib.Core.Path.{_≡_}
+use mathlib.Core.List.{List, [], _∷_, _++_}
+use lib.ListN.{length}
+use Rattle.lexer.specs.Tokens.{Token}
+use Rattle.parser.specs.Tree.{Variable, Method}
+use Rattle.parser.specs.Layout.{rowVariables, rowMethods}
+use Rattle.lookup.specs.Standing.{VariablesStand, MethodsStand}
+
+-- the names xs, declared one after the other, after the earlier ones: the latest stands in front
+abbrev pub onto : (earlier xs : List (List ℕ)) → List (List ℕ)
+onto earlier [] = earlier
+onto earlier (x ∷ xs) = onto (x ∷ earlier) xs
+
+-- a list of `count` variables begins at `first`
+pub record Listed (tab : List ℕ) (ts : List Token) (vs : List Variable) (first count : ℕ) : Type 0 where
+  pub stand : VariablesStand tab ts vs
+  pub begins : rowVariables vs ≡ first
+  pub many : length vs ≡ count
+
+-- a list of variables begins at `first`; of it us, `index` of them, stand before the row, and vs from there on
+pub record Along (tab : List ℕ) (ts : List Token) (us vs : List Variable) (first index row : ℕ) : Type 0 where
+  pub stand : VariablesStand tab ts (us ++ vs)
+  pub begins : rowVariables (us ++ vs) ≡ first
+  pub before : length us ≡ index
+  pub here : rowVariables vs ≡ row
+
+-- and a list of methods
+pub record AlongMethods (tab : List ℕ) (n : ℕ) (ts : List Token) (us ms : List Method) (first index row : ℕ) : Type 0 where
+  pub stand : MethodsStand tab n ts (us ++ ms)
+  pub begins : rowMethods (us ++ ms) ≡ first
+  pub before : length us ≡ index
+  pub here : rowMethods ms ≡ row

@@ -1,0 +1,139 @@
+-- What judging the declarations ensures, whatever the tokens and the classes are that the table holds.
+use Prim.Native.Nat.{ℕ, _≤_}
+use mathlib.Core.Path.{_≡_}
+use mathlib.Core.List.{List, [], _∷_, map}
+use mathlib.Core.Bool.{Bool, true, false}
+use mathlib.Core.Option.{Option, none, some}
+use lib.ListN.{length}
+use lib.Dec.{ltb}
+use Rattle.base.specs.Choice.{if_then_else_, option}
+use Rattle.base.specs.Codes.{variableRepeated, tooManyVariables, variablesMost, badRedeclaration}
+use Rattle.base.specs.Lists.{All}
+use Rattle.base.specs.Outcome.{Outcome, accepted, refused, _>>=_}
+use Rattle.lexer.specs.Tokens.{Token}
+use Rattle.parser.specs.Tree.{Name, TypeUse, Variable, Method, Class}
+use Rattle.parser.specs.Layout.{rowVariables, rowClasses}
+use Rattle.reader.specs.Matches.{TypeMatches}
+use Rattle.checker.specs.ClassTable.{classNamed, known}
+use Rattle.checker.specs.Declarations.{occurs, textOf, knownType, knownParents, endless, fields, variables, sameTypes, redeclares, redeclaration, newMethod, heads, declarations}
+use Rattle.checker.specs.Typing.{methodName}
+use Rattle.lookup.specs.declared.answer.Judged.{Judged}
+use Rattle.lookup.specs.declared.answer.Judged.the-variants.{Fine, Refused}
+use Rattle.lookup.specs.Standing.{Lexemes, Numbers, VariablesStand, MethodStands, ClassStands, ClassesStand, World, parentName}
+use Rattle.lookup.specs.Answers.{settled}
+use Rattle.declarations.specs.Earlier.{onto, Listed, Along, AlongMethods}
+
+-- VARIABLES
+
+pub record KnownAt (tab : List ℕ) (n row : ℕ) (r : Bool) : Type 0 where
+  pub says : (ts : List Token) (G : List Class) → World tab n ts G → (t : TypeUse) → t .row ≡ row → TypeMatches ts t (t .type) → r ≡ known G (t .type)
+
+pub record FieldsJudged (tab : List ℕ) (n left first index row : ℕ) (r : Judged) : Type 0 where
+  pub says : (ts : List Token) (G : List Class) → World tab n ts G → (us vs : List Variable) → Along tab ts us vs first index row → length vs ≤ left
+      → r ≡ settled (fields G (onto [] (map textOf us)) vs)
+
+-- one parameter or local: 24, 27, 28
+unfoldable pub newVariable : List Class → (earlier : List (List ℕ)) → Variable → Outcome (Unit {0})
+newVariable G earlier v =
+    knownType G (v .type) >>= λ _.
+    if occurs (textOf v) earlier then (λ _. refused variableRepeated (v .name .start)) else λ _.
+    if ltb (length earlier) variablesMost then (λ _. accepted tt) else λ _. refused tooManyVariables (v .name .start)
+
+-- ps are the others, which come before
+pub record VariableJudged (tab : List ℕ) (n others before first index row : ℕ) (r : Judged) : Type 0 where
+  pub says : (ts : List Token) (G : List Class) → World tab n ts G → (ps : List Variable) → Listed tab ts ps others before
+      → (us : List Variable) (v : Variable) (vs : List Variable) → Along tab ts us (v ∷ vs) first index row
+      → r ≡ settled (newVariable G (onto (map textOf ps) (map textOf us)) v)
+
+pub record VariablesJudged (tab : List ℕ) (n left others before first index row : ℕ) (r : Judged) : Type 0 where
+  pub says : (ts : List Token) (G : List Class) → World tab n ts G → (ps : List Variable) → Listed tab ts ps others before
+      → (us vs : List Variable) → Along tab ts us vs first index row → length vs ≤ left
+      → r ≡ settled (variables G (onto (map textOf ps) (map textOf us)) vs)
+
+-- METHOD HEADS
+
+pub record TypesCompared (tab : List ℕ) (n left a b : ℕ) (r : Bool) : Type 0 where
+  pub says : (ts : List Token) → Lexemes tab n ts → (vs ws : List Variable) → rowVariables vs ≡ a → VariablesStand tab ts vs → rowVariables ws ≡ b
+      → VariablesStand tab ts ws → length vs ≤ left → length ws ≤ left → r ≡ sameTypes vs ws
+
+pub record RedeclaresAt (tab : List ℕ) (n classes lower upper : ℕ) (r : Bool) : Type 0 where
+  pub says : (ts : List Token) (G : List Class) → World tab n ts G → length G ≡ classes → (l u : Method) → l .name .row ≡ lower → MethodStands tab n ts l
+      → u .name .row ≡ upper → MethodStands tab n ts u → r ≡ redeclares G l u
+
+-- a class of the table, and the number of the name of its parent
+pub record Parented (ts : List Token) (G : List Class) (k : Class) (parent : ℕ) : Type 0 where
+  pub own : classNamed G (k .name .text) ≡ some k
+  pub above : Numbers ts (parentName (k .parent)) parent
+
+-- the answer of 26
+abbrev pub redeclared : Bool → Method → Outcome (Unit {0})
+redeclared b m = if b then (λ _. accepted tt) else λ _. refused badRedeclaration (m .name .start)
+
+pub record CompatibleAt (tab : List ℕ) (n classes parent row : ℕ) (r : Bool) : Type 0 where
+  pub says : (ts : List Token) (G : List Class) → World tab n ts G → length G ≡ classes → (k : Class) → Parented ts G k parent
+      → (m : Method) → m .name .row ≡ row → MethodStands tab n ts m → redeclaration G k m ≡ redeclared r m
+
+-- a head before its parameters: 24, 25
+unfoldable pub opened : List Class → (earlier : List (List ℕ)) → Method → Outcome (Unit {0})
+opened G earlier m = knownType G (m .result) >>= λ _. newMethod earlier m
+
+-- the parameters, and last 26
+unfoldable pub closed : List Class → Class → Method → Outcome (Unit {0})
+closed G k m = variables G [] (m .parameters) >>= λ _. redeclaration G k m
+
+pub record OpeningJudged (tab : List ℕ) (n first index row : ℕ) (r : Judged) : Type 0 where
+  pub says : (ts : List Token) (G : List Class) → World tab n ts G → (us : List Method) (m : Method) (ms : List Method) → AlongMethods tab n ts us (m ∷ ms) first index row
+      → r ≡ settled (opened G (onto [] (map methodName us)) m)
+
+pub record RestJudged (tab : List ℕ) (n classes parent row : ℕ) (r : Judged) : Type 0 where
+  pub says : (ts : List Token) (G : List Class) → World tab n ts G → length G ≡ classes → (k : Class) → Parented ts G k parent
+      → (m : Method) → m .name .row ≡ row → MethodStands tab n ts m → r ≡ settled (closed G k m)
+
+pub record HeadJudged (tab : List ℕ) (n classes parent first index row : ℕ) (r : Judged) : Type 0 where
+  pub says : (ts : List Token) (G : List Class) → World tab n ts G → length G ≡ classes → (k : Class) → Parented ts G k parent
+      → (us : List Method) (m : Method) (ms : List Method) → AlongMethods tab n ts us (m ∷ ms) first index row
+      → r ≡ settled (opened G (onto [] (map methodName us)) m >>= λ _. closed G k m)
+
+pub record HeadsJudged (tab : List ℕ) (n classes left parent first index row : ℕ) (r : Judged) : Type 0 where
+  pub says : (ts : List Token) (G : List Class) → World tab n ts G → length G ≡ classes → (k : Class) → Parented ts G k parent
+      → (us ms : List Method) → AlongMethods tab n ts us ms first index row → length ms ≤ left → r ≡ settled (heads G k (onto [] (map methodName us)) ms)
+
+-- CLASSES
+
+-- a parent that is no class of the table
+abbrev pub orphaned : List Class → Option Name → Bool
+orphaned G none = false
+orphaned G (some p) = option (classNamed G (p .text)) true λ _. false
+
+pub record OrphanAt (tab : List ℕ) (class : ℕ) (r : Bool) : Type 0 where
+  pub says : (n : ℕ) (ts : List Token) (G : List Class) → World tab n ts G → (k : Class) → k .name .row ≡ class → ClassStands tab n ts k → r ≡ orphaned G (k .parent)
+
+-- the classes ks stand from a row on
+pub record ClassesAt (tab : List ℕ) (n : ℕ) (ts : List Token) (ks : List Class) (left row : ℕ) : Type 0 where
+  pub here : rowClasses ks ≡ row
+  pub stand : ClassesStand tab n ts ks
+  pub few : length ks ≤ left
+
+pub record ParentsJudged (tab : List ℕ) (left row : ℕ) (r : Judged) : Type 0 where
+  pub says : (n : ℕ) (ts : List Token) (G : List Class) → World tab n ts G → (ks : List Class) → ClassesAt tab n ts ks left row → r ≡ settled (knownParents G ks)
+
+-- 22, at the first class whose chain never ends
+abbrev pub endlessAnswer : List ℕ → Judged
+endlessAnswer [] = Fine 0
+endlessAnswer (p ∷ ps) = Refused 22 p
+
+pub record ChainsJudged (tab : List ℕ) (classes left row : ℕ) (r : Judged) : Type 0 where
+  pub says : (n : ℕ) (ts : List Token) (G : List Class) → World tab n ts G → length G ≡ classes → (ks : List Class) → ClassesAt tab n ts ks left row
+      → r ≡ endlessAnswer (endless G ks)
+
+-- each class is what its name finds
+abbrev pub Own : List Class → List Class → Type 0
+Own G ks = All (λ (k : Class). classNamed G (k .name .text) ≡ some k) ks
+
+pub record MembersJudged (tab : List ℕ) (n classes class : ℕ) (r : Judged) : Type 0 where
+  pub says : (ts : List Token) (G : List Class) → World tab n ts G → length G ≡ classes → (k : Class) → k .name .row ≡ class → ClassStands tab n ts k
+      → classNamed G (k .name .text) ≡ some k → r ≡ settled (fields G [] (k .fields) >>= λ _. heads G k [] (k .methods))
+
+pub record DeclarationsJudged (tab : List ℕ) (n classes left row : ℕ) (r : Judged) : Type 0 where
+  pub says : (ts : List Token) (G : List Class) → World tab n ts G → length G ≡ classes → (ks : List Class) → ClassesAt tab n ts ks left row → Own G ks
+      → r ≡ settled (declarations G ks)

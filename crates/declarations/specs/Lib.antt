@@ -1,0 +1,4 @@
+-- What judging the declarations ensures, and the laws that the proofs cite.
+pub mod Earlier
+pub mod Judgements
+pub mod Indexing

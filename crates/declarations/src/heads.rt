@@ -1,0 +1,150 @@
+// Method heads: the result's type, the name, the parameters, and what the method redeclares.
+use crate::variables::is_known;
+use crate::variables::variables;
+use lookup::answer::Judged;
+use lookup::chain::find_method;
+use lookup::chain::fits;
+use lookup::member::repeated;
+use lookup::rows::ABSENT;
+use lookup::rows::word;
+use lookup::types::type_of;
+ghost use Prim.Native.Nat.{_+_, _≤_};
+ghost use Rattle.reader.specs.WalkPost.{Walkable};
+ghost use Rattle.declarations.specs.Judgements.{TypesCompared, RedeclaresAt, CompatibleAt, OpeningJudged, RestJudged, HeadJudged, HeadsJudged};
+
+// Whether two lists of parameters have equal types.
+fn same_types(table: &[u32], n: usize, left: usize, a: usize, b: usize) -> bool
+    requires { ⌜ Walkable (now table) n ⌝ }
+    ensures { λ r. ⌜ TypesCompared (now (table .entry)) n left a b r ⌝ }
+{
+    if left == 0 {
+        return true;
+    }
+    if ABSENT <= a {
+        return ABSENT <= b;
+    }
+    if ABSENT <= b {
+        return false;
+    }
+    if type_of(table, n, word(table, 3, a)) == type_of(table, n, word(table, 3, b)) {
+        return same_types(table, n, left - 1, word(table, 6, a), word(table, 6, b));
+    }
+    false
+}
+
+// Whether a method may redeclare one from above: equal parameter types, and a result that fits.
+fn redeclares(table: &[u32], n: usize, classes: usize, lower: usize, upper: usize) -> bool
+    requires { ⌜ Walkable (now table) n ⌝ }
+    ensures { λ r. ⌜ RedeclaresAt (now (table .entry)) n classes lower upper r ⌝ }
+{
+    if same_types(table, n, n, word(table, 4, lower), word(table, 4, upper)) {
+        let s = type_of(table, n, word(table, 3, lower));
+        let t = type_of(table, n, word(table, 3, upper));
+        return fits(table, n, classes, s, t);
+    }
+    false
+}
+
+// 26, against the nearest method of that name upwards from the class above.
+fn is_compatible(table: &[u32], n: usize, classes: usize, parent: usize, row: usize) -> bool
+    requires { ⌜ Walkable (now table) n ⌝ }
+    ensures { λ r. ⌜ CompatibleAt (now (table .entry)) n classes parent row r ⌝ }
+{
+    if classes == 0 {
+        return true;
+    }
+    let upper = find_method(table, n, classes - 1, parent, word(table, 2, row));
+    if ABSENT <= upper {
+        return true;
+    }
+    redeclares(table, n, classes, row, upper)
+}
+
+// What a head declares before the parameters: 24, 25.
+fn opening(table: &[u32], n: usize, first: usize, index: usize, row: usize) -> Judged
+    requires { ⌜ Walkable (now table) n ⌝ }
+    ensures { λ r. ⌜ OpeningJudged (now (table .entry)) n first index row r ⌝ }
+{
+    let t = word(table, 3, row);
+    if is_known(table, n, t) {
+        if repeated(table, index, first, word(table, 2, row)) {
+            return Judged::Refused(25, word(table, 1, row));
+        }
+        return Judged::Fine(0);
+    }
+    Judged::Refused(24, word(table, 1, t))
+}
+
+// The parameters, and last 26.
+fn rest(table: &[u32], n: usize, classes: usize, parent: usize, row: usize) -> Judged
+    requires { ⌜ Walkable (now table) n ⌝ }
+    ensures { λ r. ⌜ RestJudged (now (table .entry)) n classes parent row r ⌝ }
+{
+    let first = word(table, 4, row);
+    let v = variables(table, n, n, ABSENT, 0, first, 0, first);
+    match v {
+        Judged::Fine(_) => {
+            if is_compatible(table, n, classes, parent, row) {
+                return Judged::Fine(0);
+            }
+            Judged::Refused(26, word(table, 1, row))
+        }
+        Judged::Refused(number, at) => Judged::Refused(number, at),
+    }
+}
+
+// One head.
+fn head(
+    table: &[u32],
+    n: usize,
+    classes: usize,
+    parent: usize,
+    first: usize,
+    index: usize,
+    row: usize,
+) -> Judged
+    requires { ⌜ Walkable (now table) n ⌝ }
+    ensures { λ r. ⌜ HeadJudged (now (table .entry)) n classes parent first index row r ⌝ }
+{
+    let o = opening(table, n, first, index, row);
+    match o {
+        Judged::Fine(_) => rest(table, n, classes, parent, row),
+        Judged::Refused(number, at) => Judged::Refused(number, at),
+    }
+}
+
+// The heads of a class from a row on; `parent` is the number of the name of the class above.
+pub fn heads(
+    table: &[u32],
+    n: usize,
+    classes: usize,
+    left: usize,
+    parent: usize,
+    first: usize,
+    index: usize,
+    row: usize,
+) -> Judged
+    requires { ⌜ Walkable (now table) n × (index + left ≤ 4096) ⌝ }
+    ensures { λ r. ⌜ HeadsJudged (now (table .entry)) n classes left parent first index row r ⌝ }
+{
+    if left == 0 {
+        return Judged::Fine(0);
+    }
+    if ABSENT <= row {
+        return Judged::Fine(0);
+    }
+    let h = head(table, n, classes, parent, first, index, row);
+    match h {
+        Judged::Fine(_) => heads(
+            table,
+            n,
+            classes,
+            left - 1,
+            parent,
+            first,
+            index + 1,
+            word(table, 6, row),
+        ),
+        Judged::Refused(number, at) => Judged::Refused(number, at),
+    }
+}

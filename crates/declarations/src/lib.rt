@@ -1,0 +1,5 @@
+// Refusals 20 to 28, of declarations, over the tree in the work table.
+pub mod classes;
+pub mod heads;
+pub mod index;
+pub mod variables;

@@ -1,0 +1,115 @@
+// Fields, parameters and locals: each has a known type and a new name. `first` is where the list begins and `index` how many members stand before `row`.
+use lookup::answer::Judged;
+use lookup::member::repeated;
+use lookup::rows::ABSENT;
+use lookup::rows::word;
+use lookup::types::known;
+use lookup::types::type_of;
+ghost use Prim.Native.Nat.{_+_, _≤_, _<_};
+ghost use Rattle.reader.specs.WalkPost.{Walkable};
+ghost use Rattle.declarations.specs.Judgements.{KnownAt, FieldsJudged, VariableJudged, VariablesJudged};
+
+// The most parameters and locals of a method.
+const VARIABLES_MOST: usize = 32;
+
+// Whether the type that begins in a row is known.
+pub fn is_known(table: &[u32], n: usize, row: usize) -> bool
+    requires { ⌜ Walkable (now table) n × (row < 4294967296) ⌝ }
+    ensures { λ r. ⌜ KnownAt (now (table .entry)) n row r ⌝ }
+{
+    known(table, n, type_of(table, n, row))
+}
+
+// The fields of a class: 24, 23.
+pub fn fields(
+    table: &[u32],
+    n: usize,
+    left: usize,
+    first: usize,
+    index: usize,
+    row: usize,
+) -> Judged
+    requires { ⌜ Walkable (now table) n × (index + left ≤ 4096) ⌝ }
+    ensures { λ r. ⌜ FieldsJudged (now (table .entry)) n left first index row r ⌝ }
+{
+    if left == 0 {
+        return Judged::Fine(0);
+    }
+    if ABSENT <= row {
+        return Judged::Fine(0);
+    }
+    let t = word(table, 3, row);
+    if is_known(table, n, t) {
+        if repeated(table, index, first, word(table, 2, row)) {
+            return Judged::Refused(23, word(table, 1, row));
+        }
+        return fields(table, n, left - 1, first, index + 1, word(table, 6, row));
+    }
+    Judged::Refused(24, word(table, 1, t))
+}
+
+// One parameter or local, after `before` others that begin at `others` and `index` that begin at `first`: 24, 27, 28.
+fn variable(
+    table: &[u32],
+    n: usize,
+    others: usize,
+    before: usize,
+    first: usize,
+    index: usize,
+    row: usize,
+) -> Judged
+    requires { ⌜ Walkable (now table) n × (before ≤ 2048) × (index ≤ 4096) ⌝ }
+    ensures { λ r. ⌜ VariableJudged (now (table .entry)) n others before first index row r ⌝ }
+{
+    let t = word(table, 3, row);
+    if is_known(table, n, t) {
+        let x = word(table, 2, row);
+        if repeated(table, before, others, x) {
+            return Judged::Refused(27, word(table, 1, row));
+        }
+        if repeated(table, index, first, x) {
+            return Judged::Refused(27, word(table, 1, row));
+        }
+        if before + index < VARIABLES_MOST {
+            return Judged::Fine(0);
+        }
+        return Judged::Refused(28, word(table, 1, row));
+    }
+    Judged::Refused(24, word(table, 1, t))
+}
+
+// Parameters, or locals after the parameters.
+pub fn variables(
+    table: &[u32],
+    n: usize,
+    left: usize,
+    others: usize,
+    before: usize,
+    first: usize,
+    index: usize,
+    row: usize,
+) -> Judged
+    requires { ⌜ Walkable (now table) n × (before ≤ 2048) × (index + left ≤ 4096) ⌝ }
+    ensures { λ r. ⌜ VariablesJudged (now (table .entry)) n left others before first index row r ⌝ }
+{
+    if left == 0 {
+        return Judged::Fine(0);
+    }
+    if ABSENT <= row {
+        return Judged::Fine(0);
+    }
+    let v = variable(table, n, others, before, first, index, row);
+    match v {
+        Judged::Fine(_) => variables(
+            table,
+            n,
+            left - 1,
+            others,
+            before,
+            first,
+            index + 1,
+            word(table, 6, row),
+        ),
+        Judged::Refused(number, at) => Judged::Refused(number, at),
+    }
+}
