@@ -1,0 +1,246 @@
+-- What the functions on the bodies of methods return meets their contracts: a method's row leads to its parameters, locals, statements and return expression.
+use Prim.Native.Nat.{ℕ, suc, _+_, _-_, _≤_, _<_}
+use native.Mathlib.Omega.{arith}
+use mathlib.Core.Path.{_≡_, refl, sym, ap, _∙_, subst}
+use mathlib.Core.List.{List, [], _∷_, _++_, map}
+use mathlib.Core.Option.{none, some}
+use lib.ListN.{length}
+use Rattle.base.specs.Outcome.{Outcome, accepted, refused, _>>=_}
+use Rattle.base.specs.Table.{col}
+use Rattle.lexer.specs.Tokens.{Token}
+use Rattle.parser.specs.Tree.{Variable, Method, Class, Program}
+use Rattle.parser.specs.Layout.{rowOf, rowVariables, rowMethods, rowClasses}
+use Rattle.checker.specs.ClassTable.{Context, mainContext, contextOf}
+use Rattle.checker.specs.Judge.{judge, must}
+use Rattle.checker.specs.Declarations.{textOf, variables}
+use Rattle.checker.specs.Check.{body, bodies, classBodies, allBodies}
+use Rattle.lookup.specs.declared.answer.Judged.{Judged}
+use Rattle.lookup.specs.declared.answer.Judged.the-variants.{Fine, Refused}
+use Rattle.lookup.specs.Standing.{absent, wordAt, Lexemes, Spells, no-name, a-name, VariablesStand, no-variables, more-variables, MethodStands, MethodsStand, no-methods, more-methods, ClassStands, ClassesStand, no-classes, more-classes, World}
+use Rattle.lookup.specs.StandingLaws.{word-in, row-there, name-word}
+use Rattle.lookup.specs.Lookups.{TypeOf, Many, many-none, many-more, Counts}
+use Rattle.lookup.specs.Answers.{settled, goes-on, stops}
+use Rattle.declarations.specs.Earlier.{onto, Listed, Along}
+use Rattle.declarations.specs.Judgements.{VariablesJudged, ClassesAt}
+use Rattle.declarations.specs.Indexing.{Ready}
+use Rattle.bodies.specs.declared.scope.Scope.{Scope}
+use Rattle.bodies.specs.Scoping.{ListedAt, InScope, PartAt}
+use Rattle.bodies.specs.ExpressionPost.{OperandPost}
+use Rattle.bodies.specs.StatementPost.{SentencePost, ListPost}
+use Rattle.typecheck.specs.MethodPost.{CarriedJudged, BodyJudged, MethodsJudged, ClassesJudged, BodiesJudged}
+
+-- STATEMENTS AND RETURN EXPRESSION
+
+module _ {tab : List ℕ} {s : Scope} {row first : ℕ} (e₄ : first ≡ wordAt tab 4 (row + 1)) {v : Judged} (f : ListPost tab s (s .tokens) first v) where
+  statements : (ts : List Token) (G : List Class) (Γ : Context) → InScope tab ts G Γ s → (m : Method) → m .name .row ≡ row → MethodStands tab (s .tokens) ts m → v ≡ settled (judge G Γ (m .body))
+  statements ts G Γ sc m at st =
+      f .says ts G Γ sc (m .body)
+      (record {
+        at = sym (word-in tab 4 (m .name .row + 1) (row-there (sc .world .tokens) (m .name .row + 1) (st .after .there)) (st .start)) ∙ ap (λ (i : ℕ). wordAt tab 4 (i + 1)) at ∙ sym e₄;
+        holds = st .body;
+        matches = st .body-matches;
+        few = st .body-nodes;
+      })
+
+  pub carried-refused : {n p : ℕ} → v ≡ Refused n p → CarriedJudged tab s row (Refused n p)
+  carried-refused is =
+      record {
+        says = λ ts G Γ sc m at st.
+            rw (stops (judge G Γ (m .body)) (λ _. judge G Γ (m .value) >>= λ t. must G (m .value) (m .result .type) t) (statements ts G Γ sc m at st) is);
+      }
+
+  pub carried-value : {w : ℕ} → v ≡ Fine w → {t want second : ℕ} → t ≡ wordAt tab 3 row → TypeOf tab (s .tokens) t want → second ≡ wordAt tab 5 (row + 1) → {r : Judged}
+      → OperandPost tab s (s .tokens) second want r → CarriedJudged tab s row r
+  carried-value is {t} {want} {second} e₃ type e₅ g =
+      record {
+        says = λ ts G Γ sc m at st.
+            let d : m .result .row ≡ t
+            = sym (word-in tab 3 (m .name .row) (row-there (sc .world .tokens) (m .name .row) (st .head .name .token .there)) (st .result)) ∙ ap (wordAt tab 3) at ∙ sym e₃ in
+            rw (goes-on (judge G Γ (m .body)) (λ _. judge G Γ (m .value) >>= λ t. must G (m .value) (m .result .type) t) (statements ts G Γ sc m at st) is)
+            (g .says ts G Γ sc (m .value)
+            (record {
+              at = sym (word-in tab 5 (m .name .row + 1) (row-there (sc .world .tokens) (m .name .row + 1) (st .after .there)) (st .return)) ∙ ap (λ (i : ℕ). wordAt tab 5 (i + 1)) at ∙ sym e₅;
+              holds = st .value;
+              matches = st .value-matches;
+              few = st .value-nodes;
+            })
+            (m .result .type) (type .says ts (sc .world .tokens) (m .result) d (st .head .type)));
+      }
+
+-- BODIES
+
+many-variables : {tab : List ℕ} {n : ℕ} {ts : List Token} {vs : List Variable} → Lexemes tab n ts → VariablesStand tab ts vs → Many tab (rowVariables vs) (length vs)
+many-variables lx no-variables = many-none {row = absent} (omega arith)
+many-variables lx (more-variables {v = v} m c₃ c₆ st) = many-more (row-there lx (v .name .row) (m .name .token .there)) c₆ (many-variables lx st)
+
+-- where a method's parameters and locals begin
+given-at : {tab : List ℕ} {n : ℕ} (row parameters : ℕ) → parameters ≡ wordAt tab 4 row → (ts : List Token) → Lexemes tab n ts → (m : Method) → m .name .row ≡ row → MethodStands tab n ts m
+    → rowVariables (m .parameters) ≡ parameters
+given-at {tab} row parameters e₄ ts lx m at st =
+    sym (word-in tab 4 (m .name .row) (row-there lx (m .name .row) (st .head .name .token .there)) (st .first)) ∙ ap (wordAt tab 4) at ∙ sym e₄
+
+own-at : {tab : List ℕ} {n : ℕ} (row locals : ℕ) → locals ≡ wordAt tab 5 row → (ts : List Token) → Lexemes tab n ts → (m : Method) → m .name .row ≡ row → MethodStands tab n ts m
+    → rowVariables (m .locals) ≡ locals
+own-at {tab} row locals e₅ ts lx m at st =
+    sym (word-in tab 5 (m .name .row) (row-there lx (m .name .row) (st .head .name .token .there)) (st .second)) ∙ ap (wordAt tab 5) at ∙ sym e₅
+
+declared : {tab : List ℕ} {n : ℕ} (row parameters locals before : ℕ) → parameters ≡ wordAt tab 4 row → locals ≡ wordAt tab 5 row → Counts tab n parameters before → {v : Judged}
+    → VariablesJudged tab n n parameters before locals 0 locals v → (ts : List Token) (G : List Class) → World tab n ts G → (m : Method) → m .name .row ≡ row → MethodStands tab n ts m
+    → v ≡ settled (variables G (map textOf (m .parameters)) (m .locals))
+declared {tab} row parameters locals before e₄ e₅ many f ts G w m at st =
+    let count : length (m .parameters) ≡ before
+    = sym (many .says (length (m .parameters))
+    (subst (λ (i : ℕ). Many tab i (length (m .parameters))) (given-at row parameters e₄ ts (w .tokens) m at st) (many-variables (w .tokens) (st .parameters))) (st .few-parameters)) in
+    f .says ts G w (m .parameters) (record { stand = st .parameters; begins = given-at row parameters e₄ ts (w .tokens) m at st; many = count }) [] (m .locals)
+    (record { stand = st .locals; begins = own-at row locals e₅ ts (w .tokens) m at st; before = refl; here = own-at row locals e₅ ts (w .tokens) m at st }) (st .few-locals)
+
+module _ {tab : List ℕ} {n classes owner row parameters locals before : ℕ} (e₄ : parameters ≡ wordAt tab 4 row) (e₅ : locals ≡ wordAt tab 5 row) (many : Counts tab n parameters before)
+    {v : Judged} (f : VariablesJudged tab n n parameters before locals 0 locals v) where
+  pub body-refused : {k p : ℕ} → v ≡ Refused k p → BodyJudged tab n classes owner row (Refused k p)
+  body-refused is =
+      record { says = λ ts G w l c sp m at st. rw (stops (variables G (map textOf (m .parameters)) (m .locals)) _ (declared row parameters locals before e₄ e₅ many f ts G w m at st) is) }
+
+  pub body-carried : {u : ℕ} → v ≡ Fine u → {r : Judged}
+      → CarriedJudged tab (record { tokens = n; classes = classes; owner = owner; parameters = parameters; locals = locals }) row r → BodyJudged tab n classes owner row r
+  body-carried is g =
+      record {
+        says = λ ts G w l c sp m at st.
+            rw (goes-on (variables G (map textOf (m .parameters)) (m .locals)) _ (declared row parameters locals before e₄ e₅ many f ts G w m at st) is)
+            (g .says ts G (contextOf c m)
+            (record {
+              world = w;
+              many = l;
+              declarer = a-name sp;
+              given = m .parameters;
+              own = m .locals;
+              seen = refl;
+              given-listed = record { at = given-at row parameters e₄ ts (w .tokens) m at st; stand = st .parameters; few = st .few-parameters };
+              own-listed = record { at = own-at row locals e₅ ts (w .tokens) m at st; stand = st .locals; few = st .few-locals };
+            })
+            m at st);
+      }
+
+-- METHODS
+
+module _ {tab : List ℕ} {n classes left owner row : ℕ} where
+  pub methods-none : left ≡ 0 → MethodsJudged tab n classes left owner row (Fine 0)
+  unfolding bodies
+  methods-none z = record { says = λ ts G w l c sp ms at st few. go G c ms few }
+    where
+      go : (G : List Class) (c : List ℕ) (ms : List Method) → length ms ≤ left → Fine 0 ≡ settled (bodies G c ms)
+      go G c [] few = refl
+      go G c (m ∷ ms) few = absurd (omega arith)
+
+  pub methods-end : absent ≤ row → MethodsJudged tab n classes left owner row (Fine 0)
+  unfolding bodies
+  methods-end far = record { says = λ ts G w l c sp ms at st few. go ts G w c ms at st }
+    where
+      go : (ts : List Token) (G : List Class) → World tab n ts G → (c : List ℕ) (ms : List Method) → rowMethods ms ≡ row → MethodsStand tab n ts ms → Fine 0 ≡ settled (bodies G c ms)
+      go ts G w c [] at st = refl
+      go ts G w c (m ∷ ms) at (more-methods s c₆ st) = absurd (omega (arith, at, row-there (w .tokens) (m .name .row) (s .head .name .token .there)))
+
+  module _ (near : row < absent) {v : Judged} (f : BodyJudged tab n classes owner row v) where
+    pub methods-refused : {k p : ℕ} → v ≡ Refused k p → MethodsJudged tab n classes left owner row (Refused k p)
+    unfolding bodies
+    methods-refused {k} {p} is = record { says = λ ts G w l c sp ms at st few. go ts G w l c sp ms at st }
+      where
+        go : (ts : List Token) (G : List Class) → World tab n ts G → length G ≡ classes → (c : List ℕ) → Spells ts c owner → (ms : List Method) → rowMethods ms ≡ row → MethodsStand tab n ts ms
+            → Refused k p ≡ settled (bodies G c ms)
+        go ts G w l c sp [] at st = absurd (omega (arith, at))
+        go ts G w l c sp (m ∷ ms) at (more-methods s c₆ st) = rw (stops (body G c m) (λ _. bodies G c ms) (f .says ts G w l c sp m at s) is)
+
+    pub methods-next : {u : ℕ} → v ≡ Fine u → {next : ℕ} → next ≡ wordAt tab 6 row → {r : Judged} → MethodsJudged tab n classes (left - 1) owner next r → MethodsJudged tab n classes left owner row r
+    unfolding bodies
+    methods-next is {next} e₆ {r} g = record { says = λ ts G w l c sp ms at st few. go ts G w l c sp ms at st few }
+      where
+        go : (ts : List Token) (G : List Class) → World tab n ts G → length G ≡ classes → (c : List ℕ) → Spells ts c owner → (ms : List Method) → rowMethods ms ≡ row → MethodsStand tab n ts ms
+            → length ms ≤ left → r ≡ settled (bodies G c ms)
+        go ts G w l c sp [] at st few = absurd (omega (arith, at))
+        go ts G w l c sp (m ∷ ms) at (more-methods s c₆ st) few =
+            rw (goes-on (body G c m) (λ _. bodies G c ms) (f .says ts G w l c sp m at s) is)
+            (g .says ts G w l c sp ms (sym (word-in tab 6 (m .name .row) (omega (arith, at, near)) c₆) ∙ ap (wordAt tab 6) at ∙ sym e₆) st (omega arith))
+
+-- CLASSES
+
+class-settled : {tab : List ℕ} {n classes : ℕ} (row owner first : ℕ) → row < absent → owner ≡ wordAt tab 2 row → first ≡ wordAt tab 5 row → {v : Judged} → MethodsJudged tab n classes n owner first v
+    → (ts : List Token) (G : List Class) → World tab n ts G → length G ≡ classes → (k : Class) → k .name .row ≡ row → ClassStands tab n ts k → v ≡ settled (bodies G (k .name .text) (k .methods))
+class-settled {tab} row owner first near e₂ e₅ f ts G w l k at s =
+    f .says ts G w l (k .name .text)
+    (subst (Spells ts (k .name .text)) (ap (wordAt tab 2) at ∙ sym e₂) (name-word (w .tokens) (k .name .row) (s .named .token)))
+    (k .methods) (sym (word-in tab 5 (k .name .row) (omega (arith, at, near)) (s .second)) ∙ ap (wordAt tab 5) at ∙ sym e₅) (s .methods) (s .few-methods)
+
+module _ {tab : List ℕ} {n classes left row : ℕ} where
+  pub classes-none : left ≡ 0 → ClassesJudged tab n classes left row (Fine 0)
+  unfolding classBodies
+  classes-none z = record { says = λ ts G w l ks h. go G ks (h .few) }
+    where
+      go : (G ks : List Class) → length ks ≤ left → Fine 0 ≡ settled (classBodies G ks)
+      go G [] few = refl
+      go G (k ∷ ks) few = absurd (omega arith)
+
+  pub classes-end : absent ≤ row → ClassesJudged tab n classes left row (Fine 0)
+  unfolding classBodies
+  classes-end far = record { says = λ ts G w l ks h. go ts G w ks (h .here) (h .stand) }
+    where
+      go : (ts : List Token) (G : List Class) → World tab n ts G → (ks : List Class) → rowClasses ks ≡ row → ClassesStand tab n ts ks → Fine 0 ≡ settled (classBodies G ks)
+      go ts G w [] at st = refl
+      go ts G w (k ∷ ks) at (more-classes s c₆ st) = absurd (omega (arith, at, row-there (w .tokens) (k .name .row) (s .named .token .there)))
+
+  module _ (near : row < absent) {owner first : ℕ} (e₂ : owner ≡ wordAt tab 2 row) (e₅ : first ≡ wordAt tab 5 row) {v : Judged} (f : MethodsJudged tab n classes n owner first v) where
+    pub classes-refused : {k p : ℕ} → v ≡ Refused k p → ClassesJudged tab n classes left row (Refused k p)
+    unfolding classBodies
+    classes-refused {k} {p} is = record { says = λ ts G w l ks h. go ts G w l ks (h .here) (h .stand) }
+      where
+        go : (ts : List Token) (G : List Class) → World tab n ts G → length G ≡ classes → (ks : List Class) → rowClasses ks ≡ row → ClassesStand tab n ts ks → Refused k p ≡ settled (classBodies G ks)
+        go ts G w l [] at st = absurd (omega (arith, at))
+        go ts G w l (c ∷ ks) at (more-classes s c₆ st) = rw (stops (bodies G (c .name .text) (c .methods)) (λ _. classBodies G ks) (class-settled row owner first near e₂ e₅ f ts G w l c at s) is)
+
+    pub classes-next : {u : ℕ} → v ≡ Fine u → {next : ℕ} → next ≡ wordAt tab 6 row → {r : Judged} → ClassesJudged tab n classes (left - 1) next r → ClassesJudged tab n classes left row r
+    unfolding classBodies
+    classes-next is {next} e₆ {r} g = record { says = λ ts G w l ks h. go ts G w l ks (h .here) (h .stand) (h .few) }
+      where
+        go : (ts : List Token) (G : List Class) → World tab n ts G → length G ≡ classes → (ks : List Class) → rowClasses ks ≡ row → ClassesStand tab n ts ks → length ks ≤ left → r ≡ settled (classBodies G ks)
+        go ts G w l [] at st few = absurd (omega (arith, at))
+        go ts G w l (c ∷ ks) at (more-classes s c₆ st) few =
+            rw (goes-on (bodies G (c .name .text) (c .methods)) (λ _. classBodies G ks) (class-settled row owner first near e₂ e₅ f ts G w l c at s) is)
+            (g .says ts G w l ks (record { here = sym (word-in tab 6 (c .name .row) (omega (arith, at, near)) c₆) ∙ ap (wordAt tab 6) at ∙ sym e₆; stand = st; few = omega arith }))
+
+-- ALL BODIES
+
+-- what main sees
+abbrev pub mainScope : (n classes : ℕ) → Scope
+mainScope n classes = record { tokens = n; classes = classes; owner = absent; parameters = absent; locals = absent }
+
+none-listed : (tab : List ℕ) (n : ℕ) (ts : List Token) → ListedAt tab n ts absent []
+none-listed tab n ts = record { at = refl; stand = no-variables; few = omega arith }
+
+module _ {tab : List ℕ} {n classes : ℕ} {v : Judged} (f : SentencePost tab (mainScope n classes) n 14 v) where
+  main-settled : (ts : List Token) (p : Program) → Ready tab n ts p → length (p .classes) ≡ classes → v ≡ settled (judge (p .classes) mainContext (p .statement))
+  main-settled ts p h l =
+      f .says ts (p .classes) mainContext
+      (record {
+        world = h .world;
+        many = l;
+        declarer = no-name (omega arith);
+        given = [];
+        own = [];
+        seen = refl;
+        given-listed = none-listed tab n ts;
+        own-listed = none-listed tab n ts;
+      })
+      (p .statement) (record { at = h .row; holds = h .statement; matches = h .matches; few = h .nodes })
+
+  pub bodies-main : {k p : ℕ} → v ≡ Refused k p → BodiesJudged tab n classes (Refused k p)
+  unfolding allBodies
+  bodies-main is =
+      record { says = λ ts p h l. rw (stops (judge (p .classes) mainContext (p .statement)) (λ _. classBodies (p .classes) (p .classes)) (main-settled ts p h l) is) }
+
+  pub bodies-classes : {u : ℕ} → v ≡ Fine u → {first : ℕ} → first ≡ wordAt tab 6 0 → {r : Judged} → ClassesJudged tab n classes n first r → BodiesJudged tab n classes r
+  unfolding allBodies
+  bodies-classes is e₆ g =
+      record {
+        says = λ ts p h l.
+            rw (goes-on (judge (p .classes) mainContext (p .statement)) (λ _. classBodies (p .classes) (p .classes)) (main-settled ts p h l) is)
+            (g .says ts (p .classes) (h .world) l (p .classes)
+            (record { here = sym (e₆ ∙ word-in tab 6 0 (omega arith) (h .first)); stand = h .world .classes; few = h .world .few }));
+      }

@@ -1,0 +1,240 @@
+-- What the stages of Check return meets their contracts: each stage answers as the definition does, and the first refusal is the answer.
+use Prim.Native.Nat.{ℕ, suc, _≤_, _<_}
+use native.Mathlib.Omega.{arith}
+use mathlib.Core.Path.{_≡_, refl, sym, ap, _∙_, subst}
+use mathlib.Core.List.{List, [], _∷_, List·Memᴰ, List·Memᴰ·head}
+use mathlib.Core.Option.{none, some}
+use lib.ListN.{length, replicate}
+use lib.Dec.{ltb}
+use borrow.Author.Tests.{lt-ltb, le-ltb}
+use Rattle.base.specs.Choice.{if_then_else_}
+use Rattle.base.specs.Codes.{tableLeast, chainEndless}
+use Rattle.base.specs.Outcome.{Outcome, accepted, refused, _>>=_}
+use Rattle.base.specs.Table.{col}
+use Rattle.lexer.specs.Tokens.{Token}
+use Rattle.parser.specs.Tree.{Class, Program}
+use Rattle.parser.specs.Grammar.{DerivesProgram}
+use Rattle.parser.specs.Layout.{rowClasses}
+use Rattle.parser.specs.Measure.{programNodes}
+use Rattle.parser.specs.Read.{Reading, reading, tableAfter}
+use Rattle.reader.specs.declared.read.Filled.{Filled}
+use Rattle.reader.specs.declared.read.Filled.the-variants.{Tree, Refused as notRead}
+use Rattle.reader.specs.ReadPost.{Filling, Fills}
+use Rattle.checker.specs.Declarations.{distinctClasses, knownParents, endless, declarations}
+use Rattle.checker.specs.Check.{Verdict, accept, refuse, refuseEndless, Refuses, allBodies, unlessRefused, unlessEndless, judged, checking, CheckMeets, CheckAnswers, Checks}
+use Rattle.lookup.specs.declared.answer.Judged.{Judged}
+use Rattle.lookup.specs.declared.answer.Judged.the-variants.{Fine, Refused}
+use Rattle.lookup.specs.Standing.{absent, wordAt, Lexemes, ClassesStand, no-classes, more-classes, World}
+use Rattle.lookup.specs.StandingLaws.{word-in, row-there}
+use Rattle.lookup.specs.Lookups.{Many, many-none, many-more, Counts}
+use Rattle.lookup.specs.Answers.{settled, settled-fine, settled-refused, goes-on, stops}
+use Rattle.declarations.specs.Judgements.{ClassesAt, ParentsJudged, endlessAnswer, ChainsJudged, DeclarationsJudged}
+use Rattle.declarations.specs.Indexing.{Ready, IndexMade}
+use Rattle.typecheck.specs.declared.check.Found.{Found}
+use Rattle.typecheck.specs.declared.check.Found.the-variants.{Program as found, Refused as unfit}
+use Rattle.typecheck.specs.declared.check.CheckAnswer.{CheckAnswer}
+use Rattle.typecheck.specs.MethodPost.{BodiesJudged}
+use Rattle.typecheck.specs.CheckPost.{Holding, Leaves, ContentsJudged, Tells, chainsOn, ChainedJudged, IndexedJudged, TreeJudged, answerOf}
+
+apart : {A : Type 0} → _≡_ {A = ℕ} 0 1 → A
+apart z = absurd (omega arith)
+
+-- the classes of a ready table, from the first on
+classes-at : {tab : List ℕ} {n : ℕ} {ts : List Token} {p : Program} → Ready tab n ts p → {first : ℕ} → rowClasses (p .classes) ≡ first → ClassesAt tab n ts (p .classes) n first
+classes-at h e = record { here = e; stand = h .world .classes; few = h .world .few }
+
+-- CONTENTS
+
+module _ {tab : List ℕ} {n classes first : ℕ} {v : Judged} (f : DeclarationsJudged tab n classes n first v) where
+  declared : (ts : List Token) (p : Program) → Ready tab n ts p → length (p .classes) ≡ classes → rowClasses (p .classes) ≡ first → v ≡ settled (declarations (p .classes) (p .classes))
+  declared ts p h l e = f .says ts (p .classes) (h .world) l (p .classes) (classes-at h e) (h .own)
+
+  pub contents-refused : {k q : ℕ} → v ≡ Refused k q → ContentsJudged tab n classes first (Refused k q)
+  contents-refused is =
+      record { says = λ ts p h l e. rw (stops (declarations (p .classes) (p .classes)) (λ _. allBodies p) (declared ts p h l e) is) }
+
+  pub contents-bodies : {u : ℕ} → v ≡ Fine u → {r : Judged} → BodiesJudged tab n classes r → ContentsJudged tab n classes first r
+  contents-bodies is g =
+      record { says = λ ts p h l e. rw (goes-on (declarations (p .classes) (p .classes)) (λ _. allBodies p) (declared ts p h l e) is) (g .says ts p h l) }
+
+-- CHAINS
+
+-- two stages as a verdict
+told : (p : Program) (a b : Outcome (Unit {0})) {r : Judged} → r ≡ settled (a >>= λ _. b) → Tells (unlessRefused a λ _. unlessRefused b λ _. accept p) r
+told p (accepted x) (accepted y) e = e
+told p (accepted x) (refused n q) e = e
+told p (refused n q) b e = e
+
+endless-none : (ps : List ℕ) {v : Judged} {u : ℕ} → v ≡ endlessAnswer ps → v ≡ Fine u → ps ≡ []
+endless-none [] e is = refl
+endless-none (p ∷ ps) e is = apart (cc)
+
+endless-some : (ps : List ℕ) (w : Verdict) {v : Judged} {n q : ℕ} → v ≡ endlessAnswer ps → v ≡ Refused n q → Tells (unlessEndless ps w) (Refused n q)
+endless-some [] w e is = apart (cc)
+endless-some (p ∷ ps) w e is = (p, cc, List·Memᴰ·head refl)
+
+module _ {tab : List ℕ} {n classes first : ℕ} {v : Judged} (f : ChainsJudged tab classes n first v) where
+  chains-told : (ts : List Token) (p : Program) → Ready tab n ts p → length (p .classes) ≡ classes → rowClasses (p .classes) ≡ first → v ≡ endlessAnswer (endless (p .classes) (p .classes))
+  chains-told ts p h l e = f .says n ts (p .classes) (h .world) l (p .classes) (classes-at h e)
+
+  pub chained-refused : {k q : ℕ} → v ≡ Refused k q → ChainedJudged tab n classes first (Refused k q)
+  chained-refused is = record { says = λ ts p h l e. endless-some (endless (p .classes) (p .classes)) _ (chains-told ts p h l e) is }
+
+  pub chained-contents : {u : ℕ} → v ≡ Fine u → {r : Judged} → ContentsJudged tab n classes first r → ChainedJudged tab n classes first r
+  chained-contents is g =
+      record {
+        says = λ ts p h l e.
+            rw (endless-none (endless (p .classes) (p .classes)) (chains-told ts p h l e) is)
+            (told p (declarations (p .classes) (p .classes)) (allBodies p) (g .says ts p h l e));
+      }
+
+-- PARENTS
+
+many-classes : {tab : List ℕ} {n : ℕ} {ts : List Token} {ks : List Class} → Lexemes tab n ts → ClassesStand tab n ts ks → Many tab (rowClasses ks) (length ks)
+many-classes lx no-classes = many-none {row = absent} (omega arith)
+many-classes lx (more-classes {k = k} s c₆ h) = many-more (row-there lx (k .name .row) (s .named .token .there)) c₆ (many-classes lx h)
+
+first-row : (tab : List ℕ) {n : ℕ} {ts : List Token} {p : Program} → Ready tab n ts p → {first : ℕ} → first ≡ wordAt tab 6 0 → rowClasses (p .classes) ≡ first
+first-row tab h e = sym (e ∙ word-in tab 6 0 (omega arith) (h .first))
+
+-- a verdict of the later stages is that of all
+unless : (o : Outcome (Unit {0})) (w : Verdict) {v : Judged} {u : ℕ} → v ≡ settled o → v ≡ Fine u → unlessRefused o (λ _. w) ≡ w
+unless o w e is = rw (settled-fine o e is)
+
+leaves-unfit : (w : Verdict) (tab : List ℕ) {c : Judged} {n q : ℕ} → Tells w c → c ≡ Refused n q → Leaves w (unfit n q) tab
+leaves-unfit (accept p) tab e is = apart (cc)
+leaves-unfit (refuse n q) tab e is = cc
+leaves-unfit (refuseEndless ps) tab (q, e, m) is = (q, cc, m)
+
+-- the later stages accept nothing but the program
+only : (p : Program) (ps : List ℕ) (a b : Outcome (Unit {0})) {c : Judged} {u : ℕ} → Tells (unlessEndless ps (unlessRefused a λ _. unlessRefused b λ _. accept p)) c → c ≡ Fine u
+    → unlessEndless ps (unlessRefused a λ _. unlessRefused b λ _. accept p) ≡ accept p
+only p [] (accepted x) (accepted y) e is = refl
+only p [] (accepted x) (refused n q) e is = apart (cc)
+only p [] (refused n q) b e is = apart (cc)
+only p (q ∷ ps) a b (k, e, m) is = apart (cc)
+
+module _ {tab : List ℕ} {n first : ℕ} (e₆ : first ≡ wordAt tab 6 0) {v : Judged} (f : ParentsJudged tab n first v) where
+  parents-told : (ts : List Token) (p : Program) → Ready tab n ts p → v ≡ settled (knownParents (p .classes) (p .classes))
+  parents-told ts p h = f .says n ts (p .classes) (h .world) (p .classes) (classes-at h (first-row tab h e₆))
+
+  pub indexed-refused : {k q : ℕ} → v ≡ Refused k q → IndexedJudged tab n (unfit k q)
+  indexed-refused is =
+      record { says = λ ts p h d. rw (settled-refused (knownParents (p .classes) (p .classes)) (parents-told ts p h) is) }
+
+  module _ {u : ℕ} (is : v ≡ Fine u) {classes : ℕ} (many : Counts tab n first classes) {c : Judged} (g : ChainedJudged tab n classes first c) where
+    counted : (ts : List Token) (p : Program) → Ready tab n ts p → length (p .classes) ≡ classes
+    counted ts p h =
+        sym (many .says (length (p .classes))
+        (subst (λ (i : ℕ). Many tab i (length (p .classes))) (first-row tab h e₆) (many-classes (h .world .tokens) (h .world .classes))) (h .world .few))
+
+    later : (ts : List Token) (p : Program) → Ready tab n ts p → Tells (chainsOn p) c
+    later ts p h = g .says ts p h (counted ts p h) (first-row tab h e₆)
+
+    pub indexed-later : {k q : ℕ} → c ≡ Refused k q → IndexedJudged tab n (unfit k q)
+    indexed-later is′ =
+        record {
+          says = λ ts p h d.
+              rw (unless (knownParents (p .classes) (p .classes)) (chainsOn p) (parents-told ts p h) is)
+              (leaves-unfit (chainsOn p) tab (later ts p h) is′);
+        }
+
+    pub indexed-found : {w : ℕ} → c ≡ Fine w → IndexedJudged tab n (found n classes)
+    indexed-found is′ =
+        record {
+          says = λ ts p h d.
+              rw (
+                unless (knownParents (p .classes) (p .classes)) (chainsOn p) (parents-told ts p h) is,
+                only p (endless (p .classes) (p .classes)) (declarations (p .classes) (p .classes)) (allBodies p) (later ts p h) is′,
+              )
+              (holding ts p h d);
+        }
+      where
+        holding : (ts : List Token) (p : Program) → Ready tab n ts p → DerivesProgram ts p → Holding p (found n classes) tab
+        holding ts p h d =
+            let l = h .world .tokens .count in
+            record {
+              stream = ts;
+              answer = rw (l, counted ts p h);
+              ready = subst (λ (k : ℕ). Ready tab k ts p) (sym l) h;
+              derived = d;
+            }
+
+-- THE TREE
+
+module _ {n : ℕ} {before middle : List ℕ} {v : Judged} (f : IndexMade n before v middle) where
+  pub tree-refused : {k q : ℕ} → v ≡ Refused k q → TreeJudged n before (unfit k q) middle
+  unfolding judged
+  tree-refused is =
+      record {
+        says = λ rd h l.
+            rw (settled-refused (distinctClasses (rd .tree .main .text ∷ []) (rd .tree .classes)) (f .says rd h l .0) is);
+      }
+
+  pub tree-indexed : {u : ℕ} → v ≡ Fine u → {r : Found} → IndexedJudged middle n r → TreeJudged n before r middle
+  unfolding judged
+  tree-indexed is g =
+      record {
+        says = λ rd h l.
+            let d = settled-fine (distinctClasses (rd .tree .main .text ∷ []) (rd .tree .classes)) (f .says rd h l .0) is in
+            rw d (g .says (rd .stream) (rd .tree) (f .says rd h l .1 d) (h .derived));
+      }
+
+-- THE SOURCE
+
+module _ (s : List ℕ) (a : Filled) (middle : List ℕ) (f : Fills (reading s) a middle) where
+  pub find-refused : (after : List ℕ) {n q : ℕ} → a ≡ notRead n q → Leaves (checking s) (unfit n q) after
+  unfolding checking
+  find-refused after {n} {q} is = go (reading s) f
+    where
+      go : (o : Outcome Reading) → Fills o a middle → Leaves (unlessRefused o λ r. judged (r .tree)) (unfit n q) after
+      go (accepted r) h = let z = h .0 in apart (cc)
+      go (refused k p) h = let z = h in cc
+
+  pub find-tree : {after : List ℕ} {n m : ℕ} → a ≡ Tree n m → {r : Found} → TreeJudged n middle r after → Leaves (checking s) r after
+  unfolding checking
+  find-tree {after} {n} {m} is {r} g = go (reading s) f
+    where
+      go : (o : Outcome Reading) → Fills o a middle → Leaves (unlessRefused o λ d. judged (d .tree)) r after
+      go (accepted d) h = let z = h .0 in let l : length (d .stream) ≡ n = cc in g .says d (h .1) l
+      go (refused k p) h = let z = h in apart (cc)
+
+  -- the bound that the table's functions ask for
+  pub find-few : {n m : ℕ} → a ≡ Tree n m → n ≤ 2048
+  find-few {n} {m} is = go (reading s) f
+    where
+      go : (o : Outcome Reading) → Fills o a middle → n ≤ 2048
+      go (accepted d) h = let z = h .0 in let l : length (d .stream) ≡ n = cc in omega (arith, l, h .1 .few)
+      go (refused k p) h = let z = h in apart (cc)
+
+-- THE OPERATION
+
+module _ (s table : List ℕ) where
+  pub check-short : {r : CheckAnswer} → length table < 16384 → r .number ≡ 1 → r .position ≡ 0 → r .classes ≡ 0 → Checks s table (answerOf r) table
+  unfolding CheckAnswers tableAfter
+  check-short h e₁ e₂ e₃ = record { answer = rw (lt-ltb (length table) tableLeast h, e₁, e₂, e₃); table = rw (lt-ltb (length table) tableLeast h) }
+
+  module _ (long : 16384 ≤ length table) (f : Found) (middle : List ℕ) {after : List ℕ} (l : Leaves (checking s) f middle) (same : length middle ≡ length table) (zero : after ≡ replicate (length middle) 0) where
+    checks : (r : CheckAnswer) → CheckMeets (checking s) (answerOf r) → Checks s table (answerOf r) after
+    unfolding CheckAnswers tableAfter
+    checks r m = record { answer = rw (le-ltb (length table) tableLeast long) m; table = rw (le-ltb (length table) tableLeast long) (zero ∙ ap (λ (k : ℕ). replicate k 0) same) }
+
+    pub check-found : {n k : ℕ} → f ≡ found n k → {r : CheckAnswer} → r .number ≡ 0 → r .position ≡ 0 → r .classes ≡ k → Checks s table (answerOf r) after
+    check-found {n} {k} is {r} e₁ e₂ e₃ = checks r (go (checking s) l)
+      where
+        go : (w : Verdict) → Leaves w f middle → CheckMeets w (answerOf r)
+        go (accept p) h = let z = h .answer in let c : length (p .classes) ≡ k = cc in rw (e₁, e₂, e₃, c)
+        go (refuse m q) h = let z = h in apart (cc)
+        go (refuseEndless ps) h = let z = h .1 in apart (cc)
+
+    pub check-unfit : {n q : ℕ} → f ≡ unfit n q → {r : CheckAnswer} → r .number ≡ n → r .position ≡ q → r .classes ≡ 0 → Checks s table (answerOf r) after
+    check-unfit {n} {q} is {r} e₁ e₂ e₃ = checks r (go (checking s) l)
+      where
+        go : (w : Verdict) → Leaves w f middle → CheckMeets w (answerOf r)
+        go (accept p) h = let z = h .answer in apart (cc)
+        go (refuse m p) h = let z = h in let a : n ≡ m = cc in let b : q ≡ p = cc in ((e₁ ∙ a, e₂ ∙ b), e₃)
+        go (refuseEndless ps) h =
+            let z = h .1 in
+            let a : n ≡ chainEndless = cc in
+            let b : h .0 ≡ q = cc in
+            ((e₁ ∙ a, subst (λ (i : ℕ). List·Memᴰ i ps) (b ∙ sym e₂) (h .2)), e₃)

@@ -1,0 +1,31 @@
+-- Each return is a law of `VerdictLaws`.
+use borrow.Author.Needs.{needs}
+use Rattle.typecheck.proofs.check.chained.Statement.{statement}
+use Rattle.typecheck.proofs.check.chained.Tie as tie
+use Rattle.typecheck.proofs.check.chained.Reads as reads
+use Rattle.typecheck.proofs.check.chained.Lts as lts
+use Rattle.declarations.proofs.classes.chains.Reads as chains-reads
+use Rattle.typecheck.proofs.check.contents.Reads as contents-reads
+use Rattle.typecheck.proofs.VerdictLaws.{chained-contents, chained-refused}
+
+chains-requires : tie.Need-chains-requires
+chains-requires c κs = search needs
+
+enum-told : tie.Need-enum-told
+enum-told c = search needs
+
+contents-requires : tie.Need-contents-requires
+contents-requires c κs = search needs
+
+enum-known-c : tie.Need-enum-known-c
+enum-known-c c = search needs
+
+returns : tie.Need-returns
+returns c = search chained-contents
+
+returns-2 : tie.Need-returns-2
+returns-2 c = search chained-refused
+
+pub chained-spec : {M : Type 1} → statement M
+chained-spec =
+    tie.close (tie.spec chains-requires enum-told contents-requires enum-known-c returns returns-2)

@@ -1,0 +1,67 @@
+-- The measure is what is left. Each return is a law of `BodyLaws`.
+use Prim.Native.Nat.{ℕ, _<_}
+use borrow.Fn.Kinds.{In}
+use borrow.Fn.PlainCycle.{Measures, is, falls, and}
+use Rattle.typecheck.proofs.method.all.Reads as all
+use Rattle.typecheck.proofs.method.all.Kinds as all-kinds
+use Rattle.typecheck.proofs.method.+all.Lts-all as all-lts
+use Rattle.lookup.proofs.rows.word.Reads as word-reads
+use Rattle.typecheck.proofs.method.methods.Reads as methods-reads
+use Rattle.typecheck.proofs.method.+all.{statement}
+use Rattle.typecheck.proofs.method.+all.Tie.{close}
+use borrow.Author.Needs.{needs}
+use Rattle.typecheck.proofs.BodyLaws.{classes-none, classes-end, classes-next, classes-refused}
+
+abbrev μ-all : Measures 1 all-kinds.ps ℕ
+μ-all κs a = a .1 .1 .1 .0
+
+abbrev all-at : ℕ → In 1 all-kinds.ps
+all-at t = and 1 all-kinds.ps (is 1 all-kinds.ps μ-all t) all.Pre
+
+abbrev all-below : ℕ → In 1 all-kinds.ps
+all-below t = and 1 all-kinds.ps (falls 1 all-kinds.ps _<_ μ-all t) all.Pre
+
+abbrev all-calls : ℕ → all-lts.Claims
+all-calls t = (word-reads.Asked, word-reads.Learnt, methods-reads.Asked, methods-reads.Learnt, all-below t, all.Post)
+
+module _ (t : ℕ) where
+  all-returns : all-lts.Need-returns (all-calls t) (all-at t) all.Post
+  all-returns c = search classes-none
+
+  all-returns-2 : all-lts.Need-returns-2 (all-calls t) (all-at t) all.Post
+  all-returns-2 c = search classes-end
+
+  all-word-requires : all-lts.Need-word-requires (all-calls t) (all-at t) all.Post
+  all-word-requires c κs = search needs
+
+  all-word-requires-2 : all-lts.Need-word-requires-2 (all-calls t) (all-at t) all.Post
+  all-word-requires-2 c κs = search needs
+
+  all-methods-requires : all-lts.Need-methods-requires (all-calls t) (all-at t) all.Post
+  all-methods-requires c κs = search needs
+
+  all-enum-told : all-lts.Need-enum-told (all-calls t) (all-at t) all.Post
+  all-enum-told c = search needs
+
+  all-sub-all : all-lts.Need-sub-all (all-calls t) (all-at t) all.Post
+  all-sub-all c = search needs
+
+  all-word-requires-3 : all-lts.Need-word-requires-3 (all-calls t) (all-at t) all.Post
+  all-word-requires-3 c κs = search needs
+
+  all-all-requires : all-lts.Need-all-requires (all-calls t) (all-at t) all.Post
+  all-all-requires c κs = search needs
+
+  all-enum-known-m : all-lts.Need-enum-known-m (all-calls t) (all-at t) all.Post
+  all-enum-known-m c = search needs
+
+  all-returns-3 : all-lts.Need-returns-3 (all-calls t) (all-at t) all.Post
+  all-returns-3 c = search classes-next
+
+  all-returns-4 : all-lts.Need-returns-4 (all-calls t) (all-at t) all.Post
+  all-returns-4 c = search classes-refused
+
+pub +all-spec : {M : Type 1} → statement M
++all-spec =
+    close μ-all
+    (λ t. all-lts.spec (all-calls t) (all-at t) all.Post (all-returns t) (all-returns-2 t) (all-word-requires t) (all-word-requires-2 t) (all-methods-requires t) (all-enum-told t) (all-sub-all t) (all-word-requires-3 t) (all-all-requires t) (all-enum-known-m t) (all-returns-3 t) (all-returns-4 t))

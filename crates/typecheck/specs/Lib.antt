@@ -1,0 +1,3 @@
+-- What the functions of Check ensure.
+pub mod MethodPost
+pub mod CheckPost

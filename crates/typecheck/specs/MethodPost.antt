@@ -1,0 +1,39 @@
+-- What judging the bodies of methods ensures: the answer is that of the definition, whatever the program is that the table holds.
+use Prim.Native.Nat.{ℕ, _≤_}
+use mathlib.Core.Path.{_≡_}
+use mathlib.Core.List.{List}
+use lib.ListN.{length}
+use Rattle.base.specs.Outcome.{Outcome, _>>=_}
+use Rattle.lexer.specs.Tokens.{Token}
+use Rattle.parser.specs.Tree.{Method, Class, Program}
+use Rattle.parser.specs.Layout.{rowMethods}
+use Rattle.checker.specs.ClassTable.{Context}
+use Rattle.checker.specs.Judge.{judge, must}
+use Rattle.checker.specs.Check.{body, bodies, classBodies, allBodies}
+use Rattle.lookup.specs.declared.answer.Judged.{Judged}
+use Rattle.lookup.specs.Standing.{Spells, MethodStands, MethodsStand, World}
+use Rattle.lookup.specs.Answers.{settled}
+use Rattle.declarations.specs.Judgements.{ClassesAt}
+use Rattle.declarations.specs.Indexing.{Ready}
+use Rattle.bodies.specs.declared.scope.Scope.{Scope}
+use Rattle.bodies.specs.Scoping.{InScope}
+
+-- statements and return expression
+pub record CarriedJudged (tab : List ℕ) (s : Scope) (row : ℕ) (r : Judged) : Type 0 where
+  pub says : (ts : List Token) (G : List Class) (Γ : Context) → InScope tab ts G Γ s → (m : Method) → m .name .row ≡ row → MethodStands tab (s .tokens) ts m
+      → r ≡ settled (judge G Γ (m .body) >>= λ _. judge G Γ (m .value) >>= λ t. must G (m .value) (m .result .type) t)
+
+-- a body, in the class whose name has the number `owner`
+pub record BodyJudged (tab : List ℕ) (n classes owner row : ℕ) (r : Judged) : Type 0 where
+  pub says : (ts : List Token) (G : List Class) → World tab n ts G → length G ≡ classes → (c : List ℕ) → Spells ts c owner → (m : Method) → m .name .row ≡ row
+      → MethodStands tab n ts m → r ≡ settled (body G c m)
+
+pub record MethodsJudged (tab : List ℕ) (n classes left owner row : ℕ) (r : Judged) : Type 0 where
+  pub says : (ts : List Token) (G : List Class) → World tab n ts G → length G ≡ classes → (c : List ℕ) → Spells ts c owner → (ms : List Method) → rowMethods ms ≡ row
+      → MethodsStand tab n ts ms → length ms ≤ left → r ≡ settled (bodies G c ms)
+
+pub record ClassesJudged (tab : List ℕ) (n classes left row : ℕ) (r : Judged) : Type 0 where
+  pub says : (ts : List Token) (G : List Class) → World tab n ts G → length G ≡ classes → (ks : List Class) → ClassesAt tab n ts ks left row → r ≡ settled (classBodies G ks)
+
+pub record BodiesJudged (tab : List ℕ) (n classes : ℕ) (r : Judged) : Type 0 where
+  pub says : (ts : List Token) (p : Program) → Ready tab n ts p → length (p .classes) ≡ classes → r ≡ settled (allBodies p)

@@ -1,0 +1,125 @@
+// The operation Check, and below it the function that leaves the table filled.
+use crate::method::bodies;
+use base::fill::zero_words;
+use declarations::classes::chains;
+use declarations::classes::declarations;
+use declarations::classes::parents;
+use declarations::index::index;
+use lookup::answer::Judged;
+use lookup::member::count;
+use lookup::rows::word;
+use reader::read::Filled;
+use reader::read::fill;
+ghost use Prim.Native.Nat.{_≤_, _<_};
+ghost use lib.ListN.{length};
+ghost use Rattle.reader.specs.WalkPost.{Walkable};
+ghost use Rattle.checker.specs.Check.{checking, Checks};
+ghost use Rattle.typecheck.specs.CheckPost.{ContentsJudged, ChainedJudged, IndexedJudged, TreeJudged, Leaves, answerOf};
+
+// The tokens and the classes of an accepted source; or a refusal and its position.
+pub enum Found {
+    Program(usize, usize),
+    Refused(u32, usize),
+}
+
+// What Check answers.
+pub struct CheckAnswer {
+    pub number: u32,
+    pub position: usize,
+    pub classes: usize,
+}
+
+// Declarations and bodies.
+fn contents(table: &[u32], n: usize, classes: usize, first: usize) -> Judged
+    requires { ⌜ Walkable (now table) n ⌝ }
+    ensures { λ r. ⌜ ContentsJudged (now (table .entry)) n classes first r ⌝ }
+{
+    let d = declarations(table, n, classes, n, first);
+    match d {
+        Judged::Fine(_) => bodies(table, n, classes),
+        Judged::Refused(number, at) => Judged::Refused(number, at),
+    }
+}
+
+// Chains, then what the classes hold.
+fn chained(table: &[u32], n: usize, classes: usize, first: usize) -> Judged
+    requires { ⌜ Walkable (now table) n ⌝ }
+    ensures { λ r. ⌜ ChainedJudged (now (table .entry)) n classes first r ⌝ }
+{
+    let c = chains(table, classes, n, first);
+    match c {
+        Judged::Fine(_) => contents(table, n, classes, first),
+        Judged::Refused(number, at) => Judged::Refused(number, at),
+    }
+}
+
+// Parents, then all the rest.
+fn indexed(table: &[u32], n: usize) -> Found
+    requires { ⌜ Walkable (now table) n ⌝ }
+    ensures { λ r. ⌜ IndexedJudged (now (table .entry)) n r ⌝ }
+{
+    let first = word(table, 6, 0);
+    let p = parents(table, n, first);
+    match p {
+        Judged::Fine(_) => {
+            let classes = count(table, n, first);
+            let c = chained(table, n, classes, first);
+            match c {
+                Judged::Fine(_) => Found::Program(n, classes),
+                Judged::Refused(number, at) => Found::Refused(number, at),
+            }
+        }
+        Judged::Refused(number, at) => Found::Refused(number, at),
+    }
+}
+
+// A tree of n tokens.
+fn tree(table: &mut [u32], n: usize) -> Found
+    requires { ⌜ Walkable (now table) n ⌝ }
+    ensures { λ r. ⌜ TreeJudged n (now (table .entry)) r (now (table .exit)) ⌝ }
+{
+    let i = index(table, n);
+    match i {
+        Judged::Fine(_) => indexed(table, n),
+        Judged::Refused(number, at) => Found::Refused(number, at),
+    }
+}
+
+// Check, with the table left filled.
+pub fn find(source: &[u8], table: &mut [u32]) -> Found
+    requires { ⌜ 16384 ≤ length (now table) ⌝ }
+    ensures { λ r. ⌜ Leaves (checking (now (source .entry))) r (now (table .exit)) ⌝ }
+{
+    let f = fill(source, table);
+    match f {
+        Filled::Tree(tokens, _nodes) => tree(table, tokens),
+        Filled::Refused(number, at) => Found::Refused(number, at),
+    }
+}
+
+// The operation Check of document 01.
+pub fn check(source: &[u8], table: &mut [u32]) -> CheckAnswer
+    ensures { λ r. ⌜ Checks (now (source .entry)) (now (table .entry)) (answerOf r) (now (table .exit)) ⌝ }
+{
+    if table.len() < 16384 {
+        return CheckAnswer {
+            number: 1,
+            position: 0,
+            classes: 0,
+        };
+    }
+    let f = find(source, table);
+    zero_words(table);
+    match f {
+        Found::Program(_tokens, classes) => CheckAnswer {
+            number: 0,
+            position: 0,
+            classes,
+        },
+        Found::Refused(number, position) => CheckAnswer {
+            number,
+            position,
+            classes: 0,
+        },
+    }
+}

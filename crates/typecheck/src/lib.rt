@@ -1,0 +1,3 @@
+// The operation Check.
+pub mod check;
+pub mod method;
