@@ -1,2 +1,3 @@
--- The operation Menu.
+-- The operation Menu as a definition, and what its functions ensure.
 pub mod Menu
+pub mod MenuPost

@@ -1,1 +1,2 @@
-// Definitions only, in specs/: the operation Menu.
+// The operation Menu.
+pub mod menu;
