@@ -1,14 +1,14 @@
 -- What the look-up of a name returns meets its contract: the parameters, then the locals, then the fields upwards from the declaring class are searched.
 use Prim.Native.Nat.{ℕ, _≤_, _<_}
 use native.Mathlib.Omega.{arith}
-use mathlib.Core.Path.{_≡_, refl, sym, ap, _∙_, subst}
-use mathlib.Core.List.{List, _++_}
+use mathlib.Core.Path.{_≡_}
+use mathlib.Core.List.{List}
 use mathlib.Core.Option.{Option, none, some}
 use lib.ListN.{length}
 use Rattle.base.specs.Choice.{option}
 use Rattle.lexer.specs.Tokens.{Token}
 use Rattle.parser.specs.Tree.{Variable, Class}
-use Rattle.checker.specs.ClassTable.{Slot, Context, Meaning, ofRow, ofObject, variableNamed, chain, nearestField, meaning}
+use Rattle.checker.specs.ClassTable.{Slot, Context, ofObject, variableNamed, chain, nearestField, meaning}
 use Rattle.lookup.specs.Standing.{Lexemes, Spells, nothing, chainFrom}
 use Rattle.lookup.specs.Lookups.{Typed, untyped, typed, VariableTyped, FieldTyped}
 use Rattle.lookup.specs.VariableLaws.{typed-some, typed-none, variable-left, variable-right}

@@ -1,18 +1,16 @@
 -- What the functions on statements return meets their contracts: the kind of a statement's first token tells what it is, and the answers for its parts are put together
 -- as the judging function does.
-use Prim.Native.Nat.{ℕ, suc, _+_, _-_, _≤_, _<_}
+use Prim.Native.Nat.{ℕ, _+_, _-_, _≤_, _<_}
 use native.Mathlib.Omega.{arith}
-use mathlib.Core.Path.{_≡_, refl, sym, ap, _∙_, subst}
+use mathlib.Core.Path.{_≡_, refl, sym, ap, _∙_}
 use mathlib.Core.List.{List}
 use mathlib.Core.Bool.{Bool, true, false}
-use mathlib.Core.Option.{Option}
 use lib.ListN.{length}
-use Rattle.base.specs.Choice.{if_then_else_}
-use Rattle.base.specs.Outcome.{Outcome, accepted, refused, _>>=_}
+use Rattle.base.specs.Outcome.{_>>=_}
 use Rattle.base.specs.Table.{col}
 use Rattle.lexer.specs.Kinds.{isName}
 use Rattle.lexer.specs.Tokens.{Token}
-use Rattle.parser.specs.Tree.{Place, Sort, Sort.statement, Sort.statements, Part, Expression, Statement, placeS, Ty, Ty.int, Ty.boolean, Ty.intArray, Class}
+use Rattle.parser.specs.Tree.{Place, Sort.statement, Sort.statements, Part, Expression, Statement, Ty.int, Ty.boolean, Ty.intArray, Class}
 use Rattle.parser.specs.Tree.{Part.block, Part.conditional, Part.loop, Part.print, Part.assign, Part.assignElement, Part.noStatements, Part.sequence}
 use Rattle.parser.specs.Stream.{kindAt}
 use Rattle.parser.specs.Layout.{rowOf}
@@ -21,11 +19,11 @@ use Rattle.parser.specs.Post.{kindIn}
 use Rattle.reader.specs.Holds.{Holds}
 use Rattle.reader.specs.Matches.{Matches}
 use Rattle.checker.specs.ClassTable.{Context}
-use Rattle.checker.specs.Judge.{judge, must, mustBeArray, lookUp}
+use Rattle.checker.specs.Judge.{judge, must}
 use Rattle.lookup.specs.declared.answer.Judged.{Judged}
 use Rattle.lookup.specs.declared.answer.Judged.the-variants.{Fine, Refused}
-use Rattle.lookup.specs.Standing.{absent, wordAt, Codes, code-int, code-boolean, code-intArray}
-use Rattle.lookup.specs.StandingLaws.{word-in, name-kind, kinds, row-there}
+use Rattle.lookup.specs.Standing.{absent, wordAt, code-int, code-boolean, code-intArray}
+use Rattle.lookup.specs.StandingLaws.{word-in, name-kind, row-there}
 use Rattle.lookup.specs.Lookups.{Fits}
 use Rattle.lookup.specs.Answers.{settled, goes-on, stops}
 use Rattle.bodies.specs.declared.scope.Scope.{Scope}

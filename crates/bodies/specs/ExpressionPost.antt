@@ -5,13 +5,13 @@ use mathlib.Core.List.{List}
 use mathlib.Core.Bool.{Bool, true}
 use lib.ListN.{length}
 use lib.Dec.{eqb}
-use Rattle.base.specs.Outcome.{Outcome, accepted, refused, _>>=_}
+use Rattle.base.specs.Outcome.{accepted, _>>=_}
 use Rattle.base.specs.Table.{col}
-use Rattle.lexer.specs.Kinds.{kNew, kDot, kLength, isName}
+use Rattle.lexer.specs.Kinds.{kNew, kDot}
 use Rattle.lexer.specs.Tokens.{Token}
-use Rattle.parser.specs.Tree.{Place, Name, Sort, Sort.expression, Sort.arguments, Part, Part.newObject, Part.call, Expression, Ty, Ty.class, Variable, Class}
+use Rattle.parser.specs.Tree.{Place, Name, Sort.expression, Sort.arguments, Part, Part.newObject, Part.call, Expression, Ty, Ty.class, Variable, Class}
 use Rattle.parser.specs.Stream.{kindAt}
-use Rattle.parser.specs.Post.{isAtom, kindIn}
+use Rattle.parser.specs.Post.{isAtom}
 use Rattle.reader.specs.Matches.{NameIs}
 use Rattle.checker.specs.ClassTable.{Context, methodOf}
 use Rattle.checker.specs.Judge.{judge, must, arity, invocation, lookUp}

@@ -3,10 +3,10 @@ use Prim.Native.Nat.{ℕ, _+_}
 use mathlib.Core.Path.{_≡_}
 use mathlib.Core.List.{List}
 use mathlib.Core.Bool.{true}
-use Rattle.base.specs.Outcome.{Outcome, _>>=_}
-use Rattle.lexer.specs.Kinds.{kIf, kWhile, isName}
+use Rattle.base.specs.Outcome.{_>>=_}
+use Rattle.lexer.specs.Kinds.{isName}
 use Rattle.lexer.specs.Tokens.{Token}
-use Rattle.parser.specs.Tree.{Place, Sort, Sort.expression, Sort.statement, Sort.statements, Part, Part.assign, Part.assignElement, Part.conditional, Part.loop, Expression, Statement, Ty, Ty.int, Class}
+use Rattle.parser.specs.Tree.{Place, Sort.statements, Part, Part.assign, Part.assignElement, Part.conditional, Part.loop, Expression, Statement, Ty, Ty.int, Class}
 use Rattle.parser.specs.Stream.{kindAt}
 use Rattle.checker.specs.ClassTable.{Context}
 use Rattle.checker.specs.Judge.{judge, must, mustBeArray}

@@ -18,7 +18,8 @@ use parser::table::kind;
 ghost use Prim.Native.Nat.{_≤_, _<_};
 ghost use lib.ListN.{length};
 ghost use Rattle.reader.specs.WalkPost.{Walkable};
-ghost use Rattle.bodies.specs.ExpressionPost.{NamePost, ThisPost, AtomPost, ExpressionPost, OperandPost, SinglePost, PairPost, CreationPost, DottedPost, CallPost, InvocationPost, ArgumentsPost, ObjectPost, SameCount};
+ghost use Rattle.bodies.specs.ExpressionPost.{NamePost, ThisPost, AtomPost, ExpressionPost, OperandPost, SinglePost, PairPost};
+ghost use Rattle.bodies.specs.ExpressionPost.{CreationPost, DottedPost, CallPost, InvocationPost, ArgumentsPost, ObjectPost, SameCount};
 
 // `this`, which main has not: 34.
 fn receiver(table: &[u32], s: Scope, row: usize) -> Judged

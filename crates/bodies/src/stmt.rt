@@ -78,7 +78,7 @@ pub fn single(table: &[u32], s: Scope, left: usize, row: usize) -> Judged
     assignment(table, s, left - 1, row)
 }
 
-// `if`, after its test.
+// The branches of an `if`.
 fn branches(table: &[u32], s: Scope, left: usize, row: usize) -> Judged
     requires { ⌜ Walkable (now table) (s .tokens) × (row < 4294967296) × (left ≤ s .tokens) ⌝ }
     ensures { λ r. ⌜ BranchesPost (now (table .entry)) s left row r ⌝ }
@@ -90,6 +90,7 @@ fn branches(table: &[u32], s: Scope, left: usize, row: usize) -> Judged
     }
 }
 
+// `if`: its test, then both branches.
 fn conditional(table: &[u32], s: Scope, left: usize, row: usize) -> Judged
     requires { ⌜ Walkable (now table) (s .tokens) × (row < 4294967296) × (left ≤ s .tokens) ⌝ }
     ensures { λ r. ⌜ ConditionalPost (now (table .entry)) s left row r ⌝ }
@@ -101,6 +102,7 @@ fn conditional(table: &[u32], s: Scope, left: usize, row: usize) -> Judged
     }
 }
 
+// `while`: its test, then its body.
 fn repeated(table: &[u32], s: Scope, left: usize, row: usize) -> Judged
     requires { ⌜ Walkable (now table) (s .tokens) × (row < 4294967296) × (left ≤ s .tokens) ⌝ }
     ensures { λ r. ⌜ LoopPost (now (table .entry)) s left row r ⌝ }

@@ -1,6 +1,6 @@
 -- What the judgements of parents, chains and classes return meets their contracts: the index tells whether a parent is a class of the table, and the other tests are
 -- those of the look-ups and of the members, class by class.
-use Prim.Native.Nat.{ℕ, zero, suc, _-_, _≤_, _<_}
+use Prim.Native.Nat.{ℕ, _-_, _≤_, _<_}
 use native.Mathlib.Omega.{arith}
 use mathlib.Core.Path.{_≡_, refl, sym, ap, _∙_, subst}
 use mathlib.Core.List.{List, [], _∷_}
@@ -9,24 +9,23 @@ use mathlib.Core.Option.{Option, none, some}
 use lib.ListN.{length}
 use lib.Dec.{leb}
 use borrow.Author.Tests.{le-leb, lt-leb}
-use Rattle.base.specs.Choice.{if_then_else_, option}
-use Rattle.base.specs.Lists.{All, all-nil, all-cons}
+use Rattle.base.specs.Choice.{option}
+use Rattle.base.specs.Lists.{all-cons}
 use Rattle.base.specs.Outcome.{Outcome, accepted, refused, _>>=_}
 use Rattle.base.specs.Table.{col}
 use Rattle.lexer.specs.Tokens.{Token}
 use Rattle.parser.specs.Tree.{Name, Class}
-use Rattle.parser.specs.Layout.{rowVariables, rowMethods, rowParent, rowClasses}
-use Rattle.reader.specs.Matches.{NameMatches, ParentMatches}
+use Rattle.parser.specs.Layout.{rowParent}
+use Rattle.reader.specs.Matches.{ParentMatches}
 use Rattle.checker.specs.ClassTable.{classNamed, endsWithin}
 use Rattle.checker.specs.Declarations.{knownParent, knownParents, endless, fields, heads, declarations}
 use Rattle.typing.specs.Choices.{bind-assoc}
 use Rattle.lookup.specs.declared.answer.Judged.{Judged}
 use Rattle.lookup.specs.declared.answer.Judged.the-variants.{Fine, Refused}
-use Rattle.lookup.specs.Standing.{absent, wordAt, Lexemes, Spells, a-name, ClassStands, ClassesStand, no-classes, more-classes, World}
+use Rattle.lookup.specs.Standing.{absent, wordAt, Lexemes, Spells, a-name, ClassStands, ClassesStand, more-classes, World}
 use Rattle.lookup.specs.StandingLaws.{word-in, start-word, name-word, row-there, ClassAt, no-class, a-class, class-at}
 use Rattle.lookup.specs.Lookups.{Above, Ends}
 use Rattle.lookup.specs.Answers.{settled, goes-on, stops}
-use Rattle.declarations.specs.Earlier.{Along, AlongMethods}
 use Rattle.declarations.specs.Judgements.{FieldsJudged, HeadsJudged, orphaned, OrphanAt, ClassesAt, ParentsJudged, endlessAnswer, ChainsJudged, Own, MembersJudged, DeclarationsJudged}
 
 -- ROWS

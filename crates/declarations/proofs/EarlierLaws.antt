@@ -14,7 +14,7 @@ use Rattle.parser.specs.Layout.{rowVariables, rowMethods, headOf}
 use Rattle.reader.specs.Matches.{TypeMatches, VariableMatches}
 use Rattle.checker.specs.Declarations.{occurs, textOf}
 use Rattle.checker.specs.Typing.{methodName}
-use Rattle.lookup.specs.Standing.{absent, wordAt, Lexemes, Spells, VariablesStand, no-variables, more-variables, MethodStands, MethodsStand, no-methods, more-methods}
+use Rattle.lookup.specs.Standing.{absent, wordAt, Lexemes, Spells, VariablesStand, more-variables, MethodStands, MethodsStand, more-methods}
 use Rattle.lookup.specs.StandingLaws.{word-in, start-word, spelt, name-word, row-there}
 use Rattle.lookup.specs.Lookups.{Names, no-names, more-names, Repeated}
 use Rattle.declarations.specs.Earlier.{onto, Listed, Along, AlongMethods}

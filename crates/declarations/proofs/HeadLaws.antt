@@ -1,21 +1,21 @@
 -- What the judgements of method heads return meets their contracts: each test of the code is the definition's, on the method whose row it is. The method that is
 -- redeclared stands on the chain from the parent on, which is the class's own chain without its first.
-use Prim.Native.Nat.{ℕ, zero, suc, _+_, _-_, _≤_, _<_}
+use Prim.Native.Nat.{ℕ, _+_, _-_, _≤_, _<_}
 use native.Mathlib.Omega.{arith}
 use mathlib.Core.Path.{_≡_, refl, sym, ap, _∙_, subst}
 use mathlib.Core.List.{List, [], _∷_, _++_, map}
-use mathlib.Core.Bool.{Bool, true, false, _&&_}
+use mathlib.Core.Bool.{Bool, true, false}
 use mathlib.Core.Option.{Option, none, some}
 use lib.ListN.{length, drop}
 use lib.Dec.{leb}
 use borrow.Author.Tests.{le-leb, lt-leb}
-use Rattle.base.specs.Choice.{if_then_else_, option}
+use Rattle.base.specs.Choice.{option}
 use Rattle.base.specs.Outcome.{Outcome, accepted, refused, _>>=_}
 use Rattle.lexer.specs.Tokens.{Token}
 use Rattle.parser.specs.Tree.{Variable, Method, Class}
-use Rattle.parser.specs.Layout.{rowVariables, headOf}
-use Rattle.checker.specs.ClassTable.{Found, classNamed, chain, nearestMethod, sameType, fits, known}
-use Rattle.checker.specs.Declarations.{occurs, knownType, variables, sameTypes, redeclares, redeclaration, newMethod, heads}
+use Rattle.parser.specs.Layout.{rowVariables}
+use Rattle.checker.specs.ClassTable.{Found, classNamed, chain, nearestMethod}
+use Rattle.checker.specs.Declarations.{knownType, variables, sameTypes, redeclares, redeclaration, newMethod, heads}
 use Rattle.checker.specs.Typing.{methodName}
 use Rattle.typing.specs.Choices.{none-some}
 use Rattle.lookup.specs.declared.answer.Judged.{Judged}
@@ -25,7 +25,7 @@ use Rattle.lookup.specs.StandingLaws.{word-in, row-there, same-codes, other-cod
 use Rattle.lookup.specs.ChainLaws.{chain-some, found-stands}
 use Rattle.lookup.specs.Lookups.{TypeOf, Fits, Repeated, rowFound, FindsMethod}
 use Rattle.lookup.specs.Answers.{settled, goes-on, stops}
-use Rattle.declarations.specs.Earlier.{onto, Listed, Along, AlongMethods}
+use Rattle.declarations.specs.Earlier.{onto, AlongMethods}
 use Rattle.declarations.specs.Judgements.{KnownAt, VariablesJudged, TypesCompared, RedeclaresAt, Parented, redeclared, CompatibleAt, opened, closed, OpeningJudged, RestJudged, HeadJudged, HeadsJudged}
 use Rattle.declarations.proofs.EarlierLaws.{onto-none, onto-next, DeclaredAt, declared-at, method-declared, method-here, method-near, method-repeated, method-step}
 use Rattle.declarations.proofs.VariableLaws.{declared-known, type-place}

@@ -8,13 +8,13 @@ use mathlib.Core.List.{List, [], _∷_, _++_, map, append-assoc, append-nil}
 use mathlib.Core.Bool.{Bool, true, false, _||_}
 use mathlib.Core.Option.{Option, none, some}
 use lib.ListN.{length, getD, set}
-use lib.Dec.{eqb, ltb}
+use lib.Dec.{eqb}
 use borrow.Author.Tests.{eqb-true, eqb-false, eq-eqb, ne-eqb, lt-ltb, le-ltb}
 use Rattle.base.specs.Bytes.{same}
 use Rattle.base.specs.Choice.{if_then_else_, option}
-use Rattle.base.specs.Lists.{All, all-nil, all-cons, all-append, get-below, get-getD, getD-get}
-use Rattle.base.specs.Outcome.{Outcome, accepted, refused}
-use Rattle.base.specs.Table.{rows, col, put, length-put, col-put-same, col-put-other, SameColumn, put-columns}
+use Rattle.base.specs.Lists.{all-nil, all-cons, all-append, get-below, get-getD, getD-get}
+use Rattle.base.specs.Outcome.{accepted, refused}
+use Rattle.base.specs.Table.{rows, col, put, length-put, col-put-same, col-put-other, put-columns}
 use Rattle.lexer.specs.Kinds.{kIf, isName}
 use Rattle.lexer.specs.Tokens.{Token}
 use Rattle.lexer.specs.Rows.{firstNamed}

@@ -13,13 +13,14 @@ use Rattle.parser.specs.Grammar.{Derives.operate, Derives.one-operand, Derives.
 use Rattle.parser.specs.Grammar.{Derives.a-literal, Derives.a-true, Derives.a-false, Derives.a-name, Derives.a-this, Derives.make-object, Derives.parentheses, Derives.none-given, Derives.some-given, Derives.one-argument, Derives.more-arguments}
 use Rattle.parser.specs.Grammar.{Derives.a-block, Derives.an-if, Derives.a-while, Derives.a-print, Derives.an-assignment, Derives.an-element-assignment, Derives.no-statement, Derives.more-statements}
 use Rattle.parser.specs.Grammar.{DerivesMethod.a-method, DerivesMethods.no-method, DerivesMethods.more-methods, DerivesClass.a-class-declaration, DerivesClasses.no-class, DerivesClasses.more-classes, DerivesProgram.a-program}
-use Rattle.reader.specs.Stored.{variable-lies, parent-order}
+use Rattle.reader.specs.Order.{first-row}
+use Rattle.reader.specs.Stored.{parent-order}
 use Rattle.reader.specs.Counting.{tree-nodes}
 use Rattle.reader.specs.Holds.{HoldsVariables, HoldsMethod, HoldsMethods, HoldsClass, HoldsClasses}
 use Rattle.reader.specs.Matches.{VariablesMatch, MethodMatches, MethodsMatch, ClassMatches, ClassesMatch}
 use Rattle.lookup.specs.Standing.{VariablesStand, MethodStands, MethodsStand, ClassStands, ClassesStand}
 use Rattle.lookup.specs.Standing as Standing
-use Rattle.declarations.proofs.Counts.{head-count, variables-count, formals-count, method-count, methods-count, class-count, classes-count}
+use Rattle.declarations.proofs.Counts.{head-count, variables-count, formals-count, methods-count, classes-count}
 
 variables-stand : {tab : List ℕ} {ts : List Token} (vs : List Variable) → VariablesMatch ts vs → HoldsVariables tab vs → VariablesStand tab ts vs
 unfolding VariablesMatch HoldsVariables
@@ -74,44 +75,6 @@ module _ {tab : List ℕ} {n : ℕ} {ts : List Token} where
   classes-stand no-class few m h = Standing.no-classes
   classes-stand (more-classes d d′) few m h =
       Standing.more-classes (class-stands d (omega (arith, classes-count d′)) (m .0) (h .0)) (h .1) (classes-stand d′ few (m .1) (h .2))
-
--- a statement's row is that of its first token
-abbrev FirstRow : Sort → (i row : ℕ) → Type 0
-FirstRow expression i r = Unit {0}
-FirstRow arguments i r = Unit {0}
-FirstRow statement i r = r ≡ i
-FirstRow statements i r = Unit {0}
-
-first-row : {ts : List Token} {s : Sort} {k : Kind s} {i j : ℕ} {t : Part s} → Derives ts s k i j t → FirstRow s i (rowOf t)
-first-row (operate l e r) = tt
-first-row (one-operand d) = tt
-first-row (negate e d) = tt
-first-row (no-negation d) = tt
-first-row (make-array e₁ e₂ e₃ d e₄) = tt
-first-row (no-array d) = tt
-first-row (index a e₁ d e₂) = tt
-first-row (take-length a e₁ e₂) = tt
-first-row (invoke d e₁ e₂ e₃ ds e₄) = tt
-first-row (no-suffix d) = tt
-first-row (a-literal e) = tt
-first-row (a-true e) = tt
-first-row (a-false e) = tt
-first-row (a-name e) = tt
-first-row (a-this e) = tt
-first-row (make-object e₁ e₂ e₃ e₄) = tt
-first-row (parentheses e₁ d e₂) = tt
-first-row none-given = tt
-first-row (some-given d) = tt
-first-row (one-argument d) = tt
-first-row (more-arguments d e ds) = tt
-first-row (a-block e₁ ds e₂) = refl
-first-row (an-if e₁ e₂ d e₃ s e₄ t) = refl
-first-row (a-while e₁ e₂ d e₃ s) = refl
-first-row (a-print e₁ e₂ e₃ e₄ e₅ e₆ d e₇ e₈) = refl
-first-row (an-assignment e₁ e₂ d e₃) = refl
-first-row (an-element-assignment e₁ e₂ a e₃ e₄ d e₅) = refl
-first-row no-statement = tt
-first-row (more-statements s ss) = tt
 
 -- what a program's derivation tells
 pub record Derived (ts : List Token) (p : Program) : Type 0 where

@@ -1,28 +1,27 @@
 -- What the judgements of fields, parameters and locals return meets their contracts: each test of the code is the definition's, on the variable whose row it is.
-use Prim.Native.Nat.{ℕ, zero, suc, _+_, _-_, _≤_, _<_}
+use Rattle.base.specs.Choice.{if_then_else_}
+use Prim.Native.Nat.{ℕ, _+_, _-_, _≤_, _<_}
 use native.Mathlib.Omega.{arith}
 use mathlib.Core.Path.{_≡_, refl, sym, ap, _∙_, subst}
-use mathlib.Core.List.{List, [], _∷_, _++_, map, append-nil}
-use mathlib.Core.Bool.{Bool, true, false, _||_}
+use mathlib.Core.List.{List, [], _∷_, _++_, map}
+use mathlib.Core.Bool.{Bool, true, false}
 use lib.ListN.{length, length-map}
 use lib.Dec.{ltb}
 use borrow.Author.Tests.{lt-ltb, le-ltb}
-use Rattle.base.specs.Choice.{if_then_else_}
 use Rattle.base.specs.Codes.{variablesMost}
 use Rattle.base.specs.Outcome.{Outcome, accepted, refused, _>>=_}
 use Rattle.lexer.specs.Tokens.{Token}
 use Rattle.parser.specs.Tree.{Variable, Class}
-use Rattle.parser.specs.Layout.{rowVariables}
 use Rattle.checker.specs.ClassTable.{known}
 use Rattle.checker.specs.Declarations.{occurs, textOf, knownType, fields, variables}
 use Rattle.lookup.specs.declared.answer.Judged.{Judged}
 use Rattle.lookup.specs.declared.answer.Judged.the-variants.{Fine, Refused}
-use Rattle.lookup.specs.Standing.{absent, wordAt, Spells, VariablesStand, World}
-use Rattle.lookup.specs.Lookups.{Names, TypeOf, Knows, Repeated}
+use Rattle.lookup.specs.Standing.{absent, wordAt, Spells, World}
+use Rattle.lookup.specs.Lookups.{TypeOf, Knows, Repeated}
 use Rattle.lookup.specs.Answers.{settled, goes-on, stops}
 use Rattle.declarations.specs.Earlier.{onto, Listed, Along}
 use Rattle.declarations.specs.Judgements.{KnownAt, FieldsJudged, newVariable, VariableJudged, VariablesJudged}
-use Rattle.declarations.proofs.EarlierLaws.{onto-occurs, onto-none, onto-length, onto-next, DeclaredAt, listed-repeated, variable-names, variable-near, variable-declared, variable-repeated, variable-step}
+use Rattle.declarations.proofs.EarlierLaws.{onto-occurs, onto-none, onto-length, onto-next, DeclaredAt, listed-repeated, variable-near, variable-declared, variable-repeated, variable-step}
 
 -- TYPES
 

@@ -1,11 +1,11 @@
 -- What making the index of the classes ensures: column 7 of the row that is the number of a name leads to the class of that name, and the table is ready for the
 -- look-ups. Only column 7 is written, and not in the rows of `if` tokens, where a part stands.
+use Rattle.base.specs.Choice.{if_then_else_}
 use Prim.Native.Nat.{ℕ, zero, suc, _≤_, _<_}
 use mathlib.Core.Path.{_≡_}
 use mathlib.Core.List.{List, [], _∷_, _++_, map}
 use lib.ListN.{length}
 use lib.Dec.{eqb, ltb}
-use Rattle.base.specs.Choice.{if_then_else_}
 use Rattle.base.specs.Lists.{All}
 use Rattle.base.specs.Outcome.{accepted}
 use Rattle.base.specs.Table.{rows, col, put, SameColumn}

@@ -1,32 +1,27 @@
 -- What the climbs up the parents return meets their contracts: the index leads to the class of a name, and the class to the name of its parent, so a climb
 -- goes through the chain class by class.
-use Prim.Native.Nat.{ℕ, zero, suc, _+_, _-_, _≤_, _<_}
+use Prim.Native.Nat.{ℕ, zero, suc, _-_, _≤_, _<_}
 use native.Mathlib.Omega.{arith}
 use native.Mathlib.Decide.{ℕ-discrete}
 use mathlib.Core.Path.{_≡_, refl, sym, ap, _∙_, subst}
-use mathlib.Core.List.{List, [], _∷_}
-use mathlib.Core.Bool.{Bool, true, false, _||_}
+use mathlib.Core.List.{List}
+use mathlib.Core.Bool.{Bool, true, false}
 use mathlib.Core.Option.{Option, none, some}
 use lib.ListN.{length}
-use lib.Dec.{eqb}
 use borrow.Author.Tests.{eq-eqb, ne-eqb}
-use Rattle.base.specs.Choice.{if_then_else_, option}
-use Rattle.base.specs.Bytes.{same}
+use Rattle.base.specs.Choice.{option}
 use Rattle.base.specs.Lists.{All, all-nil, all-cons}
 use Rattle.lexer.specs.Tokens.{Token}
 use Rattle.lexer.specs.Rows.{firstNamed}
 use Rattle.parser.specs.Tree.{Name, Ty, Ty.int, Ty.boolean, Ty.intArray, Ty.class, Method, Class}
-use Rattle.parser.specs.Layout.{rowVariables, rowMethods, rowParent}
+use Rattle.parser.specs.Layout.{rowParent}
 use Rattle.reader.specs.Matches.{ParentMatches}
-use Rattle.checker.specs.ClassTable.{Slot, moved, Found, classNamed, variableNamed, methodNamed, chain, chainWithin, layout, nearestField, nearestMethod, endsWithin, among, sameType, onChain, fits}
-use Rattle.typing.specs.Choices.{none-some}
-use Rattle.typing.specs.Chains.{all-classes}
+use Rattle.checker.specs.ClassTable.{Slot, moved, Found, classNamed, variableNamed, methodNamed, chain, nearestField, nearestMethod, endsWithin, among, onChain, fits}
 use Rattle.typing.specs.ClassTableLaws.{all-methods}
-use Rattle.lookup.specs.Standing.{absent, wordAt, Lexemes, Spells, Numbers, no-name, a-name, nothing, Codes, code-int, code-boolean, code-intArray, code-class, ClassStands, World, classOf, chainFrom, parentName}
-use Rattle.lookup.specs.StandingLaws.{word-in, word-out, name-word, row-there, same-names, other-names, all-stand, methods-stand, spelt-class, codes-below, same-codes, other-codes, ClassAt, no-class, a-class, class-at}
+use Rattle.lookup.specs.Standing.{absent, wordAt, Lexemes, Spells, Numbers, no-name, a-name, nothing, Codes, code-int, code-boolean, code-intArray, code-class, ClassStands, World, chainFrom, parentName}
+use Rattle.lookup.specs.StandingLaws.{word-in, word-out, name-word, row-there, same-names, other-names, methods-stand, spelt-class, codes-below, same-codes, other-codes, ClassAt, no-class, a-class, class-at}
 use Rattle.lookup.specs.ChainLaws.{chain-none-left, chain-none, chain-some, chain-stands}
 use Rattle.lookup.specs.Lookups.{Typed, untyped, typed, VariableTyped, rowMethod, MethodRow, Above, amongNumbers, OnChain, Ends, FieldTyped, rowFound, FindsMethod, Fits}
-use Rattle.lookup.proofs.MemberLaws.{typed-moved}
 
 -- ABOVE
 

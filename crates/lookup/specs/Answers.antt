@@ -1,6 +1,6 @@
 -- How a stage's outcome is answered, and what an answer tells of the outcome.
 use Prim.Native.Nat.{ℕ}
-use mathlib.Core.Path.{_≡_, refl, sym, _∙_}
+use mathlib.Core.Path.{_≡_, refl}
 use mathlib.Core.List.{List}
 use native.Mathlib.Omega.{arith}
 use Rattle.base.specs.Outcome.{Outcome, accepted, refused, _>>=_}

@@ -2,11 +2,10 @@
 use Prim.Native.Nat.{ℕ, _≤_, _<_}
 use mathlib.Core.Path.{_≡_}
 use mathlib.Core.List.{List, [], _∷_}
-use mathlib.Core.Bool.{Bool, true, false, _||_}
+use mathlib.Core.Bool.{Bool, false, _||_}
 use mathlib.Core.Option.{Option, none, some}
 use lib.ListN.{length}
 use lib.Dec.{eqb}
-use Rattle.base.specs.Choice.{option}
 use Rattle.base.specs.Table.{col}
 use Rattle.lexer.specs.Tokens.{Token}
 use Rattle.lexer.specs.Rows.{firstNamed}
@@ -15,7 +14,7 @@ use Rattle.parser.specs.Layout.{rowVariables, rowMethods}
 use Rattle.reader.specs.Matches.{TypeMatches}
 use Rattle.checker.specs.ClassTable.{Slot, Found, known, fits, variableNamed, methodNamed, nearestField, nearestMethod, endsWithin}
 use Rattle.checker.specs.Declarations.{occurs}
-use Rattle.lookup.specs.Standing.{absent, Lexemes, Spells, Numbers, code, nothing, Codes, VariablesStand, MethodsStand, ClassStands, World, chainFrom, parentName}
+use Rattle.lookup.specs.Standing.{absent, Lexemes, Spells, Numbers, nothing, Codes, VariablesStand, MethodsStand, ClassStands, World, chainFrom, parentName}
 
 -- TYPES
 

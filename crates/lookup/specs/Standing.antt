@@ -1,16 +1,16 @@
 -- The class table as the work table holds it: the rows of the declarations match their tokens and lead to one another, no list of them is longer than the tokens are many,
 -- and the index leads from the number of a name to the class of that name.
+use Rattle.base.specs.Choice.{if_then_else_}
 use Prim.Native.Nat.{ℕ, _+_, _≤_, _<_}
 use mathlib.Core.Path.{_≡_}
 use mathlib.Core.List.{List, [], _∷_}
 use mathlib.Core.Option.{Option, none, some}
 use lib.ListN.{length}
 use lib.Dec.{ltb}
-use Rattle.base.specs.Choice.{if_then_else_}
 use Rattle.base.specs.Table.{col}
 use Rattle.lexer.specs.Tokens.{Token}
 use Rattle.lexer.specs.Rows.{firstNamed, Rows}
-use Rattle.parser.specs.Tree.{Name, Ty, Ty.int, Ty.boolean, Ty.intArray, Ty.class, TypeUse, Part, Variable, Method, Class}
+use Rattle.parser.specs.Tree.{Name, Ty, Ty.int, Ty.boolean, Ty.intArray, Ty.class, Variable, Method, Class}
 use Rattle.parser.specs.Layout.{rowOf, rowVariables, rowMethods, rowParent, rowClasses, headOf}
 use Rattle.parser.specs.Measure.{nodes}
 use Rattle.reader.specs.Holds.{Holds}

@@ -1,12 +1,12 @@
 -- Laws on the class table in the work table: words of rows that are there, names and types by number, and the class to which the index leads.
-use Prim.Native.Nat.{ℕ, _+_, _≤_, _<_}
+use Prim.Native.Nat.{ℕ, _≤_, _<_}
 use native.Mathlib.Omega.{arith}
 use mathlib.Core.Path.{_≡_, refl, sym, ap, _∙_, subst}
-use mathlib.Core.List.{List, [], _∷_}
-use mathlib.Core.Bool.{Bool, true, false, true≢false, false≢true}
+use mathlib.Core.List.{List}
+use mathlib.Core.Bool.{true, false}
 use mathlib.Core.Option.{Option, none, some, Option·some-injective}
 use lib.ListN.{length, getElem?}
-use lib.Dec.{ltb, leb}
+use lib.Dec.{leb}
 use borrow.Author.Tests.{leb-true, lt-ltb, le-ltb}
 use Rattle.base.specs.Bytes.{same}
 use Rattle.base.specs.Lists.{All, all-nil, all-cons, get-getD}
@@ -14,14 +14,13 @@ use Rattle.base.specs.Table.{col}
 use Rattle.lexer.specs.Kinds.{isName}
 use Rattle.lexer.specs.Tokens.{Token}
 use Rattle.lexer.specs.Rows.{firstNamed}
-use Rattle.lexer.specs.RowLaws.{Named, first-named, first-least}
-use Rattle.parser.specs.Tree.{Ty, Ty.int, Ty.boolean, Ty.intArray, Ty.class, Class, Method}
+use Rattle.lexer.specs.RowLaws.{first-named, first-least}
+use Rattle.parser.specs.Tree.{Ty, Ty.class, Class, Method}
 use Rattle.parser.specs.Stream.{tokenAt, noMore, kindAt, startAt}
 use Rattle.parser.specs.Post.{kindIn}
-use Rattle.reader.specs.Matches.{NameIs, NameMatches}
+use Rattle.reader.specs.Matches.{NameIs}
 use Rattle.reader.specs.ReadingLaws.{tokens-in}
 use Rattle.checker.specs.ClassTable.{classNamed, sameType}
-use Rattle.checker.specs.Typing.{className}
 use Rattle.typing.specs.Tests.{and-both, same-of, apart-same, sameType-of, apart-sameType}
 use Rattle.typing.specs.Chains.{class-name, all-classes}
 use Rattle.lookup.specs.Standing.{absent, wordAt, Lexemes, Spells, Numbers, no-name, a-name, code, nothing, Codes, code-int, code-boolean, code-intArray, code-class, MethodStands, MethodsStand, no-methods, more-methods, ClassStands, ClassesStand, no-classes, more-classes, rowClass, World, classOf}

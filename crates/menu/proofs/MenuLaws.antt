@@ -2,28 +2,24 @@
 use Prim.Native.Nat.{ℕ, suc, _+_, _-_, _≤_, _<_}
 use native.Mathlib.Omega.{arith}
 use mathlib.Core.Path.{_≡_, refl, sym, ap, _∙_, subst}
-use mathlib.Core.List.{List, [], _∷_, _++_, map, append-assoc, List·Memᴰ, List·Permᴰ, List·Permᴰ·nil, List·Permᴰ·cons}
+use mathlib.Core.List.{List, [], _∷_, _++_, append-assoc, List·Memᴰ, List·Permᴰ, List·Permᴰ·nil, List·Permᴰ·cons}
 use lib.ListN.{length, set, drop, replicate, length-append}
 use lib.Seq.{set-append-seam}
 use native.Mathlib.Nat.{le-of-suc-le-suc}
-use lib.Dec.{ltb}
 use borrow.Author.Tests.{lt-ltb, le-ltb}
-use Rattle.base.specs.Choice.{if_then_else_}
 use Rattle.base.specs.Codes.{tableLeast}
-use Rattle.base.specs.Table.{col}
 use Rattle.lexer.specs.Tokens.{Token}
-use Rattle.parser.specs.Tree.{Class, Program}
+use Rattle.parser.specs.Tree.{Class}
 use Rattle.parser.specs.Layout.{rowClasses}
 use Rattle.parser.specs.Read.{tableAfter}
 use Rattle.checker.specs.Check.{Verdict, accept, refuse, refuseEndless, checking}
-use Rattle.lookup.specs.Standing.{absent, wordAt, Lexemes, ClassesStand, no-classes, more-classes}
+use Rattle.lookup.specs.Standing.{wordAt, Lexemes, ClassesStand, no-classes, more-classes}
 use Rattle.lookup.specs.StandingLaws.{word-in, row-there, start-word}
-use Rattle.declarations.specs.Indexing.{Ready}
 use Rattle.typecheck.specs.declared.check.Found.{Found}
 use Rattle.typecheck.specs.declared.check.Found.the-variants.{Program as found, Refused as unfit}
 use Rattle.typecheck.specs.declared.check.CheckAnswer.{CheckAnswer}
 use Rattle.typecheck.specs.CheckPost.{Leaves, answerOf}
-use Rattle.menu.specs.Menu.{positions, Written, MenuMeets, MenuAnswers, Menus}
+use Rattle.menu.specs.Menu.{positions, MenuMeets, MenuAnswers, Menus}
 use Rattle.menu.specs.MenuPost.{Places, no-places, more-places, overwritten, Lists, Fills}
 
 -- THE STRIP

@@ -1,12 +1,12 @@
 -- Document 01, "What each operation refuses", Menu: the whole operation as a definition. The order of the positions is left open.
+use Rattle.base.specs.Choice.{if_then_else_}
 use Prim.Native.Nat.{ℕ}
 use mathlib.Core.Path.{_≡_}
 use mathlib.Core.List.{List, _++_, map, List·Permᴰ}
 use lib.ListN.{length, drop}
 use lib.Dec.{ltb}
-use Rattle.base.specs.Choice.{if_then_else_}
 use Rattle.base.specs.Codes.{success, tableTooShort, tableLeast, stripTooShort}
-use Rattle.parser.specs.Tree.{Name, Class, Program}
+use Rattle.parser.specs.Tree.{Class}
 use Rattle.parser.specs.Read.{tableAfter}
 use Rattle.checker.specs.Check.{Verdict, accept, refuse, refuseEndless, Refuses, CheckAnswer, checking}
 

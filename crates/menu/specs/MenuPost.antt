@@ -5,7 +5,7 @@ use mathlib.Core.List.{List, [], _∷_}
 use lib.ListN.{length, set}
 use Rattle.base.specs.Table.{col}
 use Rattle.lexer.specs.Tokens.{Token}
-use Rattle.parser.specs.Tree.{Class, Program}
+use Rattle.parser.specs.Tree.{Program}
 use Rattle.checker.specs.Check.{accept, CheckAnswer}
 use Rattle.lookup.specs.Standing.{absent}
 use Rattle.declarations.specs.Indexing.{Ready}

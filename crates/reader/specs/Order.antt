@@ -33,6 +33,44 @@ no-operator comparison = refl
 no-operator sum = refl
 no-operator product = refl
 
+-- a statement's row is that of its first token
+abbrev pub FirstRow : Sort → (i row : ℕ) → Type 0
+FirstRow expression i r = Unit {0}
+FirstRow arguments i r = Unit {0}
+FirstRow statement i r = r ≡ i
+FirstRow statements i r = Unit {0}
+
+pub first-row : {ts : List Token} {s : Sort} {k : Kind s} {i j : ℕ} {t : Part s} → Derives ts s k i j t → FirstRow s i (rowOf t)
+first-row (operate l e r) = tt
+first-row (one-operand d) = tt
+first-row (negate e d) = tt
+first-row (no-negation d) = tt
+first-row (make-array e₁ e₂ e₃ d e₄) = tt
+first-row (no-array d) = tt
+first-row (index a e₁ d e₂) = tt
+first-row (take-length a e₁ e₂) = tt
+first-row (invoke d e₁ e₂ e₃ ds e₄) = tt
+first-row (no-suffix d) = tt
+first-row (a-literal e) = tt
+first-row (a-true e) = tt
+first-row (a-false e) = tt
+first-row (a-name e) = tt
+first-row (a-this e) = tt
+first-row (make-object e₁ e₂ e₃ e₄) = tt
+first-row (parentheses e₁ d e₂) = tt
+first-row none-given = tt
+first-row (some-given d) = tt
+first-row (one-argument d) = tt
+first-row (more-arguments d e ds) = tt
+first-row (a-block e₁ ds e₂) = refl
+first-row (an-if e₁ e₂ d e₃ s e₄ t) = refl
+first-row (a-while e₁ e₂ d e₃ s) = refl
+first-row (a-print e₁ e₂ e₃ e₄ e₅ e₆ d e₇ e₈) = refl
+first-row (an-assignment e₁ e₂ d e₃) = refl
+first-row (an-element-assignment e₁ e₂ a e₃ e₄ d e₅) = refl
+first-row no-statement = tt
+first-row (more-statements s ss) = tt
+
 module _ (ts : List Token) where
   -- a token of a kind is there
   past : (i : ℕ) → length ts ≤ i → kindAt ts i ≡ 0
@@ -107,44 +145,6 @@ module _ (ts : List Token) (few : length ts ≤ 2048) where
       let z = there ts k e₅ (lit< tt) in (omega arith, omega (arith, u, v), omega arith)
   range no-statement h = (omega arith, omega arith, h)
   range (more-statements {m = m} s ss) h = let u = range s h in let v = range ss (u .2) in (omega (arith, u, v), u .0, v .2)
-
-  -- a statement's row is that of its first token
-  abbrev FirstRow : Sort → (i row : ℕ) → Type 0
-  FirstRow expression i r = Unit {0}
-  FirstRow arguments i r = Unit {0}
-  FirstRow statement i r = r ≡ i
-  FirstRow statements i r = Unit {0}
-
-  first-row : {s : Sort} {k : Kind s} {i j : ℕ} {t : Part s} → Derives ts s k i j t → FirstRow s i (rowOf t)
-  first-row (operate l e r) = tt
-  first-row (one-operand d) = tt
-  first-row (negate e d) = tt
-  first-row (no-negation d) = tt
-  first-row (make-array e₁ e₂ e₃ d e₄) = tt
-  first-row (no-array d) = tt
-  first-row (index a e₁ d e₂) = tt
-  first-row (take-length a e₁ e₂) = tt
-  first-row (invoke d e₁ e₂ e₃ ds e₄) = tt
-  first-row (no-suffix d) = tt
-  first-row (a-literal e) = tt
-  first-row (a-true e) = tt
-  first-row (a-false e) = tt
-  first-row (a-name e) = tt
-  first-row (a-this e) = tt
-  first-row (make-object e₁ e₂ e₃ e₄) = tt
-  first-row (parentheses e₁ d e₂) = tt
-  first-row none-given = tt
-  first-row (some-given d) = tt
-  first-row (one-argument d) = tt
-  first-row (more-arguments d e ds) = tt
-  first-row (a-block e₁ ds e₂) = refl
-  first-row (an-if e₁ e₂ d e₃ s e₄ t) = refl
-  first-row (a-while e₁ e₂ d e₃ s) = refl
-  first-row (a-print e₁ e₂ e₃ e₄ e₅ e₆ d e₇ e₈) = refl
-  first-row (an-assignment e₁ e₂ d e₃) = refl
-  first-row (an-element-assignment e₁ e₂ a e₃ e₄ d e₅) = refl
-  first-row no-statement = tt
-  first-row (more-statements s ss) = tt
 
 -- POSITIONS
 module _ (ts : List Token) (few : length ts ≤ 2048) (rising : Rising ts) where
@@ -296,4 +296,4 @@ module _ (ts : List Token) (few : length ts ≤ 2048) (rising : Rising ts) where
       parts (a-program {j = j} hd s e₁ e₂ ks) =
           let n₁ = there ts 13 (hd .at13) (lit< tt) in
           let n₂ = there ts (j + 1) e₂ (lit< tt) in
-          (first-row ts few s, order s (omega arith) (λ l. omega arith), classes-order ks (omega arith) .1)
+          (first-row s, order s (omega arith) (λ l. omega arith), classes-order ks (omega arith) .1)

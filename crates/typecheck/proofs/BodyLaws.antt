@@ -1,30 +1,27 @@
 -- What the functions on the bodies of methods return meets their contracts: a method's row leads to its parameters, locals, statements and return expression.
-use Prim.Native.Nat.{ℕ, suc, _+_, _-_, _≤_, _<_}
+use Prim.Native.Nat.{ℕ, _+_, _-_, _≤_, _<_}
 use native.Mathlib.Omega.{arith}
 use mathlib.Core.Path.{_≡_, refl, sym, ap, _∙_, subst}
-use mathlib.Core.List.{List, [], _∷_, _++_, map}
-use mathlib.Core.Option.{none, some}
+use mathlib.Core.List.{List, [], _∷_, map}
 use lib.ListN.{length}
-use Rattle.base.specs.Outcome.{Outcome, accepted, refused, _>>=_}
-use Rattle.base.specs.Table.{col}
+use Rattle.base.specs.Outcome.{_>>=_}
 use Rattle.lexer.specs.Tokens.{Token}
 use Rattle.parser.specs.Tree.{Variable, Method, Class, Program}
-use Rattle.parser.specs.Layout.{rowOf, rowVariables, rowMethods, rowClasses}
+use Rattle.parser.specs.Layout.{rowVariables, rowMethods, rowClasses}
 use Rattle.checker.specs.ClassTable.{Context, mainContext, contextOf}
 use Rattle.checker.specs.Judge.{judge, must}
 use Rattle.checker.specs.Declarations.{textOf, variables}
 use Rattle.checker.specs.Check.{body, bodies, classBodies, allBodies}
 use Rattle.lookup.specs.declared.answer.Judged.{Judged}
 use Rattle.lookup.specs.declared.answer.Judged.the-variants.{Fine, Refused}
-use Rattle.lookup.specs.Standing.{absent, wordAt, Lexemes, Spells, no-name, a-name, VariablesStand, no-variables, more-variables, MethodStands, MethodsStand, no-methods, more-methods, ClassStands, ClassesStand, no-classes, more-classes, World}
+use Rattle.lookup.specs.Standing.{absent, wordAt, Lexemes, Spells, no-name, a-name, VariablesStand, no-variables, more-variables, MethodStands, MethodsStand, more-methods, ClassStands, ClassesStand, more-classes, World}
 use Rattle.lookup.specs.StandingLaws.{word-in, row-there, name-word}
 use Rattle.lookup.specs.Lookups.{TypeOf, Many, many-none, many-more, Counts}
 use Rattle.lookup.specs.Answers.{settled, goes-on, stops}
-use Rattle.declarations.specs.Earlier.{onto, Listed, Along}
-use Rattle.declarations.specs.Judgements.{VariablesJudged, ClassesAt}
+use Rattle.declarations.specs.Judgements.{VariablesJudged}
 use Rattle.declarations.specs.Indexing.{Ready}
 use Rattle.bodies.specs.declared.scope.Scope.{Scope}
-use Rattle.bodies.specs.Scoping.{ListedAt, InScope, PartAt}
+use Rattle.bodies.specs.Scoping.{ListedAt, InScope}
 use Rattle.bodies.specs.ExpressionPost.{OperandPost}
 use Rattle.bodies.specs.StatementPost.{SentencePost, ListPost}
 use Rattle.typecheck.specs.MethodPost.{CarriedJudged, BodyJudged, MethodsJudged, ClassesJudged, BodiesJudged}

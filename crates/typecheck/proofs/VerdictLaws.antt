@@ -1,30 +1,25 @@
 -- What the stages of Check return meets their contracts: each stage answers as the definition does, and the first refusal is the answer.
-use Prim.Native.Nat.{ℕ, suc, _≤_, _<_}
+use Prim.Native.Nat.{ℕ, _≤_, _<_}
 use native.Mathlib.Omega.{arith}
 use mathlib.Core.Path.{_≡_, refl, sym, ap, _∙_, subst}
 use mathlib.Core.List.{List, [], _∷_, List·Memᴰ, List·Memᴰ·head}
-use mathlib.Core.Option.{none, some}
 use lib.ListN.{length, replicate}
-use lib.Dec.{ltb}
 use borrow.Author.Tests.{lt-ltb, le-ltb}
-use Rattle.base.specs.Choice.{if_then_else_}
 use Rattle.base.specs.Codes.{tableLeast, chainEndless}
 use Rattle.base.specs.Outcome.{Outcome, accepted, refused, _>>=_}
-use Rattle.base.specs.Table.{col}
 use Rattle.lexer.specs.Tokens.{Token}
 use Rattle.parser.specs.Tree.{Class, Program}
 use Rattle.parser.specs.Grammar.{DerivesProgram}
 use Rattle.parser.specs.Layout.{rowClasses}
-use Rattle.parser.specs.Measure.{programNodes}
 use Rattle.parser.specs.Read.{Reading, reading, tableAfter}
 use Rattle.reader.specs.declared.read.Filled.{Filled}
 use Rattle.reader.specs.declared.read.Filled.the-variants.{Tree, Refused as notRead}
-use Rattle.reader.specs.ReadPost.{Filling, Fills}
+use Rattle.reader.specs.ReadPost.{Fills}
 use Rattle.checker.specs.Declarations.{distinctClasses, knownParents, endless, declarations}
-use Rattle.checker.specs.Check.{Verdict, accept, refuse, refuseEndless, Refuses, allBodies, unlessRefused, unlessEndless, judged, checking, CheckMeets, CheckAnswers, Checks}
+use Rattle.checker.specs.Check.{Verdict, accept, refuse, refuseEndless, allBodies, unlessRefused, unlessEndless, judged, checking, CheckMeets, CheckAnswers, Checks}
 use Rattle.lookup.specs.declared.answer.Judged.{Judged}
 use Rattle.lookup.specs.declared.answer.Judged.the-variants.{Fine, Refused}
-use Rattle.lookup.specs.Standing.{absent, wordAt, Lexemes, ClassesStand, no-classes, more-classes, World}
+use Rattle.lookup.specs.Standing.{absent, wordAt, Lexemes, ClassesStand, no-classes, more-classes}
 use Rattle.lookup.specs.StandingLaws.{word-in, row-there}
 use Rattle.lookup.specs.Lookups.{Many, many-none, many-more, Counts}
 use Rattle.lookup.specs.Answers.{settled, settled-fine, settled-refused, goes-on, stops}

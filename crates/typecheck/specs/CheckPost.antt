@@ -4,9 +4,9 @@ use mathlib.Core.Path.{_≡_}
 use mathlib.Core.List.{List, List·Memᴰ}
 use lib.ListN.{length}
 use Rattle.base.specs.Codes.{chainEndless}
-use Rattle.base.specs.Outcome.{Outcome, _>>=_}
+use Rattle.base.specs.Outcome.{_>>=_}
 use Rattle.lexer.specs.Tokens.{Token}
-use Rattle.parser.specs.Tree.{Class, Program}
+use Rattle.parser.specs.Tree.{Program}
 use Rattle.parser.specs.Grammar.{DerivesProgram}
 use Rattle.parser.specs.Layout.{rowClasses}
 use Rattle.parser.specs.Read.{Reading}

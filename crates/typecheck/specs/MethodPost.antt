@@ -3,7 +3,7 @@ use Prim.Native.Nat.{ℕ, _≤_}
 use mathlib.Core.Path.{_≡_}
 use mathlib.Core.List.{List}
 use lib.ListN.{length}
-use Rattle.base.specs.Outcome.{Outcome, _>>=_}
+use Rattle.base.specs.Outcome.{_>>=_}
 use Rattle.lexer.specs.Tokens.{Token}
 use Rattle.parser.specs.Tree.{Method, Class, Program}
 use Rattle.parser.specs.Layout.{rowMethods}

@@ -9,7 +9,7 @@ use Rattle.lookup.proofs.rows.word.Reads as word-reads
 use Rattle.bodies.proofs.expr.+same_count.{statement}
 use Rattle.bodies.proofs.expr.+same_count.Tie.{close}
 use borrow.Author.Needs.{needs}
-use Prim.Native.Nat.{_+_, _*_, _-_}
+use Prim.Native.Nat.{_+_, _-_}
 use Rattle.bodies.proofs.ExpressionLaws.{count-none, count-ends, count-short, count-next}
 
 abbrev μ-same-count : Measures 1 same-count-kinds.ps ℕ

@@ -2,10 +2,6 @@
 use borrow.Author.Needs.{needs}
 use Rattle.bodies.proofs.expr.atom.Statement.{statement}
 use Rattle.bodies.proofs.expr.atom.Tie as tie
-use Rattle.bodies.proofs.expr.atom.Reads as reads
-use Rattle.bodies.proofs.expr.atom.Lts as lts
-use Rattle.bodies.proofs.expr.name.Reads as name-reads
-use Rattle.bodies.proofs.expr.receiver.Reads as receiver-reads
 use Rattle.bodies.proofs.ExpressionLaws.{atom-literal, atom-true, atom-false, atom-this, atom-is-name}
 
 returns : tie.Need-returns

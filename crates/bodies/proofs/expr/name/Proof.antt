@@ -2,10 +2,6 @@
 use borrow.Author.Needs.{needs}
 use Rattle.bodies.proofs.expr.name.Statement.{statement}
 use Rattle.bodies.proofs.expr.name.Tie as tie
-use Rattle.bodies.proofs.expr.name.Reads as reads
-use Rattle.bodies.proofs.expr.name.Lts as lts
-use Rattle.bodies.proofs.scope.name_type.Reads as name-type-reads
-use Rattle.lookup.proofs.rows.word.Reads as word-reads
 use Rattle.bodies.proofs.ExpressionLaws.{name-known, name-unknown}
 
 word-requires : tie.Need-word-requires

@@ -2,10 +2,6 @@
 use borrow.Author.Needs.{needs}
 use Rattle.bodies.proofs.expr.new_object.Statement.{statement}
 use Rattle.bodies.proofs.expr.new_object.Tie as tie
-use Rattle.bodies.proofs.expr.new_object.Reads as reads
-use Rattle.bodies.proofs.expr.new_object.Lts as lts
-use Rattle.lookup.proofs.rows.word.Reads as word-reads
-use Rattle.lookup.proofs.types.known.Reads as known-reads
 use Rattle.bodies.proofs.ExpressionLaws.{object-known, object-unknown}
 
 add-word : tie.Need-add-word

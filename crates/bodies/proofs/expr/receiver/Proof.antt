@@ -2,9 +2,6 @@
 use borrow.Author.Needs.{needs}
 use Rattle.bodies.proofs.expr.receiver.Statement.{statement}
 use Rattle.bodies.proofs.expr.receiver.Tie as tie
-use Rattle.bodies.proofs.expr.receiver.Reads as reads
-use Rattle.bodies.proofs.expr.receiver.Lts as lts
-use Rattle.lookup.proofs.rows.word.Reads as word-reads
 use Rattle.bodies.proofs.ExpressionLaws.{this-main, this-object}
 
 word-requires : tie.Need-word-requires

@@ -2,10 +2,6 @@
 use borrow.Author.Needs.{needs}
 use Rattle.bodies.proofs.scope.name_type.Statement.{statement}
 use Rattle.bodies.proofs.scope.name_type.Tie as tie
-use Rattle.bodies.proofs.scope.name_type.Reads as reads
-use Rattle.bodies.proofs.scope.name_type.Lts as lts
-use Rattle.lookup.proofs.chain.field_type.Reads as field-type-reads
-use Rattle.lookup.proofs.member.variable_type.Reads as variable-type-reads
 use Rattle.bodies.proofs.ScopeLaws.{name-parameter, name-local, name-field}
 
 variable-type-requires : tie.Need-variable-type-requires

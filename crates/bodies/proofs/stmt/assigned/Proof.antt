@@ -2,13 +2,6 @@
 use borrow.Author.Needs.{needs}
 use Rattle.bodies.proofs.stmt.assigned.Statement.{statement}
 use Rattle.bodies.proofs.stmt.assigned.Tie as tie
-use Rattle.bodies.proofs.stmt.assigned.Reads as reads
-use Rattle.bodies.proofs.stmt.assigned.Lts as lts
-use Rattle.bodies.proofs.expr.operand.Reads as operand-reads
-use Rattle.bodies.proofs.stmt.index_and_value.Reads as index-and-value-reads
-use Rattle.lookup.proofs.chain.fits.Reads as fits-reads
-use Rattle.lookup.proofs.rows.word.Reads as word-reads
-use Rattle.parser.proofs.table.kind.Reads as kind-reads
 use Rattle.bodies.proofs.StatementLaws.{assigned-element, assigned-wrong, assigned-whole}
 
 add-kind : tie.Need-add-kind

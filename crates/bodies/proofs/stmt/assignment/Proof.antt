@@ -2,10 +2,6 @@
 use borrow.Author.Needs.{needs}
 use Rattle.bodies.proofs.stmt.assignment.Statement.{statement}
 use Rattle.bodies.proofs.stmt.assignment.Tie as tie
-use Rattle.bodies.proofs.stmt.assignment.Reads as reads
-use Rattle.bodies.proofs.stmt.assignment.Lts as lts
-use Rattle.bodies.proofs.expr.name.Reads as name-reads
-use Rattle.bodies.proofs.stmt.assigned.Reads as assigned-reads
 use Rattle.bodies.proofs.StatementLaws.{assignment-target, assignment-refused}
 
 name-requires : tie.Need-name-requires

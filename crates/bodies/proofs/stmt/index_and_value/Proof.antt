@@ -2,10 +2,6 @@
 use borrow.Author.Needs.{needs}
 use Rattle.bodies.proofs.stmt.index_and_value.Statement.{statement}
 use Rattle.bodies.proofs.stmt.index_and_value.Tie as tie
-use Rattle.bodies.proofs.stmt.index_and_value.Reads as reads
-use Rattle.bodies.proofs.stmt.index_and_value.Lts as lts
-use Rattle.bodies.proofs.expr.operand.Reads as operand-reads
-use Rattle.lookup.proofs.rows.word.Reads as word-reads
 use Rattle.bodies.proofs.StatementLaws.{value-second, value-first}
 
 word-requires : tie.Need-word-requires

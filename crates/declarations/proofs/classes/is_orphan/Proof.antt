@@ -2,9 +2,6 @@
 use borrow.Author.Needs.{needs}
 use Rattle.declarations.proofs.classes.is_orphan.Statement.{statement}
 use Rattle.declarations.proofs.classes.is_orphan.Tie as tie
-use Rattle.declarations.proofs.classes.is_orphan.Reads as reads
-use Rattle.declarations.proofs.classes.is_orphan.Lts as lts
-use Rattle.lookup.proofs.rows.word.Reads as word-reads
 use Rattle.declarations.proofs.ClassLaws.{orphan-none, orphan-is}
 
 word-requires : tie.Need-word-requires

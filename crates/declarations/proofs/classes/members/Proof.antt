@@ -2,12 +2,6 @@
 use borrow.Author.Needs.{needs}
 use Rattle.declarations.proofs.classes.members.Statement.{statement}
 use Rattle.declarations.proofs.classes.members.Tie as tie
-use Rattle.declarations.proofs.classes.members.Reads as reads
-use Rattle.declarations.proofs.classes.members.Lts as lts
-use Rattle.declarations.proofs.heads.heads.Reads as heads-reads
-use Rattle.declarations.proofs.variables.fields.Reads as fields-reads
-use Rattle.lookup.proofs.chain.above.Reads as above-reads
-use Rattle.lookup.proofs.rows.word.Reads as word-reads
 use Rattle.declarations.proofs.ClassLaws.{members-next, members-stop}
 
 word-requires : tie.Need-word-requires

@@ -2,10 +2,6 @@
 use borrow.Author.Needs.{needs}
 use Rattle.declarations.proofs.heads.head.Statement.{statement}
 use Rattle.declarations.proofs.heads.head.Tie as tie
-use Rattle.declarations.proofs.heads.head.Reads as reads
-use Rattle.declarations.proofs.heads.head.Lts as lts
-use Rattle.declarations.proofs.heads.opening.Reads as opening-reads
-use Rattle.declarations.proofs.heads.rest.Reads as rest-reads
 use Rattle.declarations.proofs.HeadLaws.{head-next, head-stop}
 
 opening-requires : tie.Need-opening-requires

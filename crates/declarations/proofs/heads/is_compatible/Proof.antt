@@ -2,11 +2,6 @@
 use borrow.Author.Needs.{needs}
 use Rattle.declarations.proofs.heads.is_compatible.Statement.{statement}
 use Rattle.declarations.proofs.heads.is_compatible.Tie as tie
-use Rattle.declarations.proofs.heads.is_compatible.Reads as reads
-use Rattle.declarations.proofs.heads.is_compatible.Lts as lts
-use Rattle.declarations.proofs.heads.redeclares.Reads as redeclares-reads
-use Rattle.lookup.proofs.chain.find_method.Reads as find-method-reads
-use Rattle.lookup.proofs.rows.word.Reads as word-reads
 use Rattle.declarations.proofs.HeadLaws.{compatible-empty, compatible-new, compatible-is}
 
 returns : tie.Need-returns

@@ -2,11 +2,6 @@
 use borrow.Author.Needs.{needs}
 use Rattle.declarations.proofs.heads.opening.Statement.{statement}
 use Rattle.declarations.proofs.heads.opening.Tie as tie
-use Rattle.declarations.proofs.heads.opening.Reads as reads
-use Rattle.declarations.proofs.heads.opening.Lts as lts
-use Rattle.declarations.proofs.variables.is_known.Reads as is-known-reads
-use Rattle.lookup.proofs.member.repeated.Reads as repeated-reads
-use Rattle.lookup.proofs.rows.word.Reads as word-reads
 use Rattle.declarations.proofs.HeadLaws.{opening-repeated, opening-fine, opening-unknown}
 
 word-requires : tie.Need-word-requires

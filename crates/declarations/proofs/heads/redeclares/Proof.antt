@@ -2,12 +2,6 @@
 use borrow.Author.Needs.{needs}
 use Rattle.declarations.proofs.heads.redeclares.Statement.{statement}
 use Rattle.declarations.proofs.heads.redeclares.Tie as tie
-use Rattle.declarations.proofs.heads.redeclares.Reads as reads
-use Rattle.declarations.proofs.heads.redeclares.Lts as lts
-use Rattle.declarations.proofs.heads.same_types.Reads as same-types-reads
-use Rattle.lookup.proofs.chain.fits.Reads as fits-reads
-use Rattle.lookup.proofs.rows.word.Reads as word-reads
-use Rattle.lookup.proofs.types.type_of.Reads as type-of-reads
 use Rattle.declarations.proofs.HeadLaws.{redeclares-fits, redeclares-not}
 
 word-requires : tie.Need-word-requires

@@ -2,11 +2,6 @@
 use borrow.Author.Needs.{needs}
 use Rattle.declarations.proofs.heads.rest.Statement.{statement}
 use Rattle.declarations.proofs.heads.rest.Tie as tie
-use Rattle.declarations.proofs.heads.rest.Reads as reads
-use Rattle.declarations.proofs.heads.rest.Lts as lts
-use Rattle.declarations.proofs.heads.is_compatible.Reads as is-compatible-reads
-use Rattle.declarations.proofs.variables.variables.Reads as variables-reads
-use Rattle.lookup.proofs.rows.word.Reads as word-reads
 use Rattle.declarations.proofs.HeadLaws.{rest-fine, rest-bad, rest-stop}
 
 word-requires : tie.Need-word-requires

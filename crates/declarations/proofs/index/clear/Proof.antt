@@ -1,9 +1,6 @@
 -- `clear` meets its contract: after i turns the first i rows are cleared.
 use Rattle.declarations.proofs.index.clear.Statement.{statement}
 use Rattle.declarations.proofs.index.clear.Tie as tie
-use Rattle.declarations.proofs.index.clear.Reads as reads
-use Rattle.declarations.proofs.index.clear.Lts as lts
-use Rattle.declarations.proofs.index.wipe.Reads as wipe-reads
 use borrow.Author.Needs.{needs}
 use Rattle.declarations.proofs.IndexLaws.{Clearing, clear-none, clear-more, clear-all}
 use Prim.Native.Nat.{_-_}

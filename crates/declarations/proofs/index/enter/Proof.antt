@@ -2,10 +2,7 @@
 use borrow.Author.Needs.{needs}
 use Rattle.declarations.proofs.index.enter.Statement.{statement}
 use Rattle.declarations.proofs.index.enter.Tie as tie
-use Rattle.declarations.proofs.index.enter.Reads as reads
-use Rattle.declarations.proofs.index.enter.Lts as lts
 use Rattle.declarations.proofs.IndexLaws.{enter-row, enter-none}
-use native.Mathlib.Omega.{arith}
 
 cast-table : tie.Need-cast-table
 cast-table c = search needs

@@ -2,11 +2,6 @@
 use borrow.Author.Needs.{needs}
 use Rattle.declarations.proofs.index.index.Statement.{statement}
 use Rattle.declarations.proofs.index.index.Tie as tie
-use Rattle.declarations.proofs.index.index.Reads as reads
-use Rattle.declarations.proofs.index.index.Lts as lts
-use Rattle.declarations.proofs.index.clear.Reads as clear-reads
-use Rattle.declarations.proofs.index.entries.Reads as entries-reads
-use Rattle.lookup.proofs.rows.word.Reads as word-reads
 use Rattle.declarations.proofs.IndexLaws.{index-is}
 
 clear-requires : tie.Need-clear-requires

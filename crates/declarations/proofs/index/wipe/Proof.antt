@@ -2,10 +2,7 @@
 use borrow.Author.Needs.{needs}
 use Rattle.declarations.proofs.index.wipe.Statement.{statement}
 use Rattle.declarations.proofs.index.wipe.Tie as tie
-use Rattle.declarations.proofs.index.wipe.Reads as reads
-use Rattle.declarations.proofs.index.wipe.Lts as lts
 use Rattle.declarations.proofs.IndexLaws.{wipe-row, wipe-not}
-use native.Mathlib.Omega.{arith}
 
 mul-if1 : tie.Need-mul-if1
 mul-if1 c = search needs

@@ -2,10 +2,6 @@
 use borrow.Author.Needs.{needs}
 use Rattle.declarations.proofs.variables.is_known.Statement.{statement}
 use Rattle.declarations.proofs.variables.is_known.Tie as tie
-use Rattle.declarations.proofs.variables.is_known.Reads as reads
-use Rattle.declarations.proofs.variables.is_known.Lts as lts
-use Rattle.lookup.proofs.types.known.Reads as known-reads
-use Rattle.lookup.proofs.types.type_of.Reads as type-of-reads
 use Rattle.declarations.proofs.VariableLaws.{known-at}
 
 type-of-requires : tie.Need-type-of-requires

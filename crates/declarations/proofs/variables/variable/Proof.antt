@@ -2,11 +2,6 @@
 use borrow.Author.Needs.{needs}
 use Rattle.declarations.proofs.variables.variable.Statement.{statement}
 use Rattle.declarations.proofs.variables.variable.Tie as tie
-use Rattle.declarations.proofs.variables.variable.Reads as reads
-use Rattle.declarations.proofs.variables.variable.Lts as lts
-use Rattle.declarations.proofs.variables.is_known.Reads as is-known-reads
-use Rattle.lookup.proofs.member.repeated.Reads as repeated-reads
-use Rattle.lookup.proofs.rows.word.Reads as word-reads
 use Rattle.declarations.proofs.VariableLaws.{variable-other, variable-twice, variable-fine, variable-many, variable-unknown}
 
 word-requires : tie.Need-word-requires

@@ -11,7 +11,6 @@ use Rattle.menu.proofs.menu.+list.{statement}
 use Rattle.menu.proofs.menu.+list.Tie.{close}
 use borrow.Author.Needs.{needs}
 use Rattle.menu.proofs.MenuLaws.{list-none, list-next}
-use native.Mathlib.Omega.{arith}
 
 abbrev μ-list : Measures 2 list-kinds.ps ℕ
 μ-list κs a = a .1 .1 .1 .0

@@ -2,10 +2,6 @@
 use borrow.Author.Needs.{needs}
 use Rattle.menu.proofs.menu.answer.Statement.{statement}
 use Rattle.menu.proofs.menu.answer.Tie as tie
-use Rattle.menu.proofs.menu.answer.Reads as reads
-use Rattle.menu.proofs.menu.answer.Lts as lts
-use Rattle.menu.proofs.menu.fill.Reads as fill-reads
-use Rattle.typecheck.proofs.check.find.Reads as find-reads
 use Rattle.menu.proofs.MenuLaws.{answer-found, answer-unfit}
 
 find-requires : tie.Need-find-requires

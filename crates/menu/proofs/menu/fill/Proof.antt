@@ -2,10 +2,6 @@
 use borrow.Author.Needs.{needs}
 use Rattle.menu.proofs.menu.fill.Statement.{statement}
 use Rattle.menu.proofs.menu.fill.Tie as tie
-use Rattle.menu.proofs.menu.fill.Reads as reads
-use Rattle.menu.proofs.menu.fill.Lts as lts
-use Rattle.lookup.proofs.rows.word.Reads as word-reads
-use Rattle.menu.proofs.menu.list.Reads as list-reads
 use Rattle.menu.proofs.MenuLaws.{fill-short, fill-long}
 
 returns : tie.Need-returns

@@ -2,10 +2,6 @@
 use borrow.Author.Needs.{needs}
 use Rattle.menu.proofs.menu.menu.Statement.{statement}
 use Rattle.menu.proofs.menu.menu.Tie as tie
-use Rattle.menu.proofs.menu.menu.Reads as reads
-use Rattle.menu.proofs.menu.menu.Lts as lts
-use Rattle.base.proofs.fill.zero_words.Reads as zero-words-reads
-use Rattle.menu.proofs.menu.answer.Reads as answer-reads
 use Rattle.menu.proofs.MenuLaws.{menu-short, menu-answer}
 use native.Mathlib.Omega.{arith}
 

@@ -2,10 +2,6 @@
 use borrow.Author.Needs.{needs}
 use Rattle.typecheck.proofs.check.chained.Statement.{statement}
 use Rattle.typecheck.proofs.check.chained.Tie as tie
-use Rattle.typecheck.proofs.check.chained.Reads as reads
-use Rattle.typecheck.proofs.check.chained.Lts as lts
-use Rattle.declarations.proofs.classes.chains.Reads as chains-reads
-use Rattle.typecheck.proofs.check.contents.Reads as contents-reads
 use Rattle.typecheck.proofs.VerdictLaws.{chained-contents, chained-refused}
 
 chains-requires : tie.Need-chains-requires

@@ -2,10 +2,6 @@
 use borrow.Author.Needs.{needs}
 use Rattle.typecheck.proofs.check.check.Statement.{statement}
 use Rattle.typecheck.proofs.check.check.Tie as tie
-use Rattle.typecheck.proofs.check.check.Reads as reads
-use Rattle.typecheck.proofs.check.check.Lts as lts
-use Rattle.base.proofs.fill.zero_words.Reads as zero-words-reads
-use Rattle.typecheck.proofs.check.find.Reads as find-reads
 use native.Mathlib.Omega.{arith}
 use mathlib.Core.Path.{refl}
 use Rattle.typecheck.proofs.VerdictLaws.{check-short, check-found, check-unfit}

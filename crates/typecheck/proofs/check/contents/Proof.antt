@@ -2,10 +2,6 @@
 use borrow.Author.Needs.{needs}
 use Rattle.typecheck.proofs.check.contents.Statement.{statement}
 use Rattle.typecheck.proofs.check.contents.Tie as tie
-use Rattle.typecheck.proofs.check.contents.Reads as reads
-use Rattle.typecheck.proofs.check.contents.Lts as lts
-use Rattle.declarations.proofs.classes.declarations.Reads as declarations-reads
-use Rattle.typecheck.proofs.method.bodies.Reads as bodies-reads
 use Rattle.typecheck.proofs.VerdictLaws.{contents-bodies, contents-refused}
 
 declarations-requires : tie.Need-declarations-requires

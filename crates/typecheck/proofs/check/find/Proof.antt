@@ -2,10 +2,6 @@
 use borrow.Author.Needs.{needs}
 use Rattle.typecheck.proofs.check.find.Statement.{statement}
 use Rattle.typecheck.proofs.check.find.Tie as tie
-use Rattle.typecheck.proofs.check.find.Reads as reads
-use Rattle.typecheck.proofs.check.find.Lts as lts
-use Rattle.reader.proofs.read.fill.Reads as fill-reads
-use Rattle.typecheck.proofs.check.tree.Reads as tree-reads
 use native.Mathlib.Omega.{arith}
 use Rattle.typecheck.proofs.VerdictLaws.{find-tree, find-refused, find-few}
 

@@ -2,12 +2,6 @@
 use borrow.Author.Needs.{needs}
 use Rattle.typecheck.proofs.check.indexed.Statement.{statement}
 use Rattle.typecheck.proofs.check.indexed.Tie as tie
-use Rattle.typecheck.proofs.check.indexed.Reads as reads
-use Rattle.typecheck.proofs.check.indexed.Lts as lts
-use Rattle.declarations.proofs.classes.parents.Reads as parents-reads
-use Rattle.lookup.proofs.member.count.Reads as count-reads
-use Rattle.lookup.proofs.rows.word.Reads as word-reads
-use Rattle.typecheck.proofs.check.chained.Reads as chained-reads
 use Rattle.typecheck.proofs.VerdictLaws.{indexed-found, indexed-later, indexed-refused}
 
 word-requires : tie.Need-word-requires

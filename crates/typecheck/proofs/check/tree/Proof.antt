@@ -2,10 +2,6 @@
 use borrow.Author.Needs.{needs}
 use Rattle.typecheck.proofs.check.tree.Statement.{statement}
 use Rattle.typecheck.proofs.check.tree.Tie as tie
-use Rattle.typecheck.proofs.check.tree.Reads as reads
-use Rattle.typecheck.proofs.check.tree.Lts as lts
-use Rattle.declarations.proofs.index.index.Reads as index-reads
-use Rattle.typecheck.proofs.check.indexed.Reads as indexed-reads
 use Rattle.typecheck.proofs.VerdictLaws.{tree-indexed, tree-refused}
 
 index-requires : tie.Need-index-requires

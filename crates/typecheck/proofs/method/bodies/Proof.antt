@@ -2,11 +2,6 @@
 use borrow.Author.Needs.{needs}
 use Rattle.typecheck.proofs.method.bodies.Statement.{statement}
 use Rattle.typecheck.proofs.method.bodies.Tie as tie
-use Rattle.typecheck.proofs.method.bodies.Reads as reads
-use Rattle.typecheck.proofs.method.bodies.Lts as lts
-use Rattle.bodies.proofs.stmt.single.Reads as single-reads
-use Rattle.lookup.proofs.rows.word.Reads as word-reads
-use Rattle.typecheck.proofs.method.all.Reads as all-reads
 use Rattle.typecheck.proofs.BodyLaws.{bodies-classes, bodies-main}
 
 single-requires : tie.Need-single-requires

@@ -2,12 +2,6 @@
 use borrow.Author.Needs.{needs}
 use Rattle.typecheck.proofs.method.body.Statement.{statement}
 use Rattle.typecheck.proofs.method.body.Tie as tie
-use Rattle.typecheck.proofs.method.body.Reads as reads
-use Rattle.typecheck.proofs.method.body.Lts as lts
-use Rattle.declarations.proofs.variables.variables.Reads as variables-reads
-use Rattle.lookup.proofs.member.count.Reads as count-reads
-use Rattle.lookup.proofs.rows.word.Reads as word-reads
-use Rattle.typecheck.proofs.method.carried.Reads as carried-reads
 use Rattle.typecheck.proofs.BodyLaws.{body-carried, body-refused}
 
 word-requires : tie.Need-word-requires

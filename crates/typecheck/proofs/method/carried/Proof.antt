@@ -2,12 +2,6 @@
 use borrow.Author.Needs.{needs}
 use Rattle.typecheck.proofs.method.carried.Statement.{statement}
 use Rattle.typecheck.proofs.method.carried.Tie as tie
-use Rattle.typecheck.proofs.method.carried.Reads as reads
-use Rattle.typecheck.proofs.method.carried.Lts as lts
-use Rattle.bodies.proofs.expr.operand.Reads as operand-reads
-use Rattle.bodies.proofs.stmt.list.Reads as list-reads
-use Rattle.lookup.proofs.rows.word.Reads as word-reads
-use Rattle.lookup.proofs.types.type_of.Reads as type-of-reads
 use Rattle.typecheck.proofs.BodyLaws.{carried-value, carried-refused}
 
 add-word : tie.Need-add-word
