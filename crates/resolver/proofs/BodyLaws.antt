@@ -1,0 +1,229 @@
+-- What the second pass meets: the names of a body lie between its method's row and the next one's, so that what is written for one body is not for another.
+use Prim.Native.Nat.{ℕ, _-_, _≤_, _<_}
+use native.Mathlib.Omega.{arith}
+use mathlib.Core.Path.{_≡_, refl, sym, ap, _∙_, subst}
+use mathlib.Core.List.{List, [], _∷_}
+use mathlib.Core.Bool.{Bool, true, false}
+use lib.ListN.{length}
+use lib.Dec.{ltb}
+use borrow.Author.Tests.{lt-ltb, le-ltb, ltb-false}
+use Rattle.base.specs.Choice.{if_then_else_}
+use Rattle.base.specs.Lists.{All, all-nil, all-cons}
+use Rattle.base.specs.Table.{rows, col}
+use Rattle.lexer.specs.Tokens.{Token}
+use Rattle.parser.specs.Tree.{Name, Sort, Part, Method, Class, Program}
+use Rattle.parser.specs.Tree.{Part.literal, Part.truth, Part.variable, Part.this, Part.newArray, Part.newObject, Part.negation, Part.binary, Part.element, Part.arrayLength, Part.call, Part.noArguments, Part.argument}
+use Rattle.parser.specs.Tree.{Part.block, Part.conditional, Part.loop, Part.print, Part.assign, Part.assignElement, Part.noStatements, Part.sequence}
+use Rattle.parser.specs.Layout.{rowMethods, rowClasses}
+use Rattle.checker.specs.ClassTable.{Context, mainContext, contextOf, meaning, classNamed}
+use Rattle.lookup.specs.Standing.{absent, wordAt, no-variables, MethodStands, MethodsStand, ClassesStand, rowClass}
+use Rattle.lookup.specs.Standing as Standing
+use Rattle.lookup.specs.StandingLaws.{word-in, row-there}
+use Rattle.resolver.specs.Uses.{Uses}
+use Rattle.resolver.specs.Resolving.{slotOf}
+use Rattle.resolver.specs.Changes.{uses, endOf, Changed, Within, Filled, Led, Headed, Linked}
+use Rattle.resolver.specs.Scoping.{ListedAt, meaningAt, NamesPost}
+use Rattle.resolver.specs.Bodies.{LiesIn, MethodsLie, no-methods, more-methods, ClassesLie, more-classes, Means, BodyMeans, BodyPost, MethodsDone, MethodsPost, ClassesDone, ClassesPost, BodiesDone, BodiesPost}
+use Rattle.resolver.proofs.ChangeLaws.{unchanged, then-changed, lexemes-few, methods-kept, classes-kept, used-named, linked-used, led-used}
+
+-- what holds of the names of a part by two reasons together
+pub uses-both : {P P′ R : ℕ → List ℕ → Type 0} {Q Q′ S : Name → Type 0} → ((r : ℕ) (x : List ℕ) → P r x → P′ r x → R r x) → ((c : Name) → Q c → Q′ c → S c)
+    → {s : Sort} (t : Part s) → Uses P Q t → Uses P′ Q′ t → Uses R S t
+unfolding Uses
+uses-both f g (literal p n) a b = tt
+uses-both f g (truth p v) a b = tt
+uses-both f g (variable p x) a b = f (p .row) x a b
+uses-both f g (this p) a b = tt
+uses-both f g (newArray p e) a b = uses-both f g e a b
+uses-both f g (newObject p c) a b = g c a b
+uses-both f g (negation p e) a b = uses-both f g e a b
+uses-both f g (binary p o l r) a b = (uses-both f g l (a .0) (b .0), uses-both f g r (a .1) (b .1))
+uses-both f g (element p l i) a b = (uses-both f g l (a .0) (b .0), uses-both f g i (a .1) (b .1))
+uses-both f g (arrayLength p l) a b = uses-both f g l a b
+uses-both f g (call p e m es) a b = (uses-both f g e (a .0) (b .0), uses-both f g es (a .1) (b .1))
+uses-both f g noArguments a b = tt
+uses-both f g (argument e es) a b = (uses-both f g e (a .0) (b .0), uses-both f g es (a .1) (b .1))
+uses-both f g (block p ss) a b = uses-both f g ss a b
+uses-both f g (conditional p e s t) a b = (uses-both f g e (a .0) (b .0), uses-both f g s (a .1) (b .1), uses-both f g t (a .2) (b .2))
+uses-both f g (loop p e s) a b = (uses-both f g e (a .0) (b .0), uses-both f g s (a .1) (b .1))
+uses-both f g (print p e) a b = uses-both f g e a b
+uses-both f g (assign p x e) a b = (f (p .row) x (a .0) (b .0), uses-both f g e (a .1) (b .1))
+uses-both f g (assignElement p x i e) a b = (f (p .row) x (a .0) (b .0), uses-both f g i (a .1) (b .1), uses-both f g e (a .2) (b .2))
+uses-both f g noStatements a b = tt
+uses-both f g (sequence s ss) a b = (uses-both f g s (a .0) (b .0), uses-both f g ss (a .1) (b .1))
+
+-- ONE BODY
+
+-- the variables of a part that lies in these rows have been done
+means : (ts : List Token) (G : List Class) (Γ : Context) {from to : ℕ} {tab tab′ : List ℕ} → Filled (uses ts) (meaningAt ts G Γ) from to tab tab′ → {s : Sort} (t : Part s) → LiesIn ts from to t → Means tab′ G Γ t
+means ts G Γ d t l = uses-both (λ r x a _. d .done r (a .within) ∙ ap (λ (y : List ℕ). slotOf (meaning G Γ y)) (a .token .spelt)) (λ c _ _. tt) t l l
+
+-- they stay, where only other rows change
+means-kept : (ts : List Token) (G : List Class) (Γ : Context) (from : ℕ) {to low high : ℕ} {tab tab′ : List ℕ} → length ts ≤ rows → to ≤ low → Changed (Within (uses ts) low high) tab tab′
+    → {s : Sort} (t : Part s) → LiesIn ts from to t → Means tab G Γ t → Means tab′ G Γ t
+means-kept ts G Γ from few apart x t l m =
+    uses-both (λ r y a b. x .others r (omega (arith, a .token .there)) (λ u. omega (arith, u .low, a .within .high)) ∙ b) (λ c _ _. tt) t l m
+
+pub body-is : {n classes owner row end parameters locals : ℕ} {tab after : List ℕ} → parameters ≡ wordAt tab 4 row → locals ≡ wordAt tab 5 row
+    → NamesPost (record { tokens = n; classes = classes; owner = owner; parameters = parameters; locals = locals }) row end tab after → BodyPost n classes owner row end tab after
+body-is {n} {classes} {owner} {row} {end} {parameters} {locals} {tab} {after} e₄ e₅ h = record { says = go }
+  where
+    go : (ts : List Token) (G : List Class) → Linked tab n ts G → length G ≡ classes → (c : List ℕ) → owner ≡ rowClass (classNamed G c)
+        → (m : Method) → m .name .row ≡ row → MethodStands tab n ts m → Filled (uses ts) (meaningAt ts G (contextOf c m)) row end tab after
+    go ts G w l c own m at s =
+        let there = row-there (w .tokens) (m .name .row) (s .head .name .token .there) in
+        h .says ts G (contextOf c m)
+        (record {
+          linked = w;
+          many = l;
+          declarer = own;
+          given = m .parameters;
+          own = m .locals;
+          seen = refl;
+          given-listed = record { at = sym (word-in tab 4 (m .name .row) there (s .first)) ∙ ap (wordAt tab 4) at ∙ sym e₄; stand = s .parameters; few = s .few-parameters };
+          own-listed = record { at = sym (word-in tab 5 (m .name .row) there (s .second)) ∙ ap (wordAt tab 5) at ∙ sym e₅; stand = s .locals; few = s .few-locals };
+        })
+
+-- METHODS
+
+pub end-next : (next whole : ℕ) → next < absent → (next ≡ endOf next whole) × (next ≤ 2048)
+unfolding endOf
+end-next next whole h = (rw (lt-ltb next absent h), omega arith)
+
+pub end-whole : (next whole : ℕ) → absent ≤ next → whole ≤ 2048 → (whole ≡ endOf next whole) × (whole ≤ 2048)
+unfolding endOf
+end-whole next whole h h′ = (rw (le-ltb next absent h), h′)
+
+-- a declaration ends before the next
+end-before : (next whole : ℕ) → whole ≤ 2048 → endOf next whole ≤ next
+unfolding endOf
+end-before next whole h = go (ltb next absent) refl
+  where
+    go : (b : Bool) → ltb next absent ≡ b → (if b then (λ _. next) else λ _. whole) ≤ next
+    go true e = omega arith
+    go false e = omega (arith, ltb-false next absent e)
+
+bodies-kept : {ts : List Token} (G : List Class) (c : List ℕ) {end low high : ℕ} {tab tab′ : List ℕ} → length ts ≤ rows → end ≤ low → Changed (Within (uses ts) low high) tab tab′
+    → {ms : List Method} → MethodsLie ts end ms → All (BodyMeans tab G c) ms → All (BodyMeans tab′ G c) ms
+bodies-kept G c few apart x no-methods all-nil = all-nil
+bodies-kept {ts} G c few apart x (more-methods {m} {ms} _ o lb lv ls) (all-cons b bs) =
+    all-cons
+    (record {
+      body = means-kept ts G (contextOf c m) (m .name .row) few (omega arith) x (m .body) lb (b .body);
+      value = means-kept ts G (contextOf c m) (m .name .row) few (omega arith) x (m .value) lv (b .value);
+    })
+    (bodies-kept G c few apart x ls bs)
+
+module _ {n classes owner left row end : ℕ} {tab : List ℕ} where
+  pub methods-none-left : left ≡ 0 → MethodsPost n classes owner left row end tab tab
+  methods-none-left e = record { says = λ ts G w l c own ms at s few lies. go ts G c ms few }
+    where
+      go : (ts : List Token) (G : List Class) (c : List ℕ) (ms : List Method) → length ms ≤ left → MethodsDone ts G c row end tab tab ms
+      go ts G c [] few = record { changed = unchanged tab; bodies = all-nil }
+      go ts G c (m ∷ ms) few = absurd (omega arith)
+
+  pub methods-absent : absent ≤ row → MethodsPost n classes owner left row end tab tab
+  methods-absent far = record { says = λ ts G w l c own ms at s few lies. go ts G w c ms at s }
+    where
+      go : (ts : List Token) (G : List Class) → Linked tab n ts G → (c : List ℕ) (ms : List Method) → rowMethods ms ≡ row → MethodsStand tab n ts ms → MethodsDone ts G c row end tab tab ms
+      go ts G w c [] at s = record { changed = unchanged tab; bodies = all-nil }
+      go ts G w c (m ∷ ms) at (Standing.more-methods h e₆ hs) = absurd (omega (arith, at, row-there (w .tokens) (m .name .row) (h .head .name .token .there)))
+
+  pub methods-next : (left ≡ 0 → ⊥) → row < absent → end ≤ 2048 → {next stop : ℕ} → next ≡ wordAt tab 6 row → stop ≡ endOf next end → {tab₁ tab₂ : List ℕ}
+      → BodyPost n classes owner row stop tab tab₁ → MethodsPost n classes owner (left - 1) next end tab₁ tab₂ → MethodsPost n classes owner left row end tab tab₂
+  methods-next more near short {next} {stop} e₆ es {tab₁} {tab₂} p ps = record { says = go }
+    where
+      go : (ts : List Token) (G : List Class) → Linked tab n ts G → length G ≡ classes → (c : List ℕ) → owner ≡ rowClass (classNamed G c)
+          → (ms : List Method) → rowMethods ms ≡ row → MethodsStand tab n ts ms → length ms ≤ left → MethodsLie ts end ms → MethodsDone ts G c row end tab tab₂ ms
+      go ts G w l c own [] at s few lies = absurd (omega (arith, at))
+      go ts G w l c own (m ∷ ms) at (Standing.more-methods h c₆ hs) few (more-methods rises o lb lv ls) =
+          let short-ts = lexemes-few (w .tokens) in
+          let next-row : rowMethods ms ≡ next = sym (word-in tab 6 (m .name .row) (row-there (w .tokens) (m .name .row) (h .head .name .token .there)) c₆) ∙ ap (wordAt tab 6) at ∙ sym e₆ in
+          let stops : endOf (rowMethods ms) end ≡ stop = ap (λ (i : ℕ). endOf i end) next-row ∙ sym es in
+          let before = end-before next end short in
+          let d = p .says ts G w l c own m at h in
+          let d′ = ps .says ts G (linked-used ts (λ r u. u .test) (d .changed) w) l c own ms next-row (methods-kept ts (used-named ts (λ r u. u .test)) short-ts (d .changed) hs) (omega arith) ls in
+          let in-body = subst (λ (i : ℕ). LiesIn ts i stop (m .body)) at (subst (λ (j : ℕ). LiesIn ts (m .name .row) j (m .body)) stops lb) in
+          let in-value = subst (λ (i : ℕ). LiesIn ts i stop (m .value)) at (subst (λ (j : ℕ). LiesIn ts (m .name .row) j (m .value)) stops lv) in
+          record {
+            changed = then-changed (d .changed) (d′ .changed)
+                (λ r u. record { low = u .low; high = omega (arith, u .high); test = u .test }) (λ r u. record { low = omega (arith, u .low); high = u .high; test = u .test });
+            bodies = all-cons
+                (record {
+                  body = means-kept ts G (contextOf c m) row short-ts (omega arith) (d′ .changed) (m .body) in-body (means ts G (contextOf c m) d (m .body) in-body);
+                  value = means-kept ts G (contextOf c m) row short-ts (omega arith) (d′ .changed) (m .value) in-value (means ts G (contextOf c m) d (m .value) in-value);
+                })
+                (d′ .bodies);
+          }
+
+-- CLASSES
+
+module _ {n classes left row : ℕ} {tab : List ℕ} where
+  pub classes-none-left : left ≡ 0 → ClassesPost n classes left row tab tab
+  classes-none-left e = record { says = λ ts G w f l ks at s hs few lies. go ts G ks few }
+    where
+      go : (ts : List Token) (G : List Class) (ks : List Class) → length ks ≤ left → ClassesDone ts G row n tab tab ks
+      go ts G [] few = record { changed = unchanged tab; bodies = all-nil }
+      go ts G (k ∷ ks) few = absurd (omega arith)
+
+  pub classes-absent : absent ≤ row → ClassesPost n classes left row tab tab
+  classes-absent far = record { says = λ ts G w f l ks at s hs few lies. go ts G w ks at s }
+    where
+      go : (ts : List Token) (G : List Class) → Linked tab n ts G → (ks : List Class) → rowClasses ks ≡ row → ClassesStand tab n ts ks → ClassesDone ts G row n tab tab ks
+      go ts G w [] at s = record { changed = unchanged tab; bodies = all-nil }
+      go ts G w (k ∷ ks) at (Standing.more-classes h e₆ hs) = absurd (omega (arith, at, row-there (w .tokens) (k .name .row) (h .named .token .there)))
+
+  pub classes-next : (left ≡ 0 → ⊥) → row < absent → n ≤ 2048 → {next owner first stop : ℕ} → next ≡ wordAt tab 6 row → owner ≡ wordAt tab 7 row → first ≡ wordAt tab 5 row
+      → stop ≡ endOf next n → {tab₁ tab₂ : List ℕ} → MethodsPost n classes owner n first stop tab tab₁ → ClassesPost n classes (left - 1) next tab₁ tab₂
+      → ClassesPost n classes left row tab tab₂
+  classes-next more near short {next} {owner} {first} {stop} e₆ e₇ e₅ es {tab₁} {tab₂} p ps = record { says = go }
+    where
+      go : (ts : List Token) (G : List Class) → Linked tab n ts G → Led tab ts G → length G ≡ classes
+          → (ks : List Class) → rowClasses ks ≡ row → ClassesStand tab n ts ks → All (Headed ts) ks → length ks ≤ left → ClassesLie ts n ks → ClassesDone ts G row n tab tab₂ ks
+      go ts G w f l [] at s hs few lies = absurd (omega (arith, at))
+      go ts G w f l (k ∷ ks) at (Standing.more-classes s c₆ ss) (all-cons h hs) few (more-classes low rises o lm ls) =
+          let short-ts = lexemes-few (w .tokens) in
+          let c = k .name .text in
+          let there = row-there (w .tokens) (k .name .row) (s .named .token .there) in
+          let next-row : rowClasses ks ≡ next = sym (word-in tab 6 (k .name .row) there c₆) ∙ ap (wordAt tab 6) at ∙ sym e₆ in
+          let stops : endOf (rowClasses ks) n ≡ stop = ap (λ (i : ℕ). endOf i n) next-row ∙ sym es in
+          let before = end-before next n short in
+          let own : owner ≡ rowClass (classNamed G c) = e₇ ∙ ap (wordAt tab 7) (sym at) ∙ word-in tab 7 (k .name .row) there (f (k .name .row) (s .named .token .named) (h .opened)) ∙ ap (λ (x : List ℕ). rowClass (classNamed G x)) (s .named .token .spelt) in
+          let first-row : rowMethods (k .methods) ≡ first = sym (word-in tab 5 (k .name .row) there (s .second)) ∙ ap (wordAt tab 5) at ∙ sym e₅ in
+          let in-class = subst (λ (j : ℕ). MethodsLie ts j (k .methods)) stops lm in
+          let d = p .says ts G w l c own (k .methods) first-row (s .methods) (s .few-methods) in-class in
+          let d′ = ps .says ts G (linked-used ts (λ r u. u .test) (d .changed) w) (led-used ts (λ r u. u .test) G short-ts (d .changed) f) l ks next-row
+          (classes-kept ts (used-named ts (λ r u. u .test)) short-ts (d .changed) ss) hs (omega arith) ls in
+          record {
+            changed = then-changed (d .changed) (d′ .changed)
+                (λ r u. record { low = omega (arith, u .low); high = omega (arith, u .high); test = u .test }) (λ r u. record { low = omega (arith, u .low); high = u .high; test = u .test });
+            bodies = all-cons (bodies-kept G c short-ts (omega arith) (d′ .changed) in-class (d .bodies)) (d′ .bodies);
+          }
+
+-- THE PROGRAM
+
+pub bodies-all : {n classes first stop : ℕ} {tab tab₁ tab₂ : List ℕ} → n ≤ 2048 → first ≡ wordAt tab 6 0 → stop ≡ endOf first n
+    → NamesPost (record { tokens = n; classes = classes; owner = 2048; parameters = 2048; locals = 2048 }) 14 stop tab tab₁ → ClassesPost n classes classes first tab₁ tab₂
+    → BodiesPost n classes tab tab₂
+bodies-all {n} {classes} {first} {stop} {tab} {tab₁} {tab₂} short e₆ es p ps = record { says = go }
+  where
+    go : (ts : List Token) (p : Program) → Linked tab n ts (p .classes) → Led tab ts (p .classes) → length (p .classes) ≡ classes
+        → col tab 6 0 ≡ rowClasses (p .classes) → endOf (rowClasses (p .classes)) n ≤ n → LiesIn ts 14 (endOf (rowClasses (p .classes)) n) (p .statement)
+        → ClassesLie ts n (p .classes) → BodiesDone ts n tab tab₂ p
+    go ts q w f l at o lm ls =
+        let G = q .classes in
+        let short-ts = lexemes-few (w .tokens) in
+        let first-row : rowClasses G ≡ first = sym at ∙ sym (word-in tab 6 0 (omega arith) refl) ∙ sym e₆ in
+        let stops : endOf (rowClasses G) n ≡ stop = ap (λ (i : ℕ). endOf i n) first-row ∙ sym es in
+        let before = end-before first n short in
+        let nowhere : ListedAt tab n ts 2048 [] = record { at = refl; stand = no-variables; few = omega arith } in
+        let d = p .says ts G mainContext
+        (record { linked = w; many = l; declarer = refl; given = []; own = []; seen = refl; given-listed = nowhere; own-listed = nowhere }) in
+        let d′ = ps .says ts G (linked-used ts (λ r u. u .test) (d .changed) w) (led-used ts (λ r u. u .test) G short-ts (d .changed) f) l G first-row
+        (classes-kept ts (used-named ts (λ r u. u .test)) short-ts (d .changed) (w .classes)) (w .headed) (omega arith) ls in
+        let in-main = subst (λ (j : ℕ). LiesIn ts 14 j (q .statement)) stops lm in
+        record {
+          changed = then-changed (d .changed) (d′ .changed) (λ r u. u .test) (λ r u. u .test);
+          main = means-kept ts G mainContext 14 short-ts (omega arith) (d′ .changed) (q .statement) in-main (means ts G mainContext d (q .statement) in-main);
+          bodies = d′ .bodies;
+        }
