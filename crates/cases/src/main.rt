@@ -1,11 +1,15 @@
 // Answers cases from standard input, a line each: the first word of a line names an operation, the others are what it is given.
 // A line that is no case is answered by what is wrong with it, an empty line is passed over.
 mod fields;
+mod lent;
+mod menu_case;
+mod operation;
 mod output;
-mod read;
 mod source;
 mod strip;
+mod table_only;
 
+use crate::operation::Name;
 use crate::output::Wrong;
 use libc::STDIN_FILENO;
 
@@ -16,14 +20,11 @@ const LINE_MOST: usize = 40100;
 const SOURCE_MOST: usize = 20000;
 
 // The longest table. Document 01 asks for 16,384 words; what is longer must be wiped as well.
-// With the line and the source this leaves most of a stack of 1 MiB free.
 const TABLE_MOST: usize = 20000;
 
-// What an operation's name stands for.
-enum Operation {
-    Read,
-    Unknown,
-}
+// The longest strip: a word for each token, which is more than there can be classes, so the rest of it can be looked at too.
+// With the line, the source and the table this leaves most of a stack of 1 MiB free.
+const STRIP_MOST: usize = 2048;
 
 // What came of one read of the input: how many bytes of a line wait for the rest of it; or the input is over.
 enum Taken {
@@ -31,30 +32,22 @@ enum Taken {
     End,
 }
 
-// The operation that the first word of a line names.
-fn operation_of(line: &[u8]) -> Operation {
-    if fields::is_first(line, b"read") {
-        return Operation::Read;
-    }
-    Operation::Unknown
-}
-
 // Answers a line.
-fn answer(line: &[u8], source: &mut [u8], table: &mut [u32]) {
+fn answer(line: &[u8], source: &mut [u8], table: &mut [u32], strip: &mut [u32]) {
     if line.len() == 0 {
         return;
     }
-    let o = operation_of(line);
-    match o {
-        Operation::Read => read::answer(line, source, table),
-        Operation::Unknown => output::refuse(Wrong::Operation),
+    let n = operation::named(line);
+    match n {
+        Name::Of(o) => lent::answer(o, line, source, table, strip),
+        Name::Unknown => output::refuse(Wrong::Operation),
     }
 }
 
 // Answers the line whose bytes are the first `n` of `line`. Where the buffer is full, the rest of the line may be lost.
-fn answer_first(line: &[u8], n: usize, source: &mut [u8], table: &mut [u32]) {
+fn answer_first(line: &[u8], n: usize, source: &mut [u8], table: &mut [u32], strip: &mut [u32]) {
     if n < line.len() {
-        answer(&line[..n], source, table);
+        answer(&line[..n], source, table, strip);
         return;
     }
     output::refuse(Wrong::LineLength);
@@ -70,9 +63,16 @@ fn push(line: &mut [u8], n: usize, b: u8) -> usize {
 }
 
 // Takes one byte of the input: it belongs to the line, or ends it. Answers how many bytes of a line wait then.
-fn take(b: u8, line: &mut [u8], n: usize, source: &mut [u8], table: &mut [u32]) -> usize {
+fn take(
+    b: u8,
+    line: &mut [u8],
+    n: usize,
+    source: &mut [u8],
+    table: &mut [u32],
+    strip: &mut [u32],
+) -> usize {
     if b == b'\n' {
-        answer_first(line, n, source, table);
+        answer_first(line, n, source, table, strip);
         return 0;
     }
     push(line, n, b)
@@ -85,18 +85,25 @@ fn take_all(
     n: usize,
     source: &mut [u8],
     table: &mut [u32],
+    strip: &mut [u32],
 ) -> usize {
     let mut waiting = n;
     let mut i: usize = 0;
     while i < chunk.len() {
-        waiting = take(chunk[i], line, waiting, source, table);
+        waiting = take(chunk[i], line, waiting, source, table, strip);
         i += 1;
     }
     waiting
 }
 
 // Reads once, and takes what came. At the end of the input the last line may lack its line feed; where the input fails, a line that has only begun is no case.
-fn take_some(line: &mut [u8], n: usize, source: &mut [u8], table: &mut [u32]) -> Taken {
+fn take_some(
+    line: &mut [u8],
+    n: usize,
+    source: &mut [u8],
+    table: &mut [u32],
+    strip: &mut [u32],
+) -> Taken {
     let mut chunk = io::buffer();
     let got = libc::read(STDIN_FILENO, &mut chunk);
     if got < 0 {
@@ -104,20 +111,20 @@ fn take_some(line: &mut [u8], n: usize, source: &mut [u8], table: &mut [u32]) ->
         return Taken::End;
     }
     if got == 0 {
-        answer_first(line, n, source, table);
+        answer_first(line, n, source, table, strip);
         return Taken::End;
     }
     let count = io::count(got, &chunk);
-    Taken::Some(take_all(&chunk[..count], line, n, source, table))
+    Taken::Some(take_all(&chunk[..count], line, n, source, table, strip))
 }
 
 // Answers every line of the input. Nothing says that the input ends, so the loop counts its turns down, from a number that no run uses up.
-fn serve(line: &mut [u8], source: &mut [u8], table: &mut [u32]) {
+fn serve(line: &mut [u8], source: &mut [u8], table: &mut [u32], strip: &mut [u32]) {
     let mut waiting: usize = 0;
     let mut turns = u64::MAX;
     while turns > 0 {
         turns -= 1;
-        let t = take_some(line, waiting, source, table);
+        let t = take_some(line, waiting, source, table, strip);
         match t {
             Taken::Some(n) => {
                 waiting = n;
@@ -134,5 +141,6 @@ fn main() {
     let mut line = [0u8; LINE_MOST];
     let mut source = [0u8; SOURCE_MOST];
     let mut table = [0u32; TABLE_MOST];
-    serve(&mut line, &mut source, &mut table);
+    let mut strip = [0u32; STRIP_MOST];
+    serve(&mut line, &mut source, &mut table, &mut strip);
 }

@@ -13,7 +13,7 @@ pub fn fill(words: &mut [u32], value: u32) {
 }
 
 // Whether every word is `value`.
-fn holds(words: &[u32], value: u32) -> bool {
+pub fn holds(words: &[u32], value: u32) -> bool {
     let mut i: usize = 0;
     while i < words.len() {
         if words[i] != value {

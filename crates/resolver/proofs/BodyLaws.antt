@@ -209,7 +209,7 @@ bodies-all {n} {classes} {first} {stop} {tab} {tab₁} {tab₂} short e₆ es p 
   where
     go : (ts : List Token) (p : Program) → Linked tab n ts (p .classes) → Led tab ts (p .classes) → length (p .classes) ≡ classes
         → col tab 6 0 ≡ rowClasses (p .classes) → endOf (rowClasses (p .classes)) n ≤ n → LiesIn ts 14 (endOf (rowClasses (p .classes)) n) (p .statement)
-        → ClassesLie ts n (p .classes) → BodiesDone ts n tab tab₂ p
+        → ClassesLie ts n (p .classes) → BodiesDone ts tab tab₂ p
     go ts q w f l at o lm ls =
         let G = q .classes in
         let short-ts = lexemes-few (w .tokens) in

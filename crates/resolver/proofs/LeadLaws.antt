@@ -60,6 +60,7 @@ index-kept {i = i} {ts} G lx h ix c number sp =
       | no n ↦ h .changed .others number (row-there lx number (sp .there)) (λ w. n (w .high)) ∙ ix c number sp
     ]
 
+-- the rows before i are done
 pub record SpreadUpTo (n i : ℕ) (before now : List ℕ) : Type 0 where
   pub turns : Turns 0 n i before now
   pub so-far : SpreadPost n i before now

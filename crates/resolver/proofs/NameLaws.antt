@@ -59,6 +59,7 @@ module _ {tab : List ℕ} {s : Scope} {i k next : ℕ} (kind : k ≡ kindIn tab 
 
 -- THE ROWS BETWEEN TWO
 
+-- the rows before i are done
 pub record NamesUpTo (s : Scope) (from to i : ℕ) (before now : List ℕ) : Type 0 where
   pub turns : Turns from to i before now
   pub so-far : NamesPost s from i before now

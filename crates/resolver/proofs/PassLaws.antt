@@ -27,6 +27,7 @@ turns-more lt h l = record { low = omega (arith, h .low); most = inl (omega arit
 
 -- ROWS
 
+-- with another end
 below : {T : ℕ → Bool} {from i to r : ℕ} → Within T from i r → r < to → Within T from to r
 below w h = record { low = w .low; high = h; test = w .test }
 

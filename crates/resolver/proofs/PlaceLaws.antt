@@ -18,6 +18,7 @@ use Rattle.typing.specs.Choices.{none-some}
 use Rattle.typing.specs.Chains.{all-classes}
 use Rattle.lookup.specs.Standing.{absent, wordAt, Lexemes, Spells, VariablesStand, no-variables, more-variables, ClassStands, rowClass, classOf, chainFrom, parentName}
 use Rattle.lookup.specs.StandingLaws.{word-in, word-out, name-word, row-there, same-names, other-names, all-stand}
+use Rattle.lookup.specs.ChainLaws.{chain-none-left, chain-none, chain-some}
 use Rattle.lookup.specs.Lookups.{Many, many-none, many-more, Counts}
 use Rattle.resolver.specs.Resolving.{ParentLed, objectSlot}
 use Rattle.resolver.specs.Changes.{Linked}
@@ -88,30 +89,6 @@ place-below (v ∷ vs) x {s} e = go (same (v .name .text) x) (variableNamed vs x
     go false (some t) f h = let z : 1 + t .place ≡ s .place = cc in omega (arith, z, f t refl)
 
 -- CHAINS
-
-chain-none-left : (G : List Class) (name : Option (List ℕ)) → chainFrom 0 G name ≡ []
-unfolding chainWithin
-chain-none-left G none = refl
-chain-none-left G (some c) = refl
-
-chain-none : (left : ℕ) (G : List Class) (name : Option (List ℕ)) → classOf G name ≡ none → chainFrom left G name ≡ []
-unfolding chainWithin
-chain-none left G none e = refl
-chain-none zero G (some c) e = refl
-chain-none (suc left) G (some c) e = rw e
-
-up : (left : ℕ) (G : List Class) (p : Option Name) → option p [] (λ q. chainWithin left G (q .text)) ≡ chainFrom left G (parentName p)
-up left G none = refl
-up left G (some q) = refl
-
-chain-some : (left : ℕ) (G : List Class) (name : Option (List ℕ)) {k : Class} → (left ≡ 0 → ⊥) → classOf G name ≡ some k
-    → chainFrom left G name ≡ k ∷ chainFrom (left - 1) G (parentName (k .parent))
-unfolding chainWithin
-chain-some left G none n e = absurd (none-some refl e)
-chain-some zero G (some c) n e = absurd (n refl)
-chain-some (suc left) G (some c) {k} n e =
-    let z : suc left - 1 ≡ left = omega arith in
-    rw (e, z) (ap (λ (ks : List Class). k ∷ ks) (up left G (k .parent)))
 
 -- the class in a row to which a name leads
 data Climbs (tab : List ℕ) (n : ℕ) (ts : List Token) (G : List Class) (name : Option (List ℕ)) (row : ℕ) : Type 0 where

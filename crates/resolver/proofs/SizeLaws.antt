@@ -66,6 +66,7 @@ module _ {tab : List ℕ} {n classes i before k next : ℕ} (kind₀ : before �
 
 -- ALL ROWS
 
+-- the rows before i are done
 pub record SizesUpTo (n classes i : ℕ) (before now : List ℕ) : Type 0 where
   pub turns : Turns 1 n i before now
   pub so-far : SizesPost n classes i before now

@@ -19,12 +19,13 @@ use Rattle.resolver.specs.Scoping.{meaningAt}
 
 -- WHERE BODIES LIE
 
--- a name after `new`
+-- the name after `new`
 pub record NewName (ts : List Token) (c : Name) : Type 0 where
   pub token : NameIs ts (c .row) (c .text)
   pub opened : Opened ts (c .row)
   pub other : heads ts (c .row) ≡ false
 
+-- a variable between two rows
 pub record VariableName (ts : List Token) (from to row : ℕ) (x : List ℕ) : Type 0 where
   pub token : NameIs ts row x
   pub within : Within (uses ts) from to row
@@ -74,7 +75,7 @@ pub record ClassesPost (n classes left row : ℕ) (before after : List ℕ) : Ty
   pub says : (ts : List Token) (G : List Class) → Linked before n ts G → Led before ts G → length G ≡ classes
       → (ks : List Class) → rowClasses ks ≡ row → ClassesStand before n ts ks → All (Headed ts) ks → length ks ≤ left → ClassesLie ts n ks → ClassesDone ts G row n before after ks
 
-pub record BodiesDone (ts : List Token) (n : ℕ) (before after : List ℕ) (p : Program) : Type 0 where
+pub record BodiesDone (ts : List Token) (before after : List ℕ) (p : Program) : Type 0 where
   pub changed : Changed (λ r. uses ts r ≡ true) before after
   pub main : Means after (p .classes) mainContext (p .statement)
   pub bodies : All (λ k. All (BodyMeans after (p .classes) (k .name .text)) (k .methods)) (p .classes)
@@ -82,4 +83,4 @@ pub record BodiesDone (ts : List Token) (n : ℕ) (before after : List ℕ) (p :
 pub record BodiesPost (n classes : ℕ) (before after : List ℕ) : Type 0 where
   pub says : (ts : List Token) (p : Program) → Linked before n ts (p .classes) → Led before ts (p .classes) → length (p .classes) ≡ classes
       → col before 6 0 ≡ rowClasses (p .classes) → endOf (rowClasses (p .classes)) n ≤ n → LiesIn ts 14 (endOf (rowClasses (p .classes)) n) (p .statement)
-      → ClassesLie ts n (p .classes) → BodiesDone ts n before after p
+      → ClassesLie ts n (p .classes) → BodiesDone ts before after p

@@ -18,6 +18,9 @@ same-length c = search needs
 same-length-2 : tie.Need-same-length-2
 same-length-2 c = search needs
 
+same-length-3 : tie.Need-same-length-3
+same-length-3 c = search needs
+
 returns : tie.Need-returns
 returns c = search needs
 
@@ -35,6 +38,7 @@ answer-first-spec =
     answer-requires
     same-length
     same-length-2
+    same-length-3
     returns
     refuse-requires
     returns-2)

@@ -6,10 +6,11 @@ use Rattle.cases.proofs.serve.Statement.{statement}
 use Rattle.cases.proofs.serve.Tie as tie
 
 abbrev Inv-loop : tie.InvT-loop
-Inv-loop line₀ source₀ table₀ waiting₀ turns₀ line source table waiting turns = (length line ≡ length line₀) × (length source ≡ length source₀) × (length table ≡ length table₀)
+Inv-loop line₀ source₀ table₀ strip₀ waiting₀ turns₀ line source table strip waiting turns =
+    (length line ≡ length line₀) × (length source ≡ length source₀) × (length table ≡ length table₀) × (length strip ≡ length strip₀)
 
 abbrev μ-loop : tie.MeasureT-loop
-μ-loop line₀ source₀ table₀ waiting₀ turns₀ line source table waiting turns = turns
+μ-loop line₀ source₀ table₀ strip₀ waiting₀ turns₀ line source table strip waiting turns = turns
 
 loop-holds : tie.Need-loop-holds Inv-loop μ-loop
 loop-holds c = search needs
@@ -47,6 +48,9 @@ same-length-2 c = search needs
 same-length-3 : tie.Need-same-length-3 Inv-loop μ-loop
 same-length-3 c = search needs
 
+same-length-4 : tie.Need-same-length-4 Inv-loop μ-loop
+same-length-4 c = search needs
+
 returns : tie.Need-returns Inv-loop μ-loop
 returns c = search needs
 
@@ -68,4 +72,5 @@ serve-spec =
     same-length
     same-length-2
     same-length-3
+    same-length-4
     returns)

@@ -7,10 +7,11 @@ use Rattle.cases.proofs.take_all.Statement.{statement}
 use Rattle.cases.proofs.take_all.Tie as tie
 
 abbrev Inv-loop : tie.InvT-loop
-Inv-loop chunk line₀ n source₀ table₀ waiting₀ i₀ line source table waiting i = (length line ≡ length line₀) × (length source ≡ length source₀) × (length table ≡ length table₀)
+Inv-loop chunk line₀ n source₀ table₀ strip₀ waiting₀ i₀ line source table strip waiting i =
+    (length line ≡ length line₀) × (length source ≡ length source₀) × (length table ≡ length table₀) × (length strip ≡ length strip₀)
 
 abbrev μ-loop : tie.MeasureT-loop
-μ-loop chunk line₀ n source₀ table₀ waiting₀ i₀ line source table waiting i = length chunk - i
+μ-loop chunk line₀ n source₀ table₀ strip₀ waiting₀ i₀ line source table strip waiting i = length chunk - i
 
 loop-holds : tie.Need-loop-holds Inv-loop μ-loop
 loop-holds c = search needs
@@ -39,6 +40,9 @@ same-length-2 c = search needs
 same-length-3 : tie.Need-same-length-3 Inv-loop μ-loop
 same-length-3 c = search needs
 
+same-length-4 : tie.Need-same-length-4 Inv-loop μ-loop
+same-length-4 c = search needs
+
 returns : tie.Need-returns Inv-loop μ-loop
 returns c = search needs
 
@@ -57,4 +61,5 @@ take-all-spec =
     same-length
     same-length-2
     same-length-3
+    same-length-4
     returns)

@@ -1,10 +1,13 @@
--- `cases::read::with_table` is safe: the part of the space that is lent is as long as the test before it says.
+-- `cases::lent::with_strip` is safe: the part of the space that is lent is as long as the test before it says.
 use native.Mathlib.Omega.{arith}
 use mathlib.Core.Path.{sym}
 use lib.Seq.{length-take-le}
 use borrow.Author.Needs.{needs}
-use Rattle.cases.proofs.read.with_table.Statement.{statement}
-use Rattle.cases.proofs.read.with_table.Tie as tie
+use Rattle.cases.proofs.lent.with_strip.Statement.{statement}
+use Rattle.cases.proofs.lent.with_strip.Tie as tie
+
+source-word-requires : tie.Need-source-word-requires
+source-word-requires c κs = search needs
 
 size-at-requires : tie.Need-size-at-requires
 size-at-requires c κs = search needs
@@ -36,6 +39,9 @@ same-length c = search needs
 same-length-2 : tie.Need-same-length-2
 same-length-2 c = search needs
 
+same-length-3 : tie.Need-same-length-3
+same-length-3 c = search needs
+
 returns : tie.Need-returns
 returns c = search needs
 
@@ -45,10 +51,11 @@ returns-2 c = search needs
 returns-3 : tie.Need-returns-3
 returns-3 c = search needs
 
-pub with-table-spec : {M : Type 1} → statement M
-with-table-spec =
+pub with-strip-spec : {M : Type 1} → statement M
+with-strip-spec =
     tie.close
     (tie.spec
+    source-word-requires
     size-at-requires
     enum-known-s
     slice-relend-prefix-with-text
@@ -59,6 +66,7 @@ with-table-spec =
     refuse-requires-2
     same-length
     same-length-2
+    same-length-3
     returns
     returns-2
     returns-3)

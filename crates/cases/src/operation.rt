@@ -1,0 +1,51 @@
+// The operations that a case can name, and the words of a case of each: name, TABLE, for menu STRIP, last HEX.
+use crate::fields;
+use crate::fields::Number;
+ghost use Prim.Native.Nat.{_≤_};
+
+// What a case asks for.
+pub enum Operation {
+    Read,
+    Check,
+    Menu,
+}
+
+// What the first word of a line stands for.
+pub enum Name {
+    Of(Operation),
+    Unknown,
+}
+
+// The operation that the first word of a line names.
+pub fn named(line: &[u8]) -> Name {
+    if fields::is_first(line, b"read") {
+        return Name::Of(Operation::Read);
+    }
+    if fields::is_first(line, b"check") {
+        return Name::Of(Operation::Check);
+    }
+    if fields::is_first(line, b"menu") {
+        return Name::Of(Operation::Menu);
+    }
+    Name::Unknown
+}
+
+// Which word is the source: the last one, so this says also how many words a case has.
+pub fn source_word(o: Operation) -> usize
+    ensures { λ r. ⌜ r ≤ 3 ⌝ }
+{
+    match o {
+        Operation::Read => 2,
+        Operation::Check => 2,
+        Operation::Menu => 3,
+    }
+}
+
+// How many words of a strip a case lends: none where its operation takes no strip.
+pub fn strip_length(o: Operation, line: &[u8]) -> Number {
+    match o {
+        Operation::Read => Number::Is(0),
+        Operation::Check => Number::Is(0),
+        Operation::Menu => fields::number_at(line, 2),
+    }
+}

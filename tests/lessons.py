@@ -1,0 +1,61 @@
+"""Lessons for the tests: pieces that they share, and marks that say where a refusal stands.
+
+A mark is the byte `@`, which no lesson has: it stands directly before the token at which a lesson is refused.
+"""
+import re
+
+HEAD = "class M{public static void main(String[] a){"
+START = len(HEAD)  # main's statement begins here, after 14 tokens; 2 follow it
+FIRST = START + len("System.out.println(")  # the printed expression begins here; there are 24 tokens beside it
+TOKENS_MOST = 2048
+BYTES_MOST = 16384
+
+
+def main_with(statement):
+    return HEAD + statement + "}}"
+
+
+def program(expression):
+    """The program of document 01's benches: 24 tokens and the statement's node beside the expression."""
+    return main_with("System.out.println(" + expression + ");")
+
+
+ONE = program("1")  # 25 tokens, 2 nodes
+EMPTY = main_with("{}")  # 18 tokens: the shortest program
+
+
+def tokens(lesson):
+    """How many tokens a lesson without comments has."""
+    return len(re.findall(r"[A-Za-z][A-Za-z0-9_]*|[0-9]+|&&|\S", lesson))
+
+
+def fits(lesson):
+    """Whether a lesson keeps within the bounds of bytes and tokens."""
+    return len(lesson) <= BYTES_MOST and tokens(lesson) <= TOKENS_MOST
+
+
+def unmarked(lesson):
+    return lesson.replace("@", "")
+
+
+def places(lesson):
+    """Where the marked tokens of a lesson begin, once the marks are taken out."""
+    return [m.start() - k for k, m in enumerate(re.finditer("@", lesson))]
+
+
+def method(body="", result="int", name="m", parameters="", value="1"):
+    """A method; `body` is what stands before `return`."""
+    return "public " + result + " " + name + "(" + parameters + "){" + body + "return " + value + ";}"
+
+
+def class_of(name, content="", parent=None):
+    return "class " + name + (" extends " + parent if parent else "") + "{" + content + "}"
+
+
+def names(prefix, count):
+    return ["%s%03d" % (prefix, k) for k in range(count)]
+
+
+def positions(lesson):
+    """Where the names of the classes other than main stand, in the order of the lesson."""
+    return [m.start(1) for m in re.finditer(r"\bclass ([A-Za-z0-9_]+)", lesson)][1:]
