@@ -17,6 +17,7 @@ pub fn down(height: usize, by: usize) -> usize
     0
 }
 
+// The word at an index of the values.
 pub fn value(values: &[u32], i: usize) -> u32
     ensures { λ r. ⌜ (r ≡ getD (now (values .entry)) i 0) × (r < 4294967296) ⌝ }
 {
@@ -26,6 +27,7 @@ pub fn value(values: &[u32], i: usize) -> u32
     0
 }
 
+// Writes a word at an index of the values.
 pub fn put(values: &mut [u32], i: usize, w: u32)
     ensures { λ r. ⌜ now (values .exit) ≡ set (now (values .entry)) i w ⌝ }
 {
@@ -34,6 +36,7 @@ pub fn put(values: &mut [u32], i: usize, w: u32)
     }
 }
 
+// The word of a cell of the heap.
 pub fn cell(heap: &[i32], i: usize) -> u32
     ensures { λ r. ⌜ r ≡ cellAt (now (heap .entry)) i ⌝ }
 {
@@ -43,6 +46,7 @@ pub fn cell(heap: &[i32], i: usize) -> u32
     0
 }
 
+// Writes the word of a cell of the heap.
 pub fn put_cell(heap: &mut [i32], i: usize, w: u32)
     ensures { λ r. ⌜ now (heap .exit) ≡ set (now (heap .entry)) i (Word.signed w) ⌝ }
 {
