@@ -9,3 +9,6 @@ pub mod Beginning
 pub mod Going
 pub mod AdvancePost
 pub mod OutputPost
+pub mod CallWords
+pub mod TurnWords
+pub mod Turning

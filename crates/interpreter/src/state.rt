@@ -28,6 +28,18 @@ pub enum Turn {
     End(u32, usize),
 }
 
+// What may be used: the steps, and the calls that may be open.
+pub struct Bounds {
+    pub budget: usize,
+    pub calls: usize,
+}
+
+// The tokens and the classes of the program.
+pub struct Sizes {
+    pub tokens: usize,
+    pub classes: usize,
+}
+
 // Other heights.
 pub fn at_heights(m: Machine, tasks: usize, values: usize) -> Machine
     ensures { λ r. ⌜ r ≡ Encoding.atHeights m tasks values ⌝ }
