@@ -7,6 +7,16 @@ pub mod NextLaws
 pub mod HeapLaws
 pub mod BeginStates
 pub mod LayStates
+pub mod HeapStates
 pub mod NextStates
 pub mod AdvanceLaws
 pub mod AdvanceStates
+pub mod AdvanceTurns
+pub mod TaskTypes
+pub mod ValueTurns
+pub mod HeapTurns
+pub mod CallLaws
+pub mod CallStates
+pub mod TurnLaws
+pub mod TurnStates
+pub mod RunStates

@@ -12,3 +12,4 @@ pub mod OutputPost
 pub mod CallWords
 pub mod TurnWords
 pub mod Turning
+pub mod Running

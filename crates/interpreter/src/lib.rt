@@ -2,6 +2,8 @@
 pub mod advance;
 pub mod arrays;
 pub mod begin;
+pub mod calls;
+pub mod execute;
 pub mod next;
 pub mod objects;
 pub mod operate;
@@ -9,3 +11,4 @@ pub mod output;
 pub mod pending;
 pub mod stack;
 pub mod state;
+pub mod turn;

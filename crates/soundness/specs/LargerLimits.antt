@@ -39,11 +39,11 @@ begins-trans {a} p q =
 
 -- ---- the printed list only grows
 
-abbrev Grows : Meters → Outcome → Type 0
+abbrev pub Grows : Meters → Outcome → Type 0
 Grows m (next c n) = Begins (printedOf m) (printedOf n)
 Grows m (stop e) = Unit {0}
 
-guard-grows : (L : Limits) (m : Meters) (r : Request) → Grows m (guard L m r)
+pub guard-grows : (L : Limits) (m : Meters) (r : Request) → Grows m (guard L m r)
 unfolding guard
 guard-grows L (meters s o) (charge p c) = by-test (Grows (meters s o)) (ltb s (L .budget)) _ _ (λ _. begins-refl o) (λ _. tt)
 guard-grows L (meters s o) (allocate p n c) = by-test (Grows (meters s o)) (leb n (L .heap)) _ _ (λ _. begins-refl o) (λ _. tt)
