@@ -20,7 +20,8 @@ use Rattle.guarantees.specs.Literals.{literals-fit}
 use Rattle.guarantees.specs.Accepted.{Allowed, allowed, small}
 
 module _ (s : List ℕ) (p : Program) (a : checking s ≡ accept p) where
-  fits : LiteralsFit p
+  -- its literals are words
+  pub fits : LiteralsFit p
   fits = let h = allowed s p a in literals-fit (small s (h .stream) (h .lexed)) (h .derived)
 
   -- An accepted lesson never gets stuck, under any limits.

@@ -1,0 +1,2 @@
+-- Laws that the proofs of Run's functions cite.
+pub mod RunLaws

@@ -1,0 +1,141 @@
+-- What the functions of Run return meets their contracts: Check's promise makes the lesson runnable, and the run reports what the machine does.
+use Prim.Native.Nat.{ℕ, _≤_, _<_}
+use native.Mathlib.Omega.{arith}
+use mathlib.Core.Path.{_≡_, refl, sym, ap, _∙_, subst}
+use mathlib.Core.List.{List, [], _∷_, _++_, List·Memᴰ}
+use mathlib.Core.Bool.{Bool, true, false, _||_}
+use mathlib.Core.Option.{Option, none, some}
+use lib.ListN.{length, drop, replicate}
+use lib.IntN.{ℤ, pos}
+use lib.Dec.{eqb, ltb}
+use borrow.Author.Tests.{eq-eqb, ne-eqb, lt-ltb, le-ltb}
+use Rattle.parser.specs.Tree.{Program}
+use Rattle.checker.specs.Check.{Verdict, accept, refuse, refuseEndless, Refuses, checking}
+use Rattle.typecheck.specs.declared.check.Found.{Found}
+use Rattle.typecheck.specs.declared.check.Found.the-variants.{Program as found, Refused as unfit}
+use Rattle.resolver.specs.Settling.{Accepted, Settles}
+use Rattle.semantics.specs.Limits.{Limits, run}
+use Rattle.semantics.specs.Run.{Strips, Refusal, Reports, RunMeets, Runs}
+use Rattle.semantics.specs.Run as Run
+use Rattle.guarantees.specs.Accepted.{allowed}
+use Rattle.guarantees.specs.Demand.{fits}
+use Rattle.interpreter.specs.declared.state.Bounds.{Bounds}
+use Rattle.interpreter.specs.declared.state.Sizes.{Sizes}
+use Rattle.interpreter.specs.declared.execute.Ended.{Ended}
+use Rattle.interpreter.specs.Running.{Runnable, Ready, limitsOf, Executed}
+use Rattle.runner.specs.declared.run.RunAnswer.{RunAnswer}
+use Rattle.runner.specs.RunPost.{answerOf, strips, refused, Performs}
+
+-- CHECK'S PROMISE
+
+apart : {A : Type 0} → _≡_ {A = ℕ} 0 1 → A
+apart z = absurd (omega arith)
+
+-- an accepted lesson can be run
+runnable : (s : List ℕ) (p : Program) (tokens classes : ℕ) (tab : List ℕ) → checking s ≡ accept p → (a : Accepted p (found tokens classes) tab)
+    → Runnable tab (record { tokens = tokens; classes = classes }) (a .stream) p
+runnable s p tokens classes tab e a =
+    let t : tokens ≡ length (a .stream) = let z = a .answer in cc in
+    let c : classes ≡ length (p .classes) = let z = a .answer in cc in
+    record {
+      resolved = rw t (a .resolved);
+      classes = sym c;
+      typed = allowed s p e .typed;
+      fits = fits s p e;
+      shallow = allowed s p e .shallow;
+    }
+
+pub ready : (s : List ℕ) {tokens classes : ℕ} {f : Found} {tab : List ℕ} → Settles (checking s) f tab → f ≡ found tokens classes → Ready tab (record { tokens = tokens; classes = classes })
+ready s {tokens} {classes} {f} {tab} h q = by (checking s) refl h
+  where
+    by : (v : Verdict) → checking s ≡ v → Settles v f tab → Ready tab (record { tokens = tokens; classes = classes })
+    by (accept p) e a =
+        let b : Accepted p (found tokens classes) tab = subst (λ (x : Found). Accepted p x tab) q a in
+        record { toks = b .stream; program = p; runnable = runnable s p tokens classes tab e b }
+    by (refuse n i) e a = apart (cc)
+    by (refuseEndless ps) e a = let z = a .1 in apart (cc)
+
+-- WHAT IS PERFORMED
+
+pub performed : (s : List ℕ) (b : Bounds) (heap output : List ℤ) {tokens classes : ℕ} {f : Found} {tab : List ℕ} {x : Ended} {output′ : List ℤ} → Settles (checking s) f tab
+    → f ≡ found tokens classes → Executed tab (record { tokens = tokens; classes = classes }) b heap output x output′
+    → Performs (checking s) b heap output (record { number = x .number; position = x .position; steps = x .steps; words = x .words; printed = x .printed }) output′
+performed s b heap output {tokens} {classes} {f} {tab} {x} {output′} h q E = by (checking s) refl h
+  where
+    by : (v : Verdict) → checking s ≡ v → Settles v f tab
+        → Performs v b heap output (record { number = x .number; position = x .position; steps = x .steps; words = x .words; printed = x .printed }) output′
+    by (accept p) e a =
+        let c : Accepted p (found tokens classes) tab = subst (λ (y : Found). Accepted p y tab) q a in
+        let r = E .says (c .stream) p (runnable s p tokens classes tab e c) in
+        (record { ending = r .ending; steps = r .steps; words = r .words; printed = r .printed }, r .strip)
+    by (refuse n i) e a = apart (cc)
+    by (refuseEndless ps) e a = let z = a .1 in apart (cc)
+
+zero-counts : {n p : ℕ} {a : Run.RunAnswer} → a ≡ refused n p → Refusal (a .number) (a .position) a
+zero-counts e = rw e (record { numbered = refl; placed = refl; steps = refl; words = refl; printed = refl })
+
+pub unperformed : (s : List ℕ) (b : Bounds) (heap output : List ℤ) (tab : List ℕ) {n p : ℕ} {f : Found} {a : Run.RunAnswer} → Settles (checking s) f tab → f ≡ unfit n p → a ≡ refused n p
+    → Performs (checking s) b heap output a output
+unperformed s b heap output tab {n} {p} {f} {a} h q e = by (checking s) h
+  where
+    by : (v : Verdict) → Settles v f tab → Performs v b heap output a output
+    by (accept p) c = let z = c .answer in apart (cc)
+    by (refuse k i) c =
+        let x : n ≡ k = cc in
+        let y : p ≡ i = cc in
+        ((ap (λ (r : Run.RunAnswer). r .number) e ∙ x, ap (λ (r : Run.RunAnswer). r .position) e ∙ y), zero-counts e, refl)
+    by (refuseEndless ps) (k, z, w) =
+        let x : n ≡ 22 = cc in
+        let y : p ≡ k = cc in
+        ((ap (λ (r : Run.RunAnswer). r .number) e ∙ x, subst (λ (i : ℕ). List·Memᴰ i ps) (sym (ap (λ (r : Run.RunAnswer). r .position) e ∙ y)) w), zero-counts e, refl)
+
+-- RUN
+
+module _ (s : List ℕ) (budget calls : ℕ) (table : List ℕ) (heap output : List ℤ) where
+  abbrev Before : Strips
+  Before = strips table heap output
+
+  refuses : {a : Run.RunAnswer} (n : ℕ) → a ≡ refused n 0 → Refusal n 0 a × (Before ≡ Before)
+  refuses n e = (rw e (record { numbered = refl; placed = refl; steps = refl; words = refl; printed = refl }), refl)
+
+  pub too-short : {a : Run.RunAnswer} → length table < 16384 → a ≡ refused 1 0 → Runs s budget calls Before a Before
+  unfolding Runs
+  too-short h e = rw (lt-ltb (length table) 16384 h) (refuses 1 e)
+
+  module _ (long : 16384 ≤ length table) where
+    pub no-calls : {a : Run.RunAnswer} → calls ≡ 0 → a ≡ refused 2 0 → Runs s budget calls Before a Before
+    unfolding Runs
+    no-calls z e = rw (le-ltb (length table) 16384 long, eq-eqb calls 0 z) (refuses 2 e)
+
+    module _ (some-calls : calls ≡ 0 → ⊥) where
+      pub many-calls : {a : Run.RunAnswer} → 64 < calls → a ≡ refused 2 0 → Runs s budget calls Before a Before
+      unfolding Runs
+      many-calls m e = rw (le-ltb (length table) 16384 long, ne-eqb calls 0 some-calls, lt-ltb 64 calls m) (refuses 2 e)
+
+      module _ (few-calls : calls ≤ 64) where
+        pub long-heap : {a : Run.RunAnswer} → 16384 < length heap → a ≡ refused 3 0 → Runs s budget calls Before a Before
+        unfolding Runs
+        long-heap m e =
+            rw (le-ltb (length table) 16384 long, ne-eqb calls 0 some-calls, le-ltb 64 calls few-calls, lt-ltb 16384 (length heap) m) (refuses 3 e)
+
+        pub runs : (a : Run.RunAnswer) (heap₁ : List ℤ) (table₁ : List ℕ) {table₂ : List ℕ} {heap₂ : List ℤ} (output₂ : List ℤ) → length heap ≤ 16384
+            → Performs (checking s) (record { budget = budget; calls = calls }) heap output a output₂ → length table₁ ≡ length table → length heap₁ ≡ length heap
+            → table₂ ≡ replicate (length table₁) 0 → heap₂ ≡ replicate (length heap₁) (pos 0) → Runs s budget calls Before a (strips table₂ heap₂ output₂)
+        unfolding Runs
+        runs a heap₁ table₁ {table₂} {heap₂} output₂ short h lt lh et eh =
+            rw (le-ltb (length table) 16384 long, ne-eqb calls 0 some-calls, le-ltb 64 calls few-calls, le-ltb 16384 (length heap) short) (by (checking s) h)
+          where
+            same : (o : List ℤ) → output₂ ≡ o → strips table₂ heap₂ output₂ ≡ strips (replicate (length table) 0) (replicate (length heap) (pos 0)) o
+            same o e =
+                ap (λ (t : List ℕ). strips t heap₂ output₂) (et ∙ ap (λ (n : ℕ). replicate n 0) lt)
+                ∙ ap (λ (z : List ℤ). strips (replicate (length table) 0) z output₂) (eh ∙ ap (λ (n : ℕ). replicate n (pos 0)) lh)
+                ∙ ap (strips (replicate (length table) 0) (replicate (length heap) (pos 0))) e
+
+            all-there : (l : List ℤ) → l ≡ drop 0 l
+            all-there [] = refl
+            all-there (x ∷ l) = refl
+
+            by : (v : Verdict) → Performs v (record { budget = budget; calls = calls }) heap output a output₂ → RunMeets v budget calls Before a (strips table₂ heap₂ output₂)
+            by (accept p) (r, e) = (r, same _ e)
+            by (refuse n i) (r, z, e) = (r, z, same (drop 0 output) (e ∙ all-there output))
+            by (refuseEndless ps) (r, z, e) = (r, z, same (drop 0 output) (e ∙ all-there output))

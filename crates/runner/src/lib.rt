@@ -1,0 +1,2 @@
+// The operation Run of document 01.
+pub mod run;
