@@ -55,8 +55,8 @@ fn begin_expression(
     t: Task,
 ) -> Turn
     requires { ⌜ (16384 ≤ length (now table)) × (n ≤ 2048) × Bounded (length (now tasks)) m ⌝ }
-    ensures { λ r. ⌜ Post.BeginPost (now (table .entry)) budget (Words.expression (now (table .entry)) (now (heap .entry)) n call row) m row t (now (tasks .entry)) (now (values .entry))
-        r (now (tasks .exit)) (now (values .exit)) ⌝ }
+    ensures { λ r. ⌜ Post.BeginPost (now (table .entry)) budget (Words.expression (now (table .entry)) (now (heap .entry)) n call row) m row t
+        (now (tasks .entry)) (now (values .entry)) r (now (tasks .exit)) (now (values .exit)) ⌝ }
 {
     if budget <= m.steps {
         let at = word(table, 3, row as usize);
@@ -80,8 +80,8 @@ fn begin_statement(
     t: Task,
 ) -> Turn
     requires { ⌜ (16384 ≤ length (now table)) × (n ≤ 2048) × Bounded (length (now tasks)) m ⌝ }
-    ensures { λ r. ⌜ Post.BeginPost (now (table .entry)) budget (Words.sentence (now (table .entry)) (now (heap .entry)) n call row) m row t (now (tasks .entry)) (now (values .entry))
-        r (now (tasks .exit)) (now (values .exit)) ⌝ }
+    ensures { λ r. ⌜ Post.BeginPost (now (table .entry)) budget (Words.sentence (now (table .entry)) (now (heap .entry)) n call row) m row t
+        (now (tasks .entry)) (now (values .entry)) r (now (tasks .exit)) (now (values .exit)) ⌝ }
 {
     if budget <= m.steps {
         let at = word(table, 3, row as usize);
@@ -104,7 +104,8 @@ pub fn advance(
     t: Task,
 ) -> Turn
     requires { ⌜ (16384 ≤ length (now table)) × (n ≤ 2048) × Bounded (length (now tasks)) m ⌝ }
-    ensures { λ r. ⌜ Post.AdvancePost (now (table .entry)) (now (heap .entry)) n budget call m t (now (tasks .entry)) (now (values .entry)) r (now (tasks .exit)) (now (values .exit)) ⌝ }
+    ensures { λ r. ⌜ Post.AdvancePost (now (table .entry)) (now (heap .entry)) n budget call m t (now (tasks .entry)) (now (values .entry)) r
+        (now (tasks .exit)) (now (values .exit)) ⌝ }
 {
     let x = following(table, values, n, m, t);
     match x {

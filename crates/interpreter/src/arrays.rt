@@ -114,7 +114,8 @@ pub fn make(
     v: usize,
 ) -> Turn
     requires { ⌜ (16384 ≤ length (now table)) × (m .heap ≤ 16384) × (size < 4294967296) × (v < 4294967296) ⌝ }
-    ensures { λ r. ⌜ Words.MakePost (now (table .entry)) m row head size v (now (heap .entry)) (now (values .entry)) r (now (heap .exit)) (now (values .exit)) ⌝ }
+    ensures { λ r. ⌜ Words.MakePost (now (table .entry)) m row head size v (now (heap .entry)) (now (values .entry)) r (now (heap .exit))
+        (now (values .exit)) ⌝ }
 {
     let from = m.heap;
     let to = from + 1 + size;

@@ -62,7 +62,8 @@ fn body(table: &[u32], method: usize) -> Task
 // The method that an object's word and the call of a row lead to.
 fn method_of(table: &[u32], heap: &[i32], s: Sizes, receiver: u32, row: usize) -> usize
     requires { ⌜ (16384 ≤ length (now table)) × (s .tokens ≤ 2048) × (row < 4294967296) × (0 < receiver) ⌝ }
-    ensures { λ r. ⌜ Finds (now (table .entry)) (s .tokens) (s .classes) (cellAt (now (heap .entry)) (receiver - 1)) (wordAt (now (table .entry)) 2 (row + 1)) r ⌝ }
+    ensures { λ r. ⌜ Finds (now (table .entry)) (s .tokens) (s .classes) (cellAt (now (heap .entry)) (receiver - 1))
+        (wordAt (now (table .entry)) 2 (row + 1)) r ⌝ }
 {
     let class = cell(heap, receiver as usize - 1);
     find(
@@ -103,7 +104,8 @@ pub fn invoke(
 ) -> Turn
     requires { ⌜ (16384 ≤ length (now table)) × (s .tokens ≤ 2048) × (row < 4294967296) × (3 * m .tasks + 3 ≤ length (now tasks)) × (m .tasks < 4294967295)
         × (m .values < 4294967296) × (limit ≤ 64) ⌝ }
-    ensures { λ r. ⌜ InvokePost (now (table .entry)) (now (heap .entry)) (s .tokens) (s .classes) limit m row (now (values .entry)) (now (tasks .entry)) r (now (tasks .exit)) ⌝ }
+    ensures { λ r. ⌜ InvokePost (now (table .entry)) (now (heap .entry)) (s .tokens) (s .classes) limit m row (now (values .entry)) (now (tasks .entry)) r
+        (now (tasks .exit)) ⌝ }
 {
     let given = count(table, m.values, word(table, 5, row));
     let v = down(m.values, given + 1);

@@ -131,8 +131,9 @@ fn carry(
     t: Task,
 ) -> Turn
     requires { ⌜ (16384 ≤ length (now table)) × (s .tokens ≤ 2048) × (b .calls ≤ 64) × (m .heap ≤ 16384) × Bounded (length (now tasks)) m ⌝ }
-    ensures { λ r. ⌜ Words.Carried (now (table .entry)) s b call m t (Words.space (now (tasks .entry)) (now (values .entry)) (now (heap .entry)) (now (output .entry)))
-        r (Words.space (now (tasks .exit)) (now (values .exit)) (now (heap .exit)) (now (output .exit))) ⌝ }
+    ensures { λ r. ⌜ Words.Carried (now (table .entry)) s b call m t
+        (Words.space (now (tasks .entry)) (now (values .entry)) (now (heap .entry)) (now (output .entry))) r
+        (Words.space (now (tasks .exit)) (now (values .exit)) (now (heap .exit)) (now (output .exit))) ⌝ }
 {
     let k = t.kind;
     if computes(k) {
@@ -163,8 +164,9 @@ pub fn turn(
     m: Machine,
 ) -> Turn
     requires { ⌜ (16384 ≤ length (now table)) × (s .tokens ≤ 2048) × (b .calls ≤ 64) × Room (Words.space (now tasks) (now values) (now heap) (now output)) m ⌝ }
-    ensures { λ r. ⌜ Words.Taken (now (table .entry)) s b call m (Words.space (now (tasks .entry)) (now (values .entry)) (now (heap .entry)) (now (output .entry)))
-        r (Words.space (now (tasks .exit)) (now (values .exit)) (now (heap .exit)) (now (output .exit))) ⌝ }
+    ensures { λ r. ⌜ Words.Taken (now (table .entry)) s b call m
+        (Words.space (now (tasks .entry)) (now (values .entry)) (now (heap .entry)) (now (output .entry))) r
+        (Words.space (now (tasks .exit)) (now (values .exit)) (now (heap .exit)) (now (output .exit))) ⌝ }
 {
     let height = m.tasks;
     if height == 0 {
