@@ -59,3 +59,9 @@ def names(prefix, count):
 def positions(lesson):
     """Where the names of the classes other than main stand, in the order of the lesson."""
     return [m.start(1) for m in re.finditer(r"\bclass ([A-Za-z0-9_]+)", lesson)][1:]
+
+
+def as_printed(answer):
+    """What bayrun prints where run's answer is this."""
+    ending, _, printed = answer.partition(" : ")
+    return "".join(p + "\n" for p in printed.split()) + "= " + ending + "\n"

@@ -3,8 +3,11 @@
 mod fields;
 mod lent;
 mod menu_case;
+mod numbers;
 mod operation;
 mod output;
+mod run_case;
+mod run_lent;
 mod source;
 mod strip;
 mod table_only;
@@ -23,7 +26,7 @@ const SOURCE_MOST: usize = 20000;
 const TABLE_MOST: usize = 20000;
 
 // The longest strip: a word for each token, which is more than there can be classes, so the rest of it can be looked at too.
-// With the line, the source and the table this leaves most of a stack of 1 MiB free.
+// The line, the source, the table and all strips take less than an eighth of a stack of 2 MiB.
 const STRIP_MOST: usize = 2048;
 
 // What came of one read of the input: how many bytes of a line wait for the rest of it; or the input is over.
@@ -40,6 +43,7 @@ fn answer(line: &[u8], source: &mut [u8], table: &mut [u32], strip: &mut [u32]) 
     let n = operation::named(line);
     match n {
         Name::Of(o) => lent::answer(o, line, source, table, strip),
+        Name::Run => run_lent::answer(line, source, table),
         Name::Unknown => output::refuse(Wrong::Operation),
     }
 }

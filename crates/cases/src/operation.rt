@@ -1,9 +1,9 @@
-// The operations that a case can name, and the words of a case of each: name, TABLE, for menu STRIP, last HEX.
+// The operations that a case can name, and the words of a case of each but run: name, TABLE, for menu STRIP, last HEX.
 use crate::fields;
 use crate::fields::Number;
 ghost use Prim.Native.Nat.{_≤_};
 
-// What a case asks for.
+// What a case asks for, where it lends words only.
 pub enum Operation {
     Read,
     Check,
@@ -13,6 +13,7 @@ pub enum Operation {
 // What the first word of a line stands for.
 pub enum Name {
     Of(Operation),
+    Run,
     Unknown,
 }
 
@@ -26,6 +27,9 @@ pub fn named(line: &[u8]) -> Name {
     }
     if fields::is_first(line, b"menu") {
         return Name::Of(Operation::Menu);
+    }
+    if fields::is_first(line, b"run") {
+        return Name::Run;
     }
     Name::Unknown
 }

@@ -1,4 +1,5 @@
 // What the program writes: numbers and words of an answer, and the lines that say what is wrong with a case.
+use base::word::unsigned;
 use libc::STDOUT_FILENO;
 
 // What can be wrong with a case.
@@ -11,6 +12,8 @@ pub enum Wrong {
     Number,
     TableLength,
     StripLength,
+    HeapLength,
+    OutputLength,
     Odd,
     Digit,
     SourceLength,
@@ -30,6 +33,17 @@ pub fn number(n: u64) {
 pub fn next_number(n: u64) {
     text(b" ");
     number(n);
+}
+
+// Writes a blank and a signed number.
+pub fn next_signed(n: i32) {
+    let w = unsigned(n);
+    if w < 2147483648 {
+        next_number(w as u64);
+        return;
+    }
+    text(b" -");
+    number(4294967296 - w as u64);
 }
 
 // Ends an answer, with a word where a strip does not hold what it should.
@@ -52,6 +66,8 @@ pub fn refuse(wrong: Wrong) {
         Wrong::Number => text(b"error: malformed number\n"),
         Wrong::TableLength => text(b"error: table too large\n"),
         Wrong::StripLength => text(b"error: strip too large\n"),
+        Wrong::HeapLength => text(b"error: heap strip too large\n"),
+        Wrong::OutputLength => text(b"error: output strip too large\n"),
         Wrong::Odd => text(b"error: odd number of hexadecimal digits\n"),
         Wrong::Digit => text(b"error: bad hexadecimal digit\n"),
         Wrong::SourceLength => text(b"error: source too long\n"),

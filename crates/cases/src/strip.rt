@@ -24,9 +24,14 @@ pub fn holds(words: &[u32], value: u32) -> bool {
     true
 }
 
-// Whether a work table holds what document 01 says after an end with this number: refusals 1 to 3 touch nothing, every other end wipes it.
+// Whether an end with this number touches nothing: refusals 1 to 3.
+pub fn is_untouched(number: u32) -> bool {
+    0 < number && number < 4
+}
+
+// Whether a work table holds what document 01 says after an end with this number: what touches something wipes it.
 pub fn is_table_right(table: &[u32], number: u32) -> bool {
-    if 0 < number && number < 4 {
+    if is_untouched(number) {
         return holds(table, MARK);
     }
     holds(table, 0)

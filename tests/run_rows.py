@@ -1,0 +1,233 @@
+"""Cases of run, worked out by hand from document 01. A position is where a mark stands (see lessons.py), steps are counted node by node; no answer comes from the program."""
+from lessons import FIRST, ONE, START, class_of, fits, main_with, method, places, program, unmarked
+
+TABLE = 16384
+HEAP_MOST = 16384
+
+
+def line(lesson, table=TABLE, budget=100000, calls=64, heap=4096, out=256):
+    data = lesson.encode("ascii").hex() or "-"
+    return "run %d %d %d %d %d %s" % (table, budget, calls, heap, out, data)
+
+
+def end(number, position, steps=0, words=0, *printed):
+    return "%d %d %d %d" % (number, position, steps, words) + "".join([" :"] + [" %d" % p for p in printed] if printed else [])
+
+
+def fine(lesson, steps, words, *printed, **limits):
+    """A lesson that runs to its end."""
+    assert fits(lesson)
+    return line(lesson, **limits), end(0, 0, steps, words, *printed)
+
+
+def stopped(number, lesson, steps, words, *printed, **limits):
+    """A marked lesson that is refused, or whose run ends there."""
+    (position,) = places(lesson)
+    return line(unmarked(lesson), **limits), end(number, position, steps, words, *printed)
+
+
+def bench_rows():
+    """The rows of document 01's table of benches."""
+    return [
+        fine(program("1+2"), 4, 0, 3),
+        fine(program("46341*46341"), 4, 0, -2147479015),
+        fine(program("0-2147483647-2"), 6, 0, 2147483647),
+        stopped(14, program("@2147483648"), 0, 0),
+        stopped(31, program("!@1<2"), 0, 0),
+        stopped(34, program("@this"), 0, 0),
+        stopped(30, program("@a"), 0, 0),
+        stopped(42, program("@new int[0-1].length"), 6, 0),
+        stopped(16, program("new int[2]@[0]"), 0, 0),
+        stopped(41, program("@(new int[1])[1]"), 5, 2),
+        stopped(50, program("1+@2"), 3, 0, budget=3),
+        stopped(50, main_with("@System.out.println(1+2);"), 0, 0, budget=0),
+        stopped(16, "@", 0, 0),
+        stopped(12, "@/*/**/", 0, 0),
+        stopped(31, program("@" + "!" * 62 + "true"), 0, 0),
+        stopped(17, program("!" * 63 + "@true"), 0, 0),
+        stopped(22, ONE + " class @B extends B{}", 0, 0),
+    ]
+
+
+def strip_rows():
+    """Strips of several lengths, in all ways to end; the program fills them beforehand and looks at all of them afterwards."""
+    endings = [
+        ("1+2", end(0, 0, 4, 0, 3)),
+        ("true", end(31, FIRST)),
+        ("new int[0-1].length", end(42, FIRST, 6, 0)),
+        ("(new int[1])[1]", end(41, FIRST, 5, 2)),
+        ("new int[1].length", end(0, 0, 4, 2, 1)),
+    ]
+    rows = []
+    for e, answer in endings:
+        rows += [(line(program(e), heap=heap), answer) for heap in (2, 3, 4095, HEAP_MOST - 1, HEAP_MOST)]
+        rows += [(line(program(e), out=out), answer) for out in (1, 2, 3, 255, 2048)]
+        rows += [(line(program(e), table=table), answer) for table in (TABLE, TABLE + 1, 20000)]
+        rows += [(line(program(e), table=table), end(1, 0)) for table in (0, 1, TABLE - 1)]
+        rows += [(line(program(e), calls=calls), end(2, 0)) for calls in (0, 65, 4294967295)]
+        rows += [(line(program(e), heap=heap), end(3, 0)) for heap in (HEAP_MOST + 1, 20000)]
+    return rows
+
+
+def order_rows():
+    """1, then 2, then 3, then what Check refuses; 1 to 3 do not look at the lesson."""
+    rows = []
+    for lesson in ("", "#", ONE.ljust(16385), program("true"), ONE):
+        rows.append((line(lesson, table=TABLE - 1, calls=0, heap=HEAP_MOST + 1), end(1, 0)))
+        rows.append((line(lesson, calls=65, heap=HEAP_MOST + 1), end(2, 0)))
+        rows.append((line(lesson, heap=HEAP_MOST + 1, budget=0, out=0), end(3, 0)))
+    rows += [(line(ONE.ljust(16385), heap=heap, out=out), end(10, 0)) for heap, out in ((0, 0), (1, 1), (HEAP_MOST, 256))]
+    rows += [(line(ONE.ljust(16384), heap=heap), end(0, 0, 2, 0, 1)) for heap in (0, HEAP_MOST)]
+    rows += [(line("#", budget=0, calls=1, heap=0, out=0), end(11, 0)), (line(program("true"), budget=0, calls=1, heap=0, out=0), end(31, FIRST))]
+    return rows
+
+
+def budget_rows():
+    """Each node as the first that is not begun. A run whose last step uses the budget up ends in 0."""
+    sum_at = [START, FIRST, FIRST, FIRST + 2]
+    rows = [(line(program("1+2"), budget=k), end(50, at, k, 0)) for k, at in enumerate(sum_at)]
+    rows += [fine(program("1+2"), 4, 0, 3, budget=budget) for budget in (4, 5, 4294967295)]
+    # `while` is charged once, its test on each round, its body after true.
+    loop = main_with("while(true){}")
+    rows += [(line(loop, budget=k), end(50, START + (0 if k == 0 else 6 if k % 2 else 11), k, 0)) for k in (0, 1, 2, 3, 4, 99, 100, 99999, 100000)]
+    rows += [
+        fine(main_with("while(false){}"), 2, 0),
+        fine(main_with("while(false&&true){}"), 3, 0),
+        fine(main_with("while(true&&false){}"), 4, 0),
+        fine(main_with("if(!false)System.out.println(8);else{}"), 5, 0, 8),
+        fine(main_with("if(!true)System.out.println(8);else{}"), 4, 0),
+        fine(main_with("if(true)System.out.println(7);else{}"), 4, 0, 7),
+        fine(main_with("{}"), 1, 0),
+        fine(main_with("{" * 64 + "}" * 64), 64, 0),
+        stopped(50, main_with("if(true){}else@{}").replace("true", "1<0"), 4, 0, budget=4),
+        stopped(50, main_with("{{}@{}}"), 2, 0, budget=2),
+    ]
+    # Neither `return` nor a declaration is a step; an assignment's target is no node.
+    body = program("new A().m()") + class_of("A", "public int m(){int x;int[] y;x=1;y=new int[x];y[0]=x;return y[0];}")
+    rows.append(fine(body, 3 + 2 + 3 + 3 + 3, 1 + 2, 1, budget=14))
+    rows.append(stopped(50, body.replace("return y[0]", "return y[@0]"), 13, 3, budget=13))
+    return rows
+
+
+def heap_rows():
+    """Words: 1 and the fields, hidden ones too; 1 and the length. Just enough, and one less."""
+    objects = class_of("A", "int x;int[] y;A z;boolean w;" + method()) + class_of("B", "int x;", "A")
+    two = program("new int[1].length+@new int[2].length")
+    rows = [
+        fine(program("new A().m()") + objects, 4, 5, 1, heap=5),
+        stopped(51, program("@new A().m()") + objects, 3, 0, heap=4),
+        fine(program("new B().m()") + objects, 4, 6, 1, heap=6),
+        stopped(51, program("@new B().m()") + objects, 3, 0, heap=5),
+        fine(program("new int[0].length"), 4, 1, 0, heap=1),
+        stopped(51, program("@new int[0].length"), 4, 0, heap=0),
+        fine(program("new int[3].length"), 4, 4, 3, heap=4),
+        stopped(51, program("@new int[3].length"), 4, 0, heap=3),
+        fine(program("new int[16383].length"), 4, 16384, 16383, heap=16384),
+        stopped(51, program("@new int[16384].length"), 4, 0, heap=16384),
+        stopped(51, program("@new int[2147483647].length"), 4, 0, heap=16384),
+        stopped(42, program("@new int[0-1].length"), 6, 0, heap=0),
+        fine(unmarked(two), 8, 5, 3, heap=5),
+        stopped(51, two, 8, 2, heap=4),
+    ]
+    return rows
+
+
+def call_rows():
+    """Open calls: main is none, arguments are carried out before a call opens, and a call is open until its return expression is done."""
+    kept = class_of("A", "A n;" + method(name="m") + method(name="k", value="@this.m()") + method(name="f", parameters="int x", value="x") + method(name="q", value="n.m()"))
+    plain = unmarked(kept)
+    down = class_of("A", "public int d(int n){int r;if(n<1)r=0;else r=@this.d(n-1);return r;}")
+    # Locals begin as 0 in every call, also where arguments of an earlier one lay.
+    fresh = class_of("A", "public int f(int a,int b,int c){return a;}public int g(){int x;int y;int z;return x+y+z;}")
+    rows = [
+        fine(program("new A().f(1,2,3)+new A().g()") + fresh, 2 + 6 + 7, 2, 1, calls=1),
+        fine(program("new A().m()") + plain, 4, 2, 1, calls=1),
+        fine(program("new A().k()") + plain, 6, 2, 1, calls=2),
+        stopped(52, program("new A().k()") + kept, 5, 2, calls=1),
+        fine(program("new A().f(new A().f(new A().f(1)))") + plain, 11, 6, 1, calls=1),
+        fine(program("new A().m()+new A().k()") + plain, 2 + 3 + 5, 4, 2, calls=2),
+        stopped(40, program("new A().q()") + plain.replace("n.m()", "@n.m()"), 5, 2, calls=1),
+    ]
+    # Of d(n): 3 nodes of main and the argument; in each call but the last the conditional, its test of 3, the assignment, the call, `this` and n-1 of 3, and `r`; in the last 4, 2 and 1.
+    for n in (0, 1, 5, 63):
+        rows.append(fine(program("new A().d(%d)" % n) + unmarked(down), 4 + n * 11 + 7, 1, 0, calls=n + 1))
+    for limit in (1, 2, 5, 64):
+        # The call that is one too many: all but the `r` of each call that is open.
+        rows.append(stopped(52, program("new A().d(100)") + down, 4 + limit * 10, 1, calls=limit))
+    return rows
+
+
+def output_rows():
+    """As many numbers as there is room for; 53 after the printed expression."""
+    two = "{System.out.println(5);@System.out.println(6);}"
+    many = ["System.out.println(%d);" % k for k in range(100)]
+    marked = main_with("{" + "".join(many[:99]) + "@" + many[99] + "}")
+    return [
+        fine(main_with(unmarked(two)), 5, 0, 5, 6, out=2),
+        stopped(53, main_with(two), 5, 0, 5, out=1),
+        (line(program("1+2"), out=0), end(53, START, 4, 0)),
+        stopped(42, program("@new int[0-1].length"), 6, 0, out=0),
+        fine(main_with("{}"), 1, 0, out=0),
+        fine(unmarked(marked), 201, 0, *range(100), out=100),
+        stopped(53, marked, 201, 0, *range(99), out=99),
+        fine(program("0-2147483647-1"), 6, 0, -2147483648),
+        fine(program("0-1"), 4, 0, -1),
+        fine(program("2147483647"), 2, 0, 2147483647),
+    ]
+
+
+def fault_rows():
+    """40 after all parts, then 41; the node that faults and all its parts were charged. Main has 3 nodes before the method begins, and a call of `t` 6."""
+    tail = "public int t(int k){System.out.println(k);return k;}"
+
+    def in_method(body, value="1"):
+        return program("new A().m()") + class_of("A", "int[] x;A o;" + method(body, value=value) + tail)
+
+    return [
+        stopped(40, in_method("", "@x[0-1]"), 3 + 5, 3),
+        stopped(40, in_method("", "@x.length"), 3 + 2, 3),
+        stopped(40, in_method("", "@o.t(this.t(4))"), 3 + 2 + 6, 3, 4),
+        stopped(40, in_method("@x[this.t(1)]=this.t(2);"), 3 + 1 + 6 + 6, 3, 1, 2),
+        stopped(41, in_method("x=new int[2];", "@x[2]"), 3 + 3 + 3, 6),
+        stopped(41, in_method("x=new int[2];@x[0-1]=3;"), 3 + 3 + 5, 6),
+        stopped(41, in_method("x=new int[2];", "@x[2147483647+1]"), 3 + 3 + 5, 6),
+        # The index gives the field another array; the one that was read is written.
+        fine(program("new A().m()") + class_of("A", "int[] x;" + method("int[] y;x=new int[2];y=x;x[this.s()]=7;", value="y[1]+x.length") + "public int s(){x=new int[5];return 1;}"),
+             3 + 3 + 2 + 8 + 6, 2 + 3 + 6, 12),
+    ]
+
+
+def errors():
+    """Lines of run that are no case, and what the program says of each."""
+    return [
+        ("rnu 16384 1 1 1 1 -", "unknown operation"),
+        ("runs 16384 1 1 1 1 -", "unknown operation"),
+        ("ru", "unknown operation"),
+        ("Run 16384 1 1 1 1 -", "unknown operation"),
+        ("run", "word missing"),
+        ("run 16384 1 1 1 -", "word missing"),
+        ("run 16384 1 1 1 1", "word missing"),
+        ("run 16384 1 1 1 1 ", "word missing"),
+        ("run 16384 1 1 1 1 - ", "too many words"),
+        ("run 16384 1 1 1 1 1 -", "too many words"),
+        ("run x 1 1 1 1 -", "malformed number"),
+        ("run 16384 x 1 1 1 -", "malformed number"),
+        ("run 16384 4294967296 1 1 1 -", "malformed number"),
+        ("run 16384 1 -1 1 1 -", "malformed number"),
+        ("run 16384 1 4294967296 1 1 -", "malformed number"),
+        ("run 16384 1 1  1 -", "malformed number"),
+        ("run 16384 1 1 1 1x -", "malformed number"),
+        ("run 20001 x 1 1 1 -", "table too large"),
+        ("run 16384 x 1 20001 1 -", "malformed number"),
+        ("run 16384 1 1 20001 x -", "heap strip too large"),
+        ("run 16384 1 1 4294967295 2049 -", "heap strip too large"),
+        ("run 16384 1 1 1 2049 2", "output strip too large"),
+        ("run 16384 1 1 1 4294967295 -", "output strip too large"),
+        ("run 16384 1 1 1 1 2", "odd number of hexadecimal digits"),
+        ("run 16384 1 1 1 1 2G", "bad hexadecimal digit"),
+        ("run 16384 1 1 1 1 " + "20" * 20001, "source too long"),
+    ]
+
+
+def run_rows():
+    return bench_rows() + strip_rows() + order_rows() + budget_rows() + heap_rows() + call_rows() + output_rows() + fault_rows()
