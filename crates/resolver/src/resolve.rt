@@ -1,6 +1,6 @@
 // Three passes: names lead to classes; then, with the class of each class's name still at hand, variables get what they mean; last, classes get their sizes.
-use crate::bodies::bodies;
 use crate::lead::spread;
+use crate::program::bodies;
 use crate::sizes::sizes;
 ghost use Prim.Native.Nat.{_≤_};
 ghost use Rattle.reader.specs.WalkPost.{Walkable};

@@ -2,14 +2,14 @@
 use Prim.Native.Nat.{ℕ, _<_}
 use borrow.Fn.Kinds.{In}
 use borrow.Fn.PlainCycle.{Measures, is, falls, and}
-use Rattle.resolver.proofs.bodies.each.Reads as each
-use Rattle.resolver.proofs.bodies.each.Kinds as each-kinds
-use Rattle.resolver.proofs.bodies.+each.Lts-each as each-lts
+use Rattle.resolver.proofs.program.each.Reads as each
+use Rattle.resolver.proofs.program.each.Kinds as each-kinds
+use Rattle.resolver.proofs.program.+each.Lts-each as each-lts
 use Rattle.lookup.proofs.rows.word.Reads as word-reads
-use Rattle.resolver.proofs.bodies.end_of.Reads as end-of-reads
-use Rattle.resolver.proofs.bodies.methods.Reads as methods-reads
-use Rattle.resolver.proofs.bodies.+each.{statement}
-use Rattle.resolver.proofs.bodies.+each.Tie.{close}
+use Rattle.resolver.proofs.program.end_of.Reads as end-of-reads
+use Rattle.resolver.proofs.program.methods.Reads as methods-reads
+use Rattle.resolver.proofs.program.+each.{statement}
+use Rattle.resolver.proofs.program.+each.Tie.{close}
 use borrow.Author.Needs.{needs}
 use Prim.Native.Nat.{_-_}
 use Rattle.resolver.proofs.BodyLaws.{classes-none-left, classes-absent, classes-next}

@@ -1,6 +1,6 @@
 -- Each return is a law of `BodyLaws`.
-use Rattle.resolver.proofs.bodies.end_of.Statement.{statement}
-use Rattle.resolver.proofs.bodies.end_of.Tie as tie
+use Rattle.resolver.proofs.program.end_of.Statement.{statement}
+use Rattle.resolver.proofs.program.end_of.Tie as tie
 use Rattle.resolver.proofs.BodyLaws.{end-next, end-whole}
 
 returns : tie.Need-returns

@@ -1,7 +1,7 @@
 -- The return is a law of `BodyLaws`.
 use borrow.Author.Needs.{needs}
-use Rattle.resolver.proofs.bodies.body.Statement.{statement}
-use Rattle.resolver.proofs.bodies.body.Tie as tie
+use Rattle.resolver.proofs.program.body.Statement.{statement}
+use Rattle.resolver.proofs.program.body.Tie as tie
 use Rattle.resolver.proofs.BodyLaws.{body-is}
 
 word-requires : tie.Need-word-requires

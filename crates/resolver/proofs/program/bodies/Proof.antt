@@ -1,7 +1,7 @@
 -- The return is a law of `BodyLaws`.
 use borrow.Author.Needs.{needs}
-use Rattle.resolver.proofs.bodies.bodies.Statement.{statement}
-use Rattle.resolver.proofs.bodies.bodies.Tie as tie
+use Rattle.resolver.proofs.program.bodies.Statement.{statement}
+use Rattle.resolver.proofs.program.bodies.Tie as tie
 use Rattle.resolver.proofs.BodyLaws.{bodies-all}
 
 word-requires : tie.Need-word-requires

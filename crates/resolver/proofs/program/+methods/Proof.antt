@@ -2,14 +2,14 @@
 use Prim.Native.Nat.{ℕ, _<_}
 use borrow.Fn.Kinds.{In}
 use borrow.Fn.PlainCycle.{Measures, is, falls, and}
-use Rattle.resolver.proofs.bodies.methods.Reads as methods
-use Rattle.resolver.proofs.bodies.methods.Kinds as methods-kinds
-use Rattle.resolver.proofs.bodies.+methods.Lts-methods as methods-lts
+use Rattle.resolver.proofs.program.methods.Reads as methods
+use Rattle.resolver.proofs.program.methods.Kinds as methods-kinds
+use Rattle.resolver.proofs.program.+methods.Lts-methods as methods-lts
 use Rattle.lookup.proofs.rows.word.Reads as word-reads
-use Rattle.resolver.proofs.bodies.body.Reads as body-reads
-use Rattle.resolver.proofs.bodies.end_of.Reads as end-of-reads
-use Rattle.resolver.proofs.bodies.+methods.{statement}
-use Rattle.resolver.proofs.bodies.+methods.Tie.{close}
+use Rattle.resolver.proofs.program.body.Reads as body-reads
+use Rattle.resolver.proofs.program.end_of.Reads as end-of-reads
+use Rattle.resolver.proofs.program.+methods.{statement}
+use Rattle.resolver.proofs.program.+methods.Tie.{close}
 use borrow.Author.Needs.{needs}
 use Prim.Native.Nat.{_-_}
 use Rattle.resolver.proofs.BodyLaws.{methods-none-left, methods-absent, methods-next}
