@@ -29,7 +29,7 @@ use Rattle.lookup.specs.Answers.{settled, goes-on, stops}
 use Rattle.bodies.specs.declared.scope.Scope.{Scope}
 use Rattle.bodies.specs.Scoping.{InScope, PartAt}
 use Rattle.bodies.specs.ExpressionPost.{NamePost, OperandPost}
-use Rattle.bodies.specs.StatementPost.{SentencePost, ListPost, ConditionalPost, BranchesPost, LoopPost, AssignmentPost, AssignedPost, ValuePost}
+use Rattle.bodies.specs.StatementPost.{StatementPost, ListPost, ConditionalPost, BranchesPost, LoopPost, AssignmentPost, AssignedPost, ValuePost}
 use Rattle.bodies.proofs.ExpressionLaws.{judges-fine, judges-refused, part-in, few-tokens, goes, halts, own, next}
 
 -- a statement has a node
@@ -162,7 +162,7 @@ module _ {tab : List ℕ} {s : Scope} {left row : ℕ} {v : Judged} (f : NamePos
 
 -- BRANCHES AND LOOPS
 
-module _ {tab : List ℕ} {s : Scope} {left row second : ℕ} (e₅ : second ≡ wordAt tab 5 row) {v : Judged} (f : SentencePost tab s left second v) where
+module _ {tab : List ℕ} {s : Scope} {left row second : ℕ} (e₅ : second ≡ wordAt tab 5 row) {v : Judged} (f : StatementPost tab s left second v) where
   branch-settled : (ts : List Token) (G : List Class) (Γ : Context) → InScope tab ts G Γ s → (p : Place) (e : Expression) (a b : Statement)
       → PartAt tab ts row (left + 1) (conditional p e a b) → v ≡ settled (judge G Γ a)
   unfolding Holds Matches nodes
@@ -173,7 +173,7 @@ module _ {tab : List ℕ} {s : Scope} {left row second : ℕ} (e₅ : second ≡
   pub branches-first : {n p : ℕ} → v ≡ Refused n p → BranchesPost tab s left row (Refused n p)
   branches-first is = record { says = λ ts G Γ sc p e a b h. rw (stops (judge G Γ a) (λ _. judge G Γ b) (branch-settled ts G Γ sc p e a b h) is) }
 
-  pub branches-second : {w : ℕ} → v ≡ Fine w → {third : ℕ} → third ≡ wordAt tab 7 row → {r : Judged} → SentencePost tab s left third r → BranchesPost tab s left row r
+  pub branches-second : {w : ℕ} → v ≡ Fine w → {third : ℕ} → third ≡ wordAt tab 7 row → {r : Judged} → StatementPost tab s left third r → BranchesPost tab s left row r
   unfolding Holds Matches nodes
   branches-second is e₇ g =
       record {
@@ -217,7 +217,7 @@ module _ {tab : List ℕ} {s : Scope} {left row first : ℕ} (e₄ : first ≡ w
   unfolding judge
   loop-refused is = record { says = λ ts G Γ sc p e a h. rw (halts (judge G Γ e) (must G e boolean) (judge G Γ a) (while-test ts G Γ sc p e a h) is) }
 
-  pub loop-body : {w : ℕ} → v ≡ Fine w → {second : ℕ} → second ≡ wordAt tab 5 row → {r : Judged} → SentencePost tab s left second r → LoopPost tab s left row r
+  pub loop-body : {w : ℕ} → v ≡ Fine w → {second : ℕ} → second ≡ wordAt tab 5 row → {r : Judged} → StatementPost tab s left second r → LoopPost tab s left row r
   unfolding judge Holds Matches nodes
   loop-body is e₅ g =
       record {
@@ -230,13 +230,13 @@ module _ {tab : List ℕ} {s : Scope} {left row first : ℕ} (e₄ : first ≡ w
 -- STATEMENTS
 
 module _ {tab : List ℕ} {s : Scope} {left row : ℕ} where
-  pub sentence-none : left ≡ 0 → {n p : ℕ} → SentencePost tab s left row (Refused n p)
-  sentence-none z = record { says = λ ts G Γ sc t h. absurd (omega (arith, positive t, h .few)) }
+  pub statement-none : left ≡ 0 → {n p : ℕ} → StatementPost tab s left row (Refused n p)
+  statement-none z = record { says = λ ts G Γ sc t h. absurd (omega (arith, positive t, h .few)) }
 
   module _ (more : left ≡ 0 → ⊥) {k : ℕ} (kind : k ≡ kindIn tab (s .tokens) row) where
-    pub sentence-block : k ≡ 38 → {first : ℕ} → first ≡ wordAt tab 4 row → {r : Judged} → ListPost tab s (left - 1) first r → SentencePost tab s left row r
+    pub statement-block : k ≡ 38 → {first : ℕ} → first ≡ wordAt tab 4 row → {r : Judged} → ListPost tab s (left - 1) first r → StatementPost tab s left row r
     unfolding judge Holds Matches nodes
-    sentence-block is e₄ {r} f = record { says = λ ts G Γ sc t h. go ts G Γ sc t (own row kind sc ∙ ap (kindAt ts) (sym (h .at))) (h .at) (h .holds) (h .matches) (h .few) }
+    statement-block is e₄ {r} f = record { says = λ ts G Γ sc t h. go ts G Γ sc t (own row kind sc ∙ ap (kindAt ts) (sym (h .at))) (h .at) (h .holds) (h .matches) (h .few) }
       where
         go : (ts : List Token) (G : List Class) (Γ : Context) → InScope tab ts G Γ s → (t : Statement) → k ≡ kindAt ts (rowOf t) → rowOf t ≡ row → Holds tab t → Matches ts t → nodes t ≤ left
             → r ≡ settled (judge G Γ t)
@@ -247,9 +247,9 @@ module _ {tab : List ℕ} {s : Scope} {left row : ℕ} where
         go ts G Γ sc (assign q x e) q′ at h m few = absurd (omega (arith, q′, is, name-kind _ (m .0 .named)))
         go ts G Γ sc (assignElement q x i e) q′ at h m few = absurd (omega (arith, q′, is, name-kind _ (m .0 .named)))
 
-    pub sentence-if : k ≡ 10 → {r : Judged} → ConditionalPost tab s (left - 1) row r → SentencePost tab s left row r
+    pub statement-if : k ≡ 10 → {r : Judged} → ConditionalPost tab s (left - 1) row r → StatementPost tab s left row r
     unfolding judge Holds Matches nodes
-    sentence-if is {r} f = record { says = λ ts G Γ sc t h. go ts G Γ sc t (own row kind sc ∙ ap (kindAt ts) (sym (h .at))) (h .at) (h .holds) (h .matches) (h .few) }
+    statement-if is {r} f = record { says = λ ts G Γ sc t h. go ts G Γ sc t (own row kind sc ∙ ap (kindAt ts) (sym (h .at))) (h .at) (h .holds) (h .matches) (h .few) }
       where
         go : (ts : List Token) (G : List Class) (Γ : Context) → InScope tab ts G Γ s → (t : Statement) → k ≡ kindAt ts (rowOf t) → rowOf t ≡ row → Holds tab t → Matches ts t → nodes t ≤ left
             → r ≡ settled (judge G Γ t)
@@ -260,9 +260,9 @@ module _ {tab : List ℕ} {s : Scope} {left row : ℕ} where
         go ts G Γ sc (assign q x e) q′ at h m few = absurd (omega (arith, q′, is, name-kind _ (m .0 .named)))
         go ts G Γ sc (assignElement q x i e) q′ at h m few = absurd (omega (arith, q′, is, name-kind _ (m .0 .named)))
 
-    pub sentence-while : k ≡ 23 → {r : Judged} → LoopPost tab s (left - 1) row r → SentencePost tab s left row r
+    pub statement-while : k ≡ 23 → {r : Judged} → LoopPost tab s (left - 1) row r → StatementPost tab s left row r
     unfolding judge Holds Matches nodes
-    sentence-while is {r} f = record { says = λ ts G Γ sc t h. go ts G Γ sc t (own row kind sc ∙ ap (kindAt ts) (sym (h .at))) (h .at) (h .holds) (h .matches) (h .few) }
+    statement-while is {r} f = record { says = λ ts G Γ sc t h. go ts G Γ sc t (own row kind sc ∙ ap (kindAt ts) (sym (h .at))) (h .at) (h .holds) (h .matches) (h .few) }
       where
         go : (ts : List Token) (G : List Class) (Γ : Context) → InScope tab ts G Γ s → (t : Statement) → k ≡ kindAt ts (rowOf t) → rowOf t ≡ row → Holds tab t → Matches ts t → nodes t ≤ left
             → r ≡ settled (judge G Γ t)
@@ -273,9 +273,9 @@ module _ {tab : List ℕ} {s : Scope} {left row : ℕ} where
         go ts G Γ sc (assign q x e) q′ at h m few = absurd (omega (arith, q′, is, name-kind _ (m .0 .named)))
         go ts G Γ sc (assignElement q x i e) q′ at h m few = absurd (omega (arith, q′, is, name-kind _ (m .0 .named)))
 
-    pub sentence-print : k ≡ 19 → {first : ℕ} → first ≡ wordAt tab 4 row → {r : Judged} → OperandPost tab s (left - 1) first 2048 r → SentencePost tab s left row r
+    pub statement-print : k ≡ 19 → {first : ℕ} → first ≡ wordAt tab 4 row → {r : Judged} → OperandPost tab s (left - 1) first 2048 r → StatementPost tab s left row r
     unfolding judge Holds Matches nodes
-    sentence-print is e₄ {r} f = record { says = λ ts G Γ sc t h. go ts G Γ sc t (own row kind sc ∙ ap (kindAt ts) (sym (h .at))) (h .at) (h .holds) (h .matches) (h .few) }
+    statement-print is e₄ {r} f = record { says = λ ts G Γ sc t h. go ts G Γ sc t (own row kind sc ∙ ap (kindAt ts) (sym (h .at))) (h .at) (h .holds) (h .matches) (h .few) }
       where
         go : (ts : List Token) (G : List Class) (Γ : Context) → InScope tab ts G Γ s → (t : Statement) → k ≡ kindAt ts (rowOf t) → rowOf t ≡ row → Holds tab t → Matches ts t → nodes t ≤ left
             → r ≡ settled (judge G Γ t)
@@ -286,9 +286,9 @@ module _ {tab : List ℕ} {s : Scope} {left row : ℕ} where
         go ts G Γ sc (assign q x e) q′ at h m few = absurd (omega (arith, q′, is, name-kind _ (m .0 .named)))
         go ts G Γ sc (assignElement q x i e) q′ at h m few = absurd (omega (arith, q′, is, name-kind _ (m .0 .named)))
 
-    pub sentence-assignment : (k ≡ 38 → ⊥) → (k ≡ 10 → ⊥) → (k ≡ 23 → ⊥) → (k ≡ 19 → ⊥) → {r : Judged} → AssignmentPost tab s (left - 1) row r → SentencePost tab s left row r
+    pub statement-assignment : (k ≡ 38 → ⊥) → (k ≡ 10 → ⊥) → (k ≡ 23 → ⊥) → (k ≡ 19 → ⊥) → {r : Judged} → AssignmentPost tab s (left - 1) row r → StatementPost tab s left row r
     unfolding judge Holds Matches nodes
-    sentence-assignment n₁ n₂ n₃ n₄ {r} f = record { says = λ ts G Γ sc t h. go ts G Γ sc t (own row kind sc ∙ ap (kindAt ts) (sym (h .at))) (h .at) (h .holds) (h .matches) (h .few) }
+    statement-assignment n₁ n₂ n₃ n₄ {r} f = record { says = λ ts G Γ sc t h. go ts G Γ sc t (own row kind sc ∙ ap (kindAt ts) (sym (h .at))) (h .at) (h .holds) (h .matches) (h .few) }
       where
         go : (ts : List Token) (G : List Class) (Γ : Context) → InScope tab ts G Γ s → (t : Statement) → k ≡ kindAt ts (rowOf t) → rowOf t ≡ row → Holds tab t → Matches ts t → nodes t ≤ left
             → r ≡ settled (judge G Γ t)
@@ -318,7 +318,7 @@ module _ {tab : List ℕ} {s : Scope} {left row : ℕ} where
       go ts G Γ few noStatements at m = refl
       go ts G Γ few (sequence t ss) at m = absurd (omega (arith, there ts t (m .0), at))
 
-  module _ (near : row < absent) {v : Judged} (f : SentencePost tab s left row v) where
+  module _ (near : row < absent) {v : Judged} (f : StatementPost tab s left row v) where
     pub list-refused : {n p : ℕ} → v ≡ Refused n p → ListPost tab s left row (Refused n p)
     unfolding judge Holds Matches nodes
     list-refused {n} {p} is = record { says = λ ts G Γ sc ss h. go ts G Γ sc ss (h .at) (h .holds) (h .matches) (h .few) }

@@ -17,7 +17,7 @@ use Rattle.bodies.specs.declared.scope.Scope.{Scope}
 use Rattle.bodies.specs.Scoping.{InScope, PartAt}
 
 module _ (tab : List ℕ) (s : Scope) where
-  pub record SentencePost (left row : ℕ) (r : Judged) : Type 0 where
+  pub record StatementPost (left row : ℕ) (r : Judged) : Type 0 where
     pub says : (ts : List Token) (G : List Class) (Γ : Context) → InScope tab ts G Γ s → (t : Statement) → PartAt tab ts row left t → r ≡ settled (judge G Γ t)
 
   pub record ListPost (left row : ℕ) (r : Judged) : Type 0 where

@@ -14,7 +14,7 @@ use parser::table::kind;
 ghost use Prim.Native.Nat.{_≤_, _<_};
 ghost use lib.ListN.{length};
 ghost use Rattle.reader.specs.WalkPost.{Walkable};
-ghost use Rattle.bodies.specs.StatementPost.{SentencePost, ListPost, ConditionalPost, BranchesPost, LoopPost, AssignmentPost, AssignedPost, ValuePost};
+ghost use Rattle.bodies.specs.StatementPost.{StatementPost, ListPost, ConditionalPost, BranchesPost, LoopPost, AssignmentPost, AssignedPost, ValuePost};
 
 // Index and value of an assignment to an element.
 fn index_and_value(table: &[u32], s: Scope, left: usize, row: usize) -> Judged
@@ -57,7 +57,7 @@ fn assignment(table: &[u32], s: Scope, left: usize, row: usize) -> Judged
 // A statement.
 pub fn single(table: &[u32], s: Scope, left: usize, row: usize) -> Judged
     requires { ⌜ Walkable (now table) (s .tokens) × (row < 4294967296) × (left ≤ s .tokens) ⌝ }
-    ensures { λ r. ⌜ SentencePost (now (table .entry)) s left row r ⌝ }
+    ensures { λ r. ⌜ StatementPost (now (table .entry)) s left row r ⌝ }
 {
     if left == 0 {
         return Judged::Refused(0, 0);

@@ -80,14 +80,14 @@ fn begin_statement(
     t: Task,
 ) -> Turn
     requires { ⌜ (16384 ≤ length (now table)) × (n ≤ 2048) × Bounded (length (now tasks)) m ⌝ }
-    ensures { λ r. ⌜ Post.BeginPost (now (table .entry)) budget (Words.sentence (now (table .entry)) (now (heap .entry)) n call row) m row t
+    ensures { λ r. ⌜ Post.BeginPost (now (table .entry)) budget (Words.statement (now (table .entry)) (now (heap .entry)) n call row) m row t
         (now (tasks .entry)) (now (values .entry)) r (now (tasks .exit)) (now (values .exit)) ⌝ }
 {
     if budget <= m.steps {
         let at = word(table, 3, row as usize);
         return Turn::End(50, at);
     }
-    let b = begin::sentence(table, heap, n, call, row as usize);
+    let b = begin::statement(table, heap, n, call, row as usize);
     lay_over(tasks, values, m, b, t)
 }
 

@@ -156,9 +156,9 @@ fn assignment(table: &[u32], heap: &[i32], n: usize, call: Call, row: usize) -> 
 }
 
 // A statement.
-pub fn sentence(table: &[u32], heap: &[i32], n: usize, call: Call, row: usize) -> Begun
+pub fn statement(table: &[u32], heap: &[i32], n: usize, call: Call, row: usize) -> Begun
     requires { ⌜ (16384 ≤ length (now table)) × (n ≤ 2048) × (row < 4294967296) ⌝ }
-    ensures { λ r. ⌜ r ≡ Words.sentence (now (table .entry)) (now (heap .entry)) n call row ⌝ }
+    ensures { λ r. ⌜ r ≡ Words.statement (now (table .entry)) (now (heap .entry)) n call row ⌝ }
 {
     let k = kind(table, n, row);
     if k == kinds::OPEN_BRACE {

@@ -23,7 +23,7 @@ use Rattle.declarations.specs.Indexing.{Ready}
 use Rattle.bodies.specs.declared.scope.Scope.{Scope}
 use Rattle.bodies.specs.Scoping.{ListedAt, InScope}
 use Rattle.bodies.specs.ExpressionPost.{OperandPost}
-use Rattle.bodies.specs.StatementPost.{SentencePost, ListPost}
+use Rattle.bodies.specs.StatementPost.{StatementPost, ListPost}
 use Rattle.typecheck.specs.MethodPost.{CarriedJudged, BodyJudged, MethodsJudged, ClassesJudged, BodiesJudged}
 
 -- STATEMENTS AND RETURN EXPRESSION
@@ -211,7 +211,7 @@ mainScope n classes = record { tokens = n; classes = classes; owner = absent; pa
 none-listed : (tab : List ℕ) (n : ℕ) (ts : List Token) → ListedAt tab n ts absent []
 none-listed tab n ts = record { at = refl; stand = no-variables; few = omega arith }
 
-module _ {tab : List ℕ} {n classes : ℕ} {v : Judged} (f : SentencePost tab (mainScope n classes) n 14 v) where
+module _ {tab : List ℕ} {n classes : ℕ} {v : Judged} (f : StatementPost tab (mainScope n classes) n 14 v) where
   main-settled : (ts : List Token) (p : Program) → Ready tab n ts p → length (p .classes) ≡ classes → v ≡ settled (judge (p .classes) mainContext (p .statement))
   main-settled ts p h l =
       f .says ts (p .classes) mainContext

@@ -25,7 +25,7 @@ use Rattle.bodies.proofs.stmt.+branches+conditional+list+repeated+singl
 use Rattle.bodies.proofs.stmt.+branches+conditional+list+repeated+single.Tie.{close}
 use borrow.Author.Needs.{needs}
 use Prim.Native.Nat.{_+_, _*_, _-_}
-use Rattle.bodies.proofs.StatementLaws.{branches-second, branches-first, conditional-branches, conditional-refused, list-none, list-end, list-next, list-refused, loop-body, loop-refused, sentence-none, sentence-block, sentence-if, sentence-while, sentence-print, sentence-assignment}
+use Rattle.bodies.proofs.StatementLaws.{branches-second, branches-first, conditional-branches, conditional-refused, list-none, list-end, list-next, list-refused, loop-body, loop-refused, statement-none, statement-block, statement-if, statement-while, statement-print, statement-assignment}
 
 abbrev μ-branches : Measures 1 branches-kinds.ps ℕ
 μ-branches κs a = 4 * a .1 .1 .0 + 1
@@ -192,7 +192,7 @@ module _ (t : ℕ) where
   repeated-returns-2 c = search loop-refused
 
   single-returns : single-lts.Need-returns (single-calls t) (single-at t) single.Post
-  single-returns c = search sentence-none
+  single-returns c = search statement-none
 
   single-kind-requires : single-lts.Need-kind-requires (single-calls t) (single-at t) single.Post
   single-kind-requires c κs = search needs
@@ -207,7 +207,7 @@ module _ (t : ℕ) where
   single-list-requires c κs = search needs
 
   single-returns-2 : single-lts.Need-returns-2 (single-calls t) (single-at t) single.Post
-  single-returns-2 c = search sentence-block
+  single-returns-2 c = search statement-block
 
   single-sub-conditional : single-lts.Need-sub-conditional (single-calls t) (single-at t) single.Post
   single-sub-conditional c = search needs
@@ -216,7 +216,7 @@ module _ (t : ℕ) where
   single-conditional-requires c κs = search needs
 
   single-returns-3 : single-lts.Need-returns-3 (single-calls t) (single-at t) single.Post
-  single-returns-3 c = search sentence-if
+  single-returns-3 c = search statement-if
 
   single-sub-repeated : single-lts.Need-sub-repeated (single-calls t) (single-at t) single.Post
   single-sub-repeated c = search needs
@@ -225,7 +225,7 @@ module _ (t : ℕ) where
   single-repeated-requires c κs = search needs
 
   single-returns-4 : single-lts.Need-returns-4 (single-calls t) (single-at t) single.Post
-  single-returns-4 c = search sentence-while
+  single-returns-4 c = search statement-while
 
   single-sub-operand : single-lts.Need-sub-operand (single-calls t) (single-at t) single.Post
   single-sub-operand c = search needs
@@ -237,7 +237,7 @@ module _ (t : ℕ) where
   single-operand-requires c κs = search needs
 
   single-returns-5 : single-lts.Need-returns-5 (single-calls t) (single-at t) single.Post
-  single-returns-5 c = search sentence-print
+  single-returns-5 c = search statement-print
 
   single-sub-assignment : single-lts.Need-sub-assignment (single-calls t) (single-at t) single.Post
   single-sub-assignment c = search needs
@@ -246,7 +246,7 @@ module _ (t : ℕ) where
   single-assignment-requires c κs = search needs
 
   single-returns-6 : single-lts.Need-returns-6 (single-calls t) (single-at t) single.Post
-  single-returns-6 c = search sentence-assignment
+  single-returns-6 c = search statement-assignment
 
 pub +branches+conditional+list+repeated+single-spec : {M : Type 1} → statement M
 +branches+conditional+list+repeated+single-spec =

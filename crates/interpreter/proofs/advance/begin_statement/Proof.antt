@@ -5,7 +5,7 @@ use Rattle.interpreter.proofs.advance.begin_statement.Tie as tie
 use Rattle.interpreter.proofs.advance.begin_statement.Reads as reads
 use Rattle.interpreter.proofs.advance.begin_statement.Lts as lts
 use Rattle.interpreter.proofs.advance.lay_over.Reads as lay-over-reads
-use Rattle.interpreter.proofs.begin.sentence.Reads as sentence-reads
+use Rattle.interpreter.proofs.begin.statement.Reads as statement-reads
 use Rattle.lookup.proofs.rows.word.Reads as word-reads
 use Rattle.interpreter.specs.AdvancePost.{spent, begun}
 
@@ -15,8 +15,8 @@ word-requires c κs = search needs
 returns : tie.Need-returns
 returns c = search spent
 
-sentence-requires : tie.Need-sentence-requires
-sentence-requires c κs = search needs
+statement-requires : tie.Need-statement-requires
+statement-requires c κs = search needs
 
 lay-over-requires : tie.Need-lay-over-requires
 lay-over-requires c κs = search needs
@@ -36,7 +36,7 @@ begin-statement-spec =
     (tie.spec
     word-requires
     returns
-    sentence-requires
+    statement-requires
     lay-over-requires
     same-length
     same-length-2
