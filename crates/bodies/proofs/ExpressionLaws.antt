@@ -25,7 +25,7 @@ use Rattle.reader.specs.Holds.{Holds}
 use Rattle.reader.specs.Matches.{Matches, NameIs}
 use Rattle.checker.specs.ClassTable.{Found, Context, Meaning, meaningType, chain, methodOf, known, meaning}
 use Rattle.checker.specs.Judge.{judge, must, receiver, arity, invocation}
-use Rattle.typing.specs.Tests.{or-neither}
+use Rattle.base.specs.Tests.{apart, or-neither}
 use Rattle.typing.specs.Choices.{bind-assoc}
 use Rattle.lookup.specs.declared.answer.Judged.{Judged}
 use Rattle.lookup.specs.declared.answer.Judged.the-variants.{Fine, Refused}
@@ -39,9 +39,6 @@ use Rattle.bodies.specs.Scoping.{ListedAt, InScope, PartAt, Means, unmea
 use Rattle.bodies.specs.ExpressionPost.{NamePost, ThisPost, AtomPost, ExpressionPost, OperandPost, SinglePost, PairPost, CreationPost, DottedPost, CallPost, InvocationPost, ArgumentsPost, ObjectPost, SameCount}
 
 -- ANSWERS
-
-pub apart : {A : Type 0} → _≡_ {A = ℕ} 0 1 → A
-apart z = absurd (omega arith)
 
 pub judges-fine : {ts : List Token} {o : Outcome Ty} {v : Judged} {w : ℕ} → Judges ts o v → v ≡ Fine w → (t : Ty) × (o ≡ accepted t) × Codes ts t w
 judges-fine {ts} {w = w} (well {t = t} {w = u} c) e = let z : u ≡ w = cc in (t, refl, subst (Codes ts t) z c)

@@ -32,7 +32,7 @@ use Rattle.reader.specs.ReadPost.{Filling}
 use Rattle.checker.specs.ClassTable.{classNamed}
 use Rattle.checker.specs.Declarations.{occurs, distinctClasses}
 use Rattle.checker.specs.Typing.{className}
-use Rattle.typing.specs.Tests.{same-refl}
+use Rattle.base.specs.Tests.{same-refl}
 use Rattle.typing.specs.Choices.{by-test, refused-accepted}
 use Rattle.typing.specs.Chains.{all-classes}
 use Rattle.typing.specs.Distinctness.{distinct-rest}

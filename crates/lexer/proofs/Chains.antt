@@ -14,7 +14,7 @@ use Rattle.base.specs.Table.{col}
 use Rattle.lexer.specs.Kinds.{isName}
 use Rattle.lexer.specs.Tokens.{Token}
 use Rattle.lexer.specs.Rows.{firstNamed, RowOf, Rows}
-use Rattle.lexer.specs.Tests.{apart, same-refl, same-eq}
+use Rattle.base.specs.Tests.{apart, same-refl, same-equal}
 use Rattle.lexer.specs.RowLaws.{Named, first-none, first-stable}
 use Rattle.lexer.specs.Chains.{textAt, tokenAt, tokensOf, Reaches, here, next, Numbered, Filled, Sought}
 
@@ -102,7 +102,7 @@ module _ {s tab : List ℕ} {n x : ℕ} {t : List ℕ} (h : 0 < x) (c : Sought s
       let m = c .link .named (x - 1) back in
       sought-row .name m
       ∙ sym (number-kept s tab n (x - 1) row-inside m)
-      ∙ ap (firstNamed (tokensOf s tab n)) (same-eq (textAt s tab (x - 1)) t e)
+      ∙ ap (firstNamed (tokensOf s tab n)) (same-equal (textAt s tab (x - 1)) t e)
 
   pub sought-next : same (textAt s tab (x - 1)) t ≡ false → Sought s tab n (col tab 6 (x - 1)) t
   sought-next e = record {

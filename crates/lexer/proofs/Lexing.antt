@@ -9,7 +9,7 @@ use Rattle.base.specs.Outcome.{Outcome, accepted, refused, _>>=_}
 use Rattle.base.specs.Table.{col, cell}
 use Rattle.lexer.specs.Tokens.{Token, Item, gap, unclosed, nothing, token, item, turn, tokensFrom, tokens}
 use Rattle.lexer.specs.Rows.{Answers}
-use Rattle.lexer.specs.Tests.{apart}
+use Rattle.base.specs.Tests.{apart}
 use Rattle.lexer.specs.ItemLaws.{Good, Shape, good}
 use Rattle.lexer.specs.Chains.{tokensOf, Chained, Added}
 use Rattle.lexer.specs.Scan.{pieceOf}

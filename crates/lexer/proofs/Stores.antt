@@ -13,7 +13,7 @@ use Rattle.base.specs.Table.{col, put, rows, size, length-put, col-put-same, co
 use Rattle.lexer.specs.Kinds.{kLiteral, isName}
 use Rattle.lexer.specs.Tokens.{Token, decimal}
 use Rattle.lexer.specs.Rows.{firstNamed}
-use Rattle.lexer.specs.Tests.{apart}
+use Rattle.base.specs.Tests.{apart}
 use Rattle.lexer.specs.RowLaws.{first-named, first-most}
 use Rattle.lexer.specs.Chains.{bucketFrom, textAt, tokenAt, tokensOf, Row, rowOf, stored, Link, Reaches, here, next, Numbered, Filled, Chained, Sought, Adding, Extended}
 use Rattle.lexer.specs.Verdicts.{numberOf}

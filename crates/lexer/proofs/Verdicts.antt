@@ -14,7 +14,7 @@ use Rattle.base.specs.Codes.{tokensMost, nameMost, literalMost}
 use Rattle.base.specs.Outcome.{Outcome, accepted, refused, _>>=_}
 use Rattle.lexer.specs.Kinds.{kLiteral, isName}
 use Rattle.lexer.specs.Tokens.{Token, token, decimal, tooLong, tooLarge, turn}
-use Rattle.lexer.specs.Tests.{apart}
+use Rattle.base.specs.Tests.{apart}
 use Rattle.lexer.specs.Verdicts.{literalOf, numberOf, verdictOf}
 use Rattle.lexer.specs.Chains.{Extended, Added}
 use Rattle.lexer.specs.declared.Stored.the-variants.{Refused as Declined, Done}

@@ -18,7 +18,7 @@ use Rattle.base.specs.Lists.{get-below}
 use Rattle.base.specs.Outcome.{Outcome, accepted, refused, _>>=_}
 use Rattle.lexer.specs.Kinds.{kEnd, kLiteral, isName}
 use Rattle.lexer.specs.Tokens.{Token, Item, gap, unclosed, nothing, token, decimal, item, tooLong, tooLarge, turn, tokensFrom, tokens}
-use Rattle.lexer.specs.Tests.{apart, and-true, and-right, same-refl, same-eq}
+use Rattle.base.specs.Tests.{apart, and-true, and-right, same-refl, same-equal}
 use Rattle.lexer.specs.ItemLaws.{Good, Shape, good}
 use Rattle.lexer.specs.Rows.{firstNamed, Rows, Answers}
 use Rattle.lexer.specs.declared.Lexed.the-variants.{Tokens, Refused}
@@ -63,7 +63,7 @@ first-named (t ∷ ts) x h = go (hit t x) refl h (first-named ts x)
         → (firstNamed ts x < length ts → Named ts (firstNamed ts x) x) → Named (t ∷ ts) (if c then (λ _. 0) else λ _. firstNamed ts x + 1) x
     go true e l f =
         let q = and-true (isName (t .kind)) (same (t .text) x) e in
-        record { item = t; at = refl; named = q .0; text = same-eq (t .text) x (q .1) }
+        record { item = t; at = refl; named = q .0; text = same-equal (t .text) x (q .1) }
     go false e l f =
         let n = f (omega arith) in
         record { item = n .item; at = ap (getElem? (t ∷ ts)) (add-one (firstNamed ts x)) ∙ n .at; named = n .named; text = n .text }
@@ -87,7 +87,7 @@ first-none (t ∷ ts) x f =
     go : (c : Bool) → hit t x ≡ c → firstNamed ts x ≡ length ts → (if c then (λ _. 0) else λ _. firstNamed ts x + 1) ≡ suc (length ts)
     go true e h =
         let q = and-true (isName (t .kind)) (same (t .text) x) e in
-        absurd (f zero (record { item = t; at = refl; named = q .0; text = same-eq (t .text) x (q .1) }))
+        absurd (f zero (record { item = t; at = refl; named = q .0; text = same-equal (t .text) x (q .1) }))
     go false e h = omega arith
 
 -- a name's number is fixed by the tokens before it

@@ -10,7 +10,7 @@ use lib.Dec.{T, eqb, leb, leb→le}
 use borrow.Author.Tests.{eqb-false, leb-true}
 use Rattle.base.specs.Choice.{if_then_else_}
 use Rattle.base.specs.Bytes.{bytes, same}
-use Rattle.lexer.specs.Tests.{and-true, same-unlike}
+use Rattle.base.specs.Tests.{and-true, same-unlike}
 use Rattle.lexer.specs.Kinds.{Word, words, kindIn, wordKind, kName, kOut, kPrintln, kBoolean, kClass, kElse, kExtends, kFalse, kIf, kInt, kLength, kMain, kNew, kPublic, kReturn, kStatic, kString, kSystem, kThis, kTrue, kVoid, kWhile}
 
 unfoldable pub twos : List Word

@@ -4,6 +4,7 @@ use mathlib.Core.Path.{_≡_, refl}
 use mathlib.Core.List.{List}
 use native.Mathlib.Omega.{arith}
 use Rattle.base.specs.Outcome.{Outcome, accepted, refused, _>>=_}
+use Rattle.base.specs.Tests.{apart}
 use Rattle.lexer.specs.Tokens.{Token}
 use Rattle.parser.specs.Tree.{Ty}
 use Rattle.lookup.specs.declared.answer.Judged.{Judged}
@@ -13,9 +14,6 @@ use Rattle.lookup.specs.Standing.{Codes}
 abbrev pub settled : Outcome (Unit {0}) → Judged
 settled (accepted u) = Fine 0
 settled (refused n p) = Refused n p
-
-apart : {A : Type 0} → _≡_ {A = ℕ} 0 1 → A
-apart z = absurd (omega arith)
 
 pub settled-fine : (o : Outcome (Unit {0})) {v : Judged} {w : ℕ} → v ≡ settled o → v ≡ Fine w → o ≡ accepted tt
 settled-fine (accepted tt) e f = refl

@@ -8,6 +8,7 @@ use lib.Seq.{set-append-seam}
 use native.Mathlib.Nat.{le-of-suc-le-suc}
 use borrow.Author.Tests.{lt-ltb, le-ltb}
 use Rattle.base.specs.Codes.{tableLeast}
+use Rattle.base.specs.Tests.{apart}
 use Rattle.lexer.specs.Tokens.{Token}
 use Rattle.parser.specs.Tree.{Class}
 use Rattle.parser.specs.Layout.{rowClasses}
@@ -108,9 +109,6 @@ module _ {tab : List ℕ} {classes : ℕ} {before : List ℕ} where
       }
 
 -- THE ANSWER
-
-apart : {A : Type 0} → _≡_ {A = ℕ} 0 1 → A
-apart z = absurd (omega arith)
 
 module _ (s : List ℕ) (f : Found) (middle before : List ℕ) (l : Leaves (checking s) f middle) where
   pub answer-found : {n k : ℕ} → f ≡ found n k → {r : CheckAnswer} {after : List ℕ} → Fills middle k before (answerOf r) after → MenuMeets (checking s) before (answerOf r) after

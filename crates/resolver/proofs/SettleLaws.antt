@@ -4,6 +4,7 @@ use native.Mathlib.Omega.{arith}
 use mathlib.Core.Path.{_≡_, sym, _∙_, subst}
 use mathlib.Core.List.{List}
 use lib.ListN.{length}
+use Rattle.base.specs.Tests.{apart}
 use Rattle.parser.specs.Tree.{Program}
 use Rattle.checker.specs.Check.{Verdict, accept, refuse, refuseEndless, checking}
 use Rattle.resolver.specs.Resolving.{Prepared, Resolved, ResolvePost}
@@ -11,9 +12,6 @@ use Rattle.typecheck.specs.declared.check.Found.{Found}
 use Rattle.typecheck.specs.declared.check.Found.the-variants.{Program as found, Refused as unfit}
 use Rattle.typecheck.specs.CheckPost.{Holding, Leaves}
 use Rattle.resolver.specs.Settling.{Accepted, Settles}
-
-apart : {A : Type 0} → _≡_ {A = ℕ} 0 1 → A
-apart z = absurd (omega arith)
 
 module _ (s : List ℕ) (f : Found) (middle : List ℕ) (l : Leaves (checking s) f middle) where
   -- the bounds that the resolver asks for

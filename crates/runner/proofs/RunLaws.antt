@@ -9,6 +9,7 @@ use lib.ListN.{length, drop, replicate}
 use lib.IntN.{ℤ, pos}
 use lib.Dec.{eqb, ltb}
 use borrow.Author.Tests.{eq-eqb, ne-eqb, lt-ltb, le-ltb}
+use Rattle.base.specs.Tests.{apart}
 use Rattle.parser.specs.Tree.{Program}
 use Rattle.checker.specs.Check.{Verdict, accept, refuse, refuseEndless, Refuses, checking}
 use Rattle.typecheck.specs.declared.check.Found.{Found}
@@ -27,9 +28,6 @@ use Rattle.runner.specs.declared.run.RunAnswer.{RunAnswer}
 use Rattle.runner.specs.RunPost.{answerOf, strips, refused, Performs}
 
 -- CHECK'S PROMISE
-
-apart : {A : Type 0} → _≡_ {A = ℕ} 0 1 → A
-apart z = absurd (omega arith)
 
 -- an accepted lesson can be run
 runnable : (s : List ℕ) (p : Program) (tokens classes : ℕ) (tab : List ℕ) → checking s ≡ accept p → (a : Accepted p (found tokens classes) tab)

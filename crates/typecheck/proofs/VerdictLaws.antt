@@ -7,6 +7,7 @@ use lib.ListN.{length, replicate}
 use borrow.Author.Tests.{lt-ltb, le-ltb}
 use Rattle.base.specs.Codes.{tableLeast, chainEndless}
 use Rattle.base.specs.Outcome.{Outcome, accepted, refused, _>>=_}
+use Rattle.base.specs.Tests.{apart}
 use Rattle.lexer.specs.Tokens.{Token}
 use Rattle.parser.specs.Tree.{Class, Program}
 use Rattle.parser.specs.Grammar.{DerivesProgram}
@@ -30,9 +31,6 @@ use Rattle.typecheck.specs.declared.check.Found.the-variants.{Program as
 use Rattle.typecheck.specs.declared.check.CheckAnswer.{CheckAnswer}
 use Rattle.typecheck.specs.MethodPost.{BodiesJudged}
 use Rattle.typecheck.specs.CheckPost.{Holding, Leaves, ContentsJudged, Tells, chainsOn, ChainedJudged, IndexedJudged, TreeJudged, answerOf}
-
-apart : {A : Type 0} → _≡_ {A = ℕ} 0 1 → A
-apart z = absurd (omega arith)
 
 -- the classes of a ready table, from the first on
 classes-at : {tab : List ℕ} {n : ℕ} {ts : List Token} {p : Program} → Ready tab n ts p → {first : ℕ} → rowClasses (p .classes) ≡ first → ClassesAt tab n ts (p .classes) n first
