@@ -1,5 +1,5 @@
 -- What the functions of a call return meets their contracts: a class is known by its row, and the way up leads from the name of its parent to that class's row.
-use Prim.Native.Nat.{ℕ, zero, suc, _+_, _-_, _≤_, _<_}
+use Prim.Native.Nat.{ℕ, _+_, _-_, _≤_, _<_}
 use native.Mathlib.Omega.{arith}
 use native.Mathlib.Decide.{ℕ-discrete}
 use mathlib.Core.Path.{_≡_, refl, sym, ap, _∙_, subst}
@@ -9,6 +9,7 @@ use lib.ListN.{length, getD, set, replicate, length-set, length-replicate}
 use lib.IntN.{ℤ}
 use lib.Seq.{getD-set-same, getD-set-other}
 use Rattle.base.specs.Choice.{option}
+use Rattle.base.specs.Lists.{getD-replicate-same}
 use Rattle.lexer.specs.Tokens.{Token}
 use Rattle.parser.specs.Tree.{Name, Method, Class, Program}
 use Rattle.parser.specs.Layout.{rowParent}
@@ -151,15 +152,10 @@ pub record Opening (values : List ℕ) (from given : ℕ) (row : List ℕ) (i : 
   pub filled : (j : ℕ) → j < i → getD row j 0 ≡ getD values (from + j) 0
   pub empty : (j : ℕ) → i ≤ j → getD row j 0 ≡ 0
 
-zero-at : (k j : ℕ) → _≡_ {A = ℕ} (getD (replicate k 0) j 0) 0
-zero-at zero j = refl
-zero-at (suc k) zero = refl
-zero-at (suc k) (suc j) = zero-at k j
-
 module _ {values : List ℕ} {from given : ℕ} where
   pub opening-none : Opening values from given (replicate 32 0) 0
   opening-none =
-      record { long = length-replicate {A = ℕ} 32 0; most = omega arith; within = omega arith; filled = λ j h. absurd (omega arith); empty = λ j h. zero-at 32 j }
+      record { long = length-replicate {A = ℕ} 32 0; most = omega arith; within = omega arith; filled = λ j h. absurd (omega arith); empty = λ j h. getD-replicate-same 32 j 0 }
 
   pub opening-more : {row : List ℕ} {i w : ℕ} → i < given → i < 32 → w ≡ getD values (from + i) 0 → Opening values from given row i
       → Opening values from given (set row i w) (i + 1)
@@ -175,20 +171,12 @@ module _ {values : List ℕ} {from given : ℕ} where
       empty : (j : ℕ) → i + 1 ≤ j → getD (set row i w) j 0 ≡ 0
       empty j h = getD-set-other row i j w 0 (omega arith) ∙ o .empty j (omega arith)
 
-  pub opened-all : {row : List ℕ} {i : ℕ} (receiver : ℕ) → given ≤ i → Opening values from given row i
+  -- the arguments that there is room for are all there
+  pub opened-row : {row : List ℕ} {i : ℕ} (receiver : ℕ) → ((j : ℕ) → j < given → j < 32 → j < i) → Opening values from given row i
       → OpenedPost values receiver from given (record { receiver = receiver; row = row })
-  opened-all receiver h o = record {
+  opened-row receiver all o = record {
     receiver-is = refl;
     long = o .long;
-    arguments = λ j b c. o .filled j (omega arith);
-    others = λ j b. o .empty j (omega (arith, o .within));
-  }
-
-  pub opened-most : {row : List ℕ} {i : ℕ} (receiver : ℕ) → 32 ≤ i → Opening values from given row i
-      → OpenedPost values receiver from given (record { receiver = receiver; row = row })
-  opened-most receiver h o = record {
-    receiver-is = refl;
-    long = o .long;
-    arguments = λ j b c. o .filled j (omega arith);
+    arguments = λ j b c. o .filled j (all j b c);
     others = λ j b. o .empty j (omega (arith, o .within));
   }

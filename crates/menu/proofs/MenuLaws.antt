@@ -7,6 +7,7 @@ use lib.ListN.{length, set, drop, replicate, length-append}
 use lib.Seq.{set-append-seam}
 use native.Mathlib.Nat.{le-of-suc-le-suc}
 use borrow.Author.Tests.{lt-ltb, le-ltb}
+use Rattle.base.specs.Lists.{drop-none}
 use Rattle.base.specs.Codes.{tableLeast}
 use Rattle.base.specs.Tests.{apart}
 use Rattle.lexer.specs.Tokens.{Token}
@@ -52,13 +53,9 @@ same-order : (ps : List ℕ) → List·Permᴰ ps ps
 same-order [] = List·Permᴰ·nil
 same-order (p ∷ ps) = List·Permᴰ·cons refl (same-order ps)
 
-none-dropped : (l : List ℕ) → l ≡ drop 0 l
-none-dropped [] = refl
-none-dropped (x ∷ l) = refl
-
 written-after : (us ps l : List ℕ) → length ps ≤ length l → overwritten (length us) ps (us ++ l) ≡ us ++ (ps ++ drop (length ps) l)
 unfolding overwritten
-written-after us [] l h = ap (λ (k : List ℕ). us ++ k) (none-dropped l)
+written-after us [] l h = ap (λ (k : List ℕ). us ++ k) (drop-none l)
 written-after us (p ∷ ps) [] h = absurd (omega arith)
 written-after us (p ∷ ps) (y ∷ l) h =
     let one : length us + 1 ≡ length (us ++ p ∷ []) = sym (length-append us (p ∷ [])) in

@@ -1,31 +1,29 @@
 -- What the functions of Run return meets their contracts: Check's promise makes the lesson runnable, and the run reports what the machine does.
 use Prim.Native.Nat.{ℕ, _≤_, _<_}
-use native.Mathlib.Omega.{arith}
 use mathlib.Core.Path.{_≡_, refl, sym, ap, _∙_, subst}
-use mathlib.Core.List.{List, [], _∷_, _++_, List·Memᴰ}
-use mathlib.Core.Bool.{Bool, true, false, _||_}
-use mathlib.Core.Option.{Option, none, some}
+use mathlib.Core.List.{List, List·Memᴰ}
+use mathlib.Core.Option.{none, some}
 use lib.ListN.{length, drop, replicate}
 use lib.IntN.{ℤ, pos}
 use lib.Dec.{eqb, ltb}
 use borrow.Author.Tests.{eq-eqb, ne-eqb, lt-ltb, le-ltb}
+use Rattle.base.specs.Lists.{drop-none}
 use Rattle.base.specs.Tests.{apart}
 use Rattle.parser.specs.Tree.{Program}
-use Rattle.checker.specs.Check.{Verdict, accept, refuse, refuseEndless, Refuses, checking}
+use Rattle.checker.specs.Check.{Verdict, accept, refuse, refuseEndless, checking}
 use Rattle.typecheck.specs.declared.check.Found.{Found}
 use Rattle.typecheck.specs.declared.check.Found.the-variants.{Program as found, Refused as unfit}
 use Rattle.resolver.specs.Settling.{Accepted, Settles}
-use Rattle.semantics.specs.Limits.{Limits, run}
-use Rattle.semantics.specs.Run.{Strips, Refusal, Reports, RunMeets, Runs}
+use Rattle.semantics.specs.Limits.{run}
+use Rattle.semantics.specs.Run.{Strips, Refusal, RunMeets, Runs}
 use Rattle.semantics.specs.Run as Run
 use Rattle.guarantees.specs.Accepted.{allowed}
 use Rattle.guarantees.specs.Demand.{fits}
 use Rattle.interpreter.specs.declared.state.Bounds.{Bounds}
-use Rattle.interpreter.specs.declared.state.Sizes.{Sizes}
 use Rattle.interpreter.specs.declared.execute.Ended.{Ended}
-use Rattle.interpreter.specs.Running.{Runnable, Ready, limitsOf, Executed}
+use Rattle.interpreter.specs.Running.{Runnable, Ready, Executed}
 use Rattle.runner.specs.declared.run.RunAnswer.{RunAnswer}
-use Rattle.runner.specs.RunPost.{answerOf, strips, refused, Performs}
+use Rattle.runner.specs.RunPost.{strips, refused, Performs}
 
 -- CHECK'S PROMISE
 
@@ -129,11 +127,7 @@ module _ (s : List ℕ) (budget calls : ℕ) (table : List ℕ) (heap output : L
                 ∙ ap (λ (z : List ℤ). strips (replicate (length table) 0) z output₂) (eh ∙ ap (λ (n : ℕ). replicate n (pos 0)) lh)
                 ∙ ap (strips (replicate (length table) 0) (replicate (length heap) (pos 0))) e
 
-            all-there : (l : List ℤ) → l ≡ drop 0 l
-            all-there [] = refl
-            all-there (x ∷ l) = refl
-
             by : (v : Verdict) → Performs v (record { budget = budget; calls = calls }) heap output a output₂ → RunMeets v budget calls Before a (strips table₂ heap₂ output₂)
             by (accept p) (r, e) = (r, same _ e)
-            by (refuse n i) (r, z, e) = (r, z, same (drop 0 output) (e ∙ all-there output))
-            by (refuseEndless ps) (r, z, e) = (r, z, same (drop 0 output) (e ∙ all-there output))
+            by (refuse n i) (r, z, e) = (r, z, same (drop 0 output) (e ∙ drop-none output))
+            by (refuseEndless ps) (r, z, e) = (r, z, same (drop 0 output) (e ∙ drop-none output))

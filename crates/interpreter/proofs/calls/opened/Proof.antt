@@ -8,7 +8,7 @@ use Rattle.interpreter.proofs.calls.opened.Tie as tie
 use Rattle.interpreter.proofs.calls.opened.Reads as reads
 use Rattle.interpreter.proofs.calls.opened.Lts as lts
 use Rattle.interpreter.proofs.stack.value.Reads as value-reads
-use Rattle.interpreter.proofs.CallLaws.{Opening, opening-none, opening-more, opened-all, opened-most}
+use Rattle.interpreter.proofs.CallLaws.{Opening, opening-none, opening-more, opened-row}
 
 abbrev Inv-loop : tie.InvT-loop
 Inv-loop values receiver from given row₀ i₀ row i = Opening values from given row i
@@ -43,10 +43,12 @@ loop-again c =
     (c .before .before .before .loop .inv)
 
 returns : tie.Need-returns Inv-loop μ-loop
-returns c = opened-most (c .before .before .before .before .args .receiver) (ltb-false (c .before .before .loop .i) 32 (c .if1 .left)) (c .before .before .loop .inv)
+returns c =
+    opened-row (c .before .before .before .before .args .receiver) (λ j a b. omega (arith, ltb-false (c .before .before .loop .i) 32 (c .if1 .left)))
+    (c .before .before .loop .inv)
 
 returns-2 : tie.Need-returns-2 Inv-loop μ-loop
-returns-2 c = opened-all (c .before .before .before .args .receiver) (c .loop-test .left) (c .before .loop .inv)
+returns-2 c = opened-row (c .before .before .before .args .receiver) (λ j a b. omega (arith, c .loop-test .left)) (c .before .loop .inv)
 
 pub opened-spec : {M : Type 1} → statement M
 opened-spec =
