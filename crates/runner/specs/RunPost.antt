@@ -5,7 +5,7 @@ use mathlib.Core.List.{List, _++_}
 use lib.ListN.{length, drop}
 use lib.IntN.{ℤ}
 use Rattle.checker.specs.Check.{Verdict, accept, refuse, refuseEndless, Refuses}
-use Rattle.semantics.specs.Limits.{run}
+use Rattle.semantics.specs.Limits.{Limits, run}
 use Rattle.semantics.specs.Run.{Strips, Refusal, Reports}
 use Rattle.semantics.specs.Run as Run
 use Rattle.interpreter.specs.declared.state.Bounds.{Bounds}
