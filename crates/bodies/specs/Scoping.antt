@@ -10,9 +10,16 @@ use Rattle.parser.specs.Layout.{rowOf, rowVariables}
 use Rattle.parser.specs.Measure.{nodes}
 use Rattle.reader.specs.Holds.{Holds}
 use Rattle.reader.specs.Matches.{Matches}
+use Rattle.reader.specs.WalkPost.{Walkable}
 use Rattle.checker.specs.ClassTable.{Context, Meaning, meaning, meaningType}
 use Rattle.lookup.specs.Standing.{Spells, Numbers, nothing, Codes, VariablesStand, World}
+use Rattle.members.specs.Growth.{Indexed}
 use Rattle.bodies.specs.declared.scope.Scope.{Scope}
+
+-- a table of so many tokens, and the index of the members of its classes
+pub record Judgeable (tab ix : List ℕ) (s : Scope) : Type 0 where
+  pub walkable : Walkable tab (s .tokens)
+  pub indexed : Indexed tab (s .tokens) (s .classes) ix
 
 -- a list of variables begins in a row
 pub record ListedAt (tab : List ℕ) (n : ℕ) (ts : List Token) (row : ℕ) (vs : List Variable) : Type 0 where

@@ -2,7 +2,6 @@
 use crate::scope::Scope;
 use crate::scope::name_type;
 use lookup::answer::Judged;
-use lookup::chain::find_method;
 use lookup::chain::fits;
 use lookup::rows::ABSENT;
 use lookup::rows::word;
@@ -12,12 +11,14 @@ use lookup::types::INT_ARRAY;
 use lookup::types::NOTHING;
 use lookup::types::known;
 use lookup::types::type_of;
+use members::find::method;
 use parser::kinds;
 use parser::kinds::is_atom;
 use parser::table::kind;
 ghost use Prim.Native.Nat.{_≤_, _<_};
 ghost use lib.ListN.{length};
 ghost use Rattle.reader.specs.WalkPost.{Walkable};
+ghost use Rattle.bodies.specs.Scoping.{Judgeable};
 ghost use Rattle.bodies.specs.ExpressionPost.{NamePost, ThisPost, AtomPost, ExpressionPost, OperandPost, SinglePost, PairPost};
 ghost use Rattle.bodies.specs.ExpressionPost.{CreationPost, DottedPost, CallPost, InvocationPost, ArgumentsPost, ObjectPost, SameCount};
 
@@ -33,11 +34,11 @@ fn receiver(table: &[u32], s: Scope, row: usize) -> Judged
 }
 
 // A name: 30.
-pub fn name(table: &[u32], s: Scope, row: usize) -> Judged
-    requires { ⌜ Walkable (now table) (s .tokens) ⌝ }
+pub fn name(table: &[u32], index: &[u32], s: Scope, row: usize) -> Judged
+    requires { ⌜ Judgeable (now table) (now index) s ⌝ }
     ensures { λ r. ⌜ NamePost (now (table .entry)) s row r ⌝ }
 {
-    let t = name_type(table, s, word(table, 2, row));
+    let t = name_type(table, index, s, word(table, 2, row));
     if t < NOTHING {
         return Judged::Fine(t);
     }
@@ -45,8 +46,8 @@ pub fn name(table: &[u32], s: Scope, row: usize) -> Judged
 }
 
 // An expression of one token, of kind k.
-fn atom(table: &[u32], s: Scope, k: u32, row: usize) -> Judged
-    requires { ⌜ Walkable (now table) (s .tokens) ⌝ }
+fn atom(table: &[u32], index: &[u32], s: Scope, k: u32, row: usize) -> Judged
+    requires { ⌜ Judgeable (now table) (now index) s ⌝ }
     ensures { λ r. ⌜ AtomPost (now (table .entry)) s k row r ⌝ }
 {
     if k == kinds::LITERAL {
@@ -61,7 +62,7 @@ fn atom(table: &[u32], s: Scope, k: u32, row: usize) -> Judged
     if k == kinds::THIS {
         return receiver(table, s, row);
     }
-    name(table, s, row)
+    name(table, index, s, row)
 }
 
 // `new C()`: 24.
@@ -94,8 +95,8 @@ fn same_count(table: &[u32], left: usize, a: usize, p: usize) -> bool
 }
 
 // An expression.
-pub fn expression(table: &[u32], s: Scope, left: usize, row: usize) -> Judged
-    requires { ⌜ Walkable (now table) (s .tokens) × (row < 4294967296) × (left ≤ s .tokens) ⌝ }
+pub fn expression(table: &[u32], index: &[u32], s: Scope, left: usize, row: usize) -> Judged
+    requires { ⌜ Judgeable (now table) (now index) s × (row < 4294967296) × (left ≤ s .tokens) ⌝ }
     ensures { λ r. ⌜ ExpressionPost (now (table .entry)) s left row r ⌝ }
 {
     if left == 0 {
@@ -103,35 +104,42 @@ pub fn expression(table: &[u32], s: Scope, left: usize, row: usize) -> Judged
     }
     let k = kind(table, s.tokens, row);
     if is_atom(k) {
-        return atom(table, s, k, row);
+        return atom(table, index, s, k, row);
     }
     if k == kinds::NEW {
-        return creation(table, s, left - 1, row);
+        return creation(table, index, s, left - 1, row);
     }
     if k == kinds::DOT {
-        return dotted(table, s, left - 1, row);
+        return dotted(table, index, s, left - 1, row);
     }
     if k == kinds::NOT {
-        return single(table, s, left - 1, row, BOOLEAN, BOOLEAN);
+        return single(table, index, s, left - 1, row, BOOLEAN, BOOLEAN);
     }
     if k == kinds::OPEN_BRACKET {
-        return pair(table, s, left - 1, row, INT_ARRAY, INT, INT);
+        return pair(table, index, s, left - 1, row, INT_ARRAY, INT, INT);
     }
     if k == kinds::AND {
-        return pair(table, s, left - 1, row, BOOLEAN, BOOLEAN, BOOLEAN);
+        return pair(table, index, s, left - 1, row, BOOLEAN, BOOLEAN, BOOLEAN);
     }
     if k == kinds::LESS {
-        return pair(table, s, left - 1, row, INT, INT, BOOLEAN);
+        return pair(table, index, s, left - 1, row, INT, INT, BOOLEAN);
     }
-    pair(table, s, left - 1, row, INT, INT, INT)
+    pair(table, index, s, left - 1, row, INT, INT, INT)
 }
 
 // An expression that must fit a type: 31.
-pub fn operand(table: &[u32], s: Scope, left: usize, row: usize, want: usize) -> Judged
-    requires { ⌜ Walkable (now table) (s .tokens) × (row < 4294967296) × (left ≤ s .tokens) ⌝ }
+pub fn operand(
+    table: &[u32],
+    index: &[u32],
+    s: Scope,
+    left: usize,
+    row: usize,
+    want: usize,
+) -> Judged
+    requires { ⌜ Judgeable (now table) (now index) s × (row < 4294967296) × (left ≤ s .tokens) ⌝ }
     ensures { λ r. ⌜ OperandPost (now (table .entry)) s left row want r ⌝ }
 {
-    let e = expression(table, s, left, row);
+    let e = expression(table, index, s, left, row);
     match e {
         Judged::Fine(t) => {
             if fits(table, s.tokens, s.classes, t, want) {
@@ -144,11 +152,19 @@ pub fn operand(table: &[u32], s: Scope, left: usize, row: usize, want: usize) ->
 }
 
 // A node with one part, whose type is `answer`.
-fn single(table: &[u32], s: Scope, left: usize, row: usize, want: usize, answer: usize) -> Judged
-    requires { ⌜ Walkable (now table) (s .tokens) × (row < 4294967296) × (left ≤ s .tokens) ⌝ }
+fn single(
+    table: &[u32],
+    index: &[u32],
+    s: Scope,
+    left: usize,
+    row: usize,
+    want: usize,
+    answer: usize,
+) -> Judged
+    requires { ⌜ Judgeable (now table) (now index) s × (row < 4294967296) × (left ≤ s .tokens) ⌝ }
     ensures { λ r. ⌜ SinglePost (now (table .entry)) s left row want answer r ⌝ }
 {
-    let a = operand(table, s, left, word(table, 4, row), want);
+    let a = operand(table, index, s, left, word(table, 4, row), want);
     match a {
         Judged::Fine(_) => Judged::Fine(answer),
         Judged::Refused(number, at) => Judged::Refused(number, at),
@@ -158,6 +174,7 @@ fn single(table: &[u32], s: Scope, left: usize, row: usize, want: usize, answer:
 // A node with two parts, whose type is `answer`.
 fn pair(
     table: &[u32],
+    index: &[u32],
     s: Scope,
     left: usize,
     row: usize,
@@ -165,13 +182,13 @@ fn pair(
     second: usize,
     answer: usize,
 ) -> Judged
-    requires { ⌜ Walkable (now table) (s .tokens) × (row < 4294967296) × (left ≤ s .tokens) ⌝ }
+    requires { ⌜ Judgeable (now table) (now index) s × (row < 4294967296) × (left ≤ s .tokens) ⌝ }
     ensures { λ r. ⌜ PairPost (now (table .entry)) s left row first second answer r ⌝ }
 {
-    let a = operand(table, s, left, word(table, 4, row), first);
+    let a = operand(table, index, s, left, word(table, 4, row), first);
     match a {
         Judged::Fine(_) => {
-            let b = operand(table, s, left, word(table, 5, row), second);
+            let b = operand(table, index, s, left, word(table, 5, row), second);
             match b {
                 Judged::Fine(_) => Judged::Fine(answer),
                 Judged::Refused(number, at) => Judged::Refused(number, at),
@@ -182,58 +199,65 @@ fn pair(
 }
 
 // `new int[e]` or `new C()`.
-fn creation(table: &[u32], s: Scope, left: usize, row: usize) -> Judged
-    requires { ⌜ Walkable (now table) (s .tokens) × (row < 4294967296) × (left ≤ s .tokens) ⌝ }
+fn creation(table: &[u32], index: &[u32], s: Scope, left: usize, row: usize) -> Judged
+    requires { ⌜ Judgeable (now table) (now index) s × (row < 4294967296) × (left ≤ s .tokens) ⌝ }
     ensures { λ r. ⌜ CreationPost (now (table .entry)) s left row r ⌝ }
 {
     if kind(table, s.tokens, row + 1) == kinds::INT {
-        return single(table, s, left, row, INT, INT_ARRAY);
+        return single(table, index, s, left, row, INT, INT_ARRAY);
     }
     new_object(table, s.tokens, row)
 }
 
 // `e.length` or a call.
-fn dotted(table: &[u32], s: Scope, left: usize, row: usize) -> Judged
-    requires { ⌜ Walkable (now table) (s .tokens) × (row < 4294967296) × (left ≤ s .tokens) ⌝ }
+fn dotted(table: &[u32], index: &[u32], s: Scope, left: usize, row: usize) -> Judged
+    requires { ⌜ Judgeable (now table) (now index) s × (row < 4294967296) × (left ≤ s .tokens) ⌝ }
     ensures { λ r. ⌜ DottedPost (now (table .entry)) s left row r ⌝ }
 {
     if kind(table, s.tokens, row + 1) == kinds::LENGTH {
-        return single(table, s, left, row, INT_ARRAY, INT);
+        return single(table, index, s, left, row, INT_ARRAY, INT);
     }
-    call(table, s, left, row)
+    call(table, index, s, left, row)
 }
 
 // `e.m(e, ..)`: the receiver must be an object, 31.
-fn call(table: &[u32], s: Scope, left: usize, row: usize) -> Judged
-    requires { ⌜ Walkable (now table) (s .tokens) × (row < 4294967296) × (left ≤ s .tokens) ⌝ }
+fn call(table: &[u32], index: &[u32], s: Scope, left: usize, row: usize) -> Judged
+    requires { ⌜ Judgeable (now table) (now index) s × (row < 4294967296) × (left ≤ s .tokens) ⌝ }
     ensures { λ r. ⌜ CallPost (now (table .entry)) s left row r ⌝ }
 {
     let first = word(table, 4, row);
-    let e = expression(table, s, left, first);
+    let e = expression(table, index, s, left, first);
     match e {
         Judged::Fine(t) => {
             if INT <= t {
                 return Judged::Refused(31, word(table, 3, first));
             }
-            invocation(table, s, left, row, t)
+            invocation(table, index, s, left, row, t)
         }
         Judged::Refused(number, at) => Judged::Refused(number, at),
     }
 }
 
 // The method, in a class of name c, and the arguments: 32, 33.
-fn invocation(table: &[u32], s: Scope, left: usize, row: usize, c: usize) -> Judged
-    requires { ⌜ Walkable (now table) (s .tokens) × (row < 4294967296) × (left ≤ s .tokens) ⌝ }
+fn invocation(table: &[u32], index: &[u32], s: Scope, left: usize, row: usize, c: usize) -> Judged
+    requires { ⌜ Judgeable (now table) (now index) s × (row < 4294967296) × (left ≤ s .tokens) ⌝ }
     ensures { λ r. ⌜ InvocationPost (now (table .entry)) s left row c r ⌝ }
 {
-    let m = find_method(table, s.tokens, s.classes, c, word(table, 2, row + 1));
+    let m = method(
+        table,
+        index,
+        s.tokens,
+        s.classes,
+        c,
+        word(table, 2, row + 1),
+    );
     if ABSENT <= m {
         return Judged::Refused(32, word(table, 1, row + 1));
     }
     let given = word(table, 5, row);
     let taken = word(table, 4, m);
     if same_count(table, s.tokens, given, taken) {
-        let a = arguments(table, s, left, given, taken);
+        let a = arguments(table, index, s, left, given, taken);
         match a {
             Judged::Fine(_) => {
                 return Judged::Fine(type_of(table, s.tokens, word(table, 3, m)));
@@ -247,8 +271,15 @@ fn invocation(table: &[u32], s: Scope, left: usize, row: usize, c: usize) -> Jud
 }
 
 // Arguments, each of which must fit its parameter.
-fn arguments(table: &[u32], s: Scope, left: usize, row: usize, parameter: usize) -> Judged
-    requires { ⌜ Walkable (now table) (s .tokens) × (row < 4294967296) × (left ≤ s .tokens) ⌝ }
+fn arguments(
+    table: &[u32],
+    index: &[u32],
+    s: Scope,
+    left: usize,
+    row: usize,
+    parameter: usize,
+) -> Judged
+    requires { ⌜ Judgeable (now table) (now index) s × (row < 4294967296) × (left ≤ s .tokens) ⌝ }
     ensures { λ r. ⌜ ArgumentsPost (now (table .entry)) s left row parameter r ⌝ }
 {
     if left == 0 {
@@ -258,10 +289,11 @@ fn arguments(table: &[u32], s: Scope, left: usize, row: usize, parameter: usize)
         return Judged::Fine(0);
     }
     let want = type_of(table, s.tokens, word(table, 3, parameter));
-    let a = operand(table, s, left, row, want);
+    let a = operand(table, index, s, left, row, want);
     match a {
         Judged::Fine(_) => arguments(
             table,
+            index,
             s,
             left - 1,
             word(table, 6, row),

@@ -1,9 +1,8 @@
 // What a body sees: the declaring class, by the number of its name, and where its parameters and its locals begin; in main there are none of these.
-use lookup::chain::field_type;
 use lookup::member::variable_type;
 use lookup::types::NOTHING;
-ghost use Rattle.reader.specs.WalkPost.{Walkable};
-ghost use Rattle.bodies.specs.Scoping.{NameTyped};
+use members::find::field;
+ghost use Rattle.bodies.specs.Scoping.{Judgeable, NameTyped};
 
 pub struct Scope {
     pub tokens: usize,
@@ -14,8 +13,8 @@ pub struct Scope {
 }
 
 // The type of what a name means: the parameter or local, else the nearest field upwards from the declaring class.
-pub fn name_type(table: &[u32], s: Scope, x: usize) -> usize
-    requires { ⌜ Walkable (now table) (s .tokens) ⌝ }
+pub fn name_type(table: &[u32], index: &[u32], s: Scope, x: usize) -> usize
+    requires { ⌜ Judgeable (now table) (now index) s ⌝ }
     ensures { λ r. ⌜ NameTyped (now (table .entry)) s x r ⌝ }
 {
     let n = s.tokens;
@@ -27,5 +26,5 @@ pub fn name_type(table: &[u32], s: Scope, x: usize) -> usize
     if u < NOTHING {
         return u;
     }
-    field_type(table, n, s.classes, s.owner, x)
+    field(table, index, n, s.classes, s.owner, x)
 }

@@ -8,28 +8,31 @@ use lookup::member::count;
 use lookup::rows::ABSENT;
 use lookup::rows::word;
 use lookup::types::type_of;
+use members::grow::build;
 ghost use Prim.Native.Nat.{_≤_, _<_};
 ghost use Rattle.reader.specs.WalkPost.{Walkable};
+ghost use Rattle.members.specs.Growth.{Indexed};
+ghost use Rattle.bodies.specs.Scoping.{Judgeable};
 ghost use Rattle.typecheck.specs.MethodPost.{CarriedJudged, BodyJudged, MethodsJudged, ClassesJudged, BodiesJudged};
 
 // Statements and return expression of a method. They stand in the row after its name.
-fn carried(table: &[u32], s: Scope, row: usize) -> Judged
-    requires { ⌜ Walkable (now table) (s .tokens) × (row < 4294967296) ⌝ }
+fn carried(table: &[u32], index: &[u32], s: Scope, row: usize) -> Judged
+    requires { ⌜ Judgeable (now table) (now index) s × (row < 4294967296) ⌝ }
     ensures { λ r. ⌜ CarriedJudged (now (table .entry)) s row r ⌝ }
 {
-    let b = stmt::list(table, s, s.tokens, word(table, 4, row + 1));
+    let b = stmt::list(table, index, s, s.tokens, word(table, 4, row + 1));
     match b {
         Judged::Fine(_) => {
             let want = type_of(table, s.tokens, word(table, 3, row));
-            operand(table, s, s.tokens, word(table, 5, row + 1), want)
+            operand(table, index, s, s.tokens, word(table, 5, row + 1), want)
         }
         Judged::Refused(number, at) => Judged::Refused(number, at),
     }
 }
 
 // The body of a method in the class whose name has the number `owner`.
-fn body(table: &[u32], n: usize, classes: usize, owner: usize, row: usize) -> Judged
-    requires { ⌜ Walkable (now table) n × (row < 4294967296) ⌝ }
+fn body(table: &[u32], index: &[u32], n: usize, classes: usize, owner: usize, row: usize) -> Judged
+    requires { ⌜ Walkable (now table) n × Indexed (now table) n classes (now index) × (row < 4294967296) ⌝ }
     ensures { λ r. ⌜ BodyJudged (now (table .entry)) n classes owner row r ⌝ }
 {
     let parameters = word(table, 4, row);
@@ -45,15 +48,23 @@ fn body(table: &[u32], n: usize, classes: usize, owner: usize, row: usize) -> Ju
                 parameters: parameters,
                 locals: locals,
             };
-            carried(table, s, row)
+            carried(table, index, s, row)
         }
         Judged::Refused(number, at) => Judged::Refused(number, at),
     }
 }
 
 // The bodies of the methods from a row on.
-fn methods(table: &[u32], n: usize, classes: usize, left: usize, owner: usize, row: usize) -> Judged
-    requires { ⌜ Walkable (now table) n ⌝ }
+fn methods(
+    table: &[u32],
+    index: &[u32],
+    n: usize,
+    classes: usize,
+    left: usize,
+    owner: usize,
+    row: usize,
+) -> Judged
+    requires { ⌜ Walkable (now table) n × Indexed (now table) n classes (now index) ⌝ }
     ensures { λ r. ⌜ MethodsJudged (now (table .entry)) n classes left owner row r ⌝ }
 {
     if left == 0 {
@@ -62,16 +73,24 @@ fn methods(table: &[u32], n: usize, classes: usize, left: usize, owner: usize, r
     if ABSENT <= row {
         return Judged::Fine(0);
     }
-    let b = body(table, n, classes, owner, row);
+    let b = body(table, index, n, classes, owner, row);
     match b {
-        Judged::Fine(_) => methods(table, n, classes, left - 1, owner, word(table, 6, row)),
+        Judged::Fine(_) => methods(
+            table,
+            index,
+            n,
+            classes,
+            left - 1,
+            owner,
+            word(table, 6, row),
+        ),
         Judged::Refused(number, at) => Judged::Refused(number, at),
     }
 }
 
 // The bodies of the classes from a row on.
-fn all(table: &[u32], n: usize, classes: usize, left: usize, row: usize) -> Judged
-    requires { ⌜ Walkable (now table) n ⌝ }
+fn all(table: &[u32], index: &[u32], n: usize, classes: usize, left: usize, row: usize) -> Judged
+    requires { ⌜ Walkable (now table) n × Indexed (now table) n classes (now index) ⌝ }
     ensures { λ r. ⌜ ClassesJudged (now (table .entry)) n classes left row r ⌝ }
 {
     if left == 0 {
@@ -82,6 +101,7 @@ fn all(table: &[u32], n: usize, classes: usize, left: usize, row: usize) -> Judg
     }
     let m = methods(
         table,
+        index,
         n,
         classes,
         n,
@@ -89,14 +109,14 @@ fn all(table: &[u32], n: usize, classes: usize, left: usize, row: usize) -> Judg
         word(table, 5, row),
     );
     match m {
-        Judged::Fine(_) => all(table, n, classes, left - 1, word(table, 6, row)),
+        Judged::Fine(_) => all(table, index, n, classes, left - 1, word(table, 6, row)),
         Judged::Refused(number, at) => Judged::Refused(number, at),
     }
 }
 
 // All bodies, main first: its statement stands in row 14.
-pub fn bodies(table: &[u32], n: usize, classes: usize) -> Judged
-    requires { ⌜ Walkable (now table) n ⌝ }
+fn program(table: &[u32], index: &[u32], n: usize, classes: usize) -> Judged
+    requires { ⌜ Walkable (now table) n × Indexed (now table) n classes (now index) ⌝ }
     ensures { λ r. ⌜ BodiesJudged (now (table .entry)) n classes r ⌝ }
 {
     let s = Scope {
@@ -106,9 +126,19 @@ pub fn bodies(table: &[u32], n: usize, classes: usize) -> Judged
         parameters: ABSENT,
         locals: ABSENT,
     };
-    let m = stmt::single(table, s, n, 14);
+    let m = stmt::single(table, index, s, n, 14);
     match m {
-        Judged::Fine(_) => all(table, n, classes, n, word(table, 6, 0)),
+        Judged::Fine(_) => all(table, index, n, classes, n, word(table, 6, 0)),
         Judged::Refused(number, at) => Judged::Refused(number, at),
     }
+}
+
+// All bodies, by an index of what the classes have.
+pub fn bodies(table: &[u32], n: usize, classes: usize) -> Judged
+    requires { ⌜ Walkable (now table) n × (classes ≤ 2048) ⌝ }
+    ensures { λ r. ⌜ BodiesJudged (now (table .entry)) n classes r ⌝ }
+{
+    let mut index = [0u32; 20480];
+    build(table, &mut index, n, classes);
+    program(table, &index, n, classes)
 }

@@ -32,7 +32,7 @@ use Rattle.bodies.proofs.expr.+arguments+call+creation+dotted+expressio
 use Rattle.bodies.proofs.expr.atom.Reads as atom-reads
 use Rattle.bodies.proofs.expr.new_object.Reads as new-object-reads
 use Rattle.bodies.proofs.expr.same_count.Reads as same-count-reads
-use Rattle.lookup.proofs.chain.find_method.Reads as find-method-reads
+use Rattle.members.proofs.find.method.Reads as method-reads
 use Rattle.lookup.proofs.chain.fits.Reads as fits-reads
 use Rattle.lookup.proofs.rows.word.Reads as word-reads
 use Rattle.lookup.proofs.types.type_of.Reads as type-of-reads
@@ -44,92 +44,92 @@ use borrow.Author.Needs.{needs}
 use Prim.Native.Nat.{_+_, _*_, _-_}
 use Rattle.bodies.proofs.ExpressionLaws.{arguments-none, arguments-end, arguments-next, arguments-refused, call-plain, call-object, call-refused, creation-array, creation-object, dotted-length, dotted-call, expression-none, expression-atom, expression-new, expression-dot, expression-not, expression-element, expression-and, expression-less, expression-sum, invocation-unknown, invocation-fine, invocation-refused, invocation-count, operand-fits, operand-wrong, operand-refused, pair-fine, pair-second, pair-first, single-fine, single-refused}
 
-abbrev μ-arguments : Measures 1 arguments-kinds.ps ℕ
-μ-arguments κs a = 8 * a .1 .1 .0 + 3
+abbrev μ-arguments : Measures 2 arguments-kinds.ps ℕ
+μ-arguments κs a = 8 * a .1 .1 .1 .0 + 3
 
-abbrev μ-call : Measures 1 call-kinds.ps ℕ
-μ-call κs a = 8 * a .1 .1 .0 + 5
+abbrev μ-call : Measures 2 call-kinds.ps ℕ
+μ-call κs a = 8 * a .1 .1 .1 .0 + 5
 
-abbrev μ-creation : Measures 1 creation-kinds.ps ℕ
-μ-creation κs a = 8 * a .1 .1 .0 + 3
+abbrev μ-creation : Measures 2 creation-kinds.ps ℕ
+μ-creation κs a = 8 * a .1 .1 .1 .0 + 3
 
-abbrev μ-dotted : Measures 1 dotted-kinds.ps ℕ
-μ-dotted κs a = 8 * a .1 .1 .0 + 6
+abbrev μ-dotted : Measures 2 dotted-kinds.ps ℕ
+μ-dotted κs a = 8 * a .1 .1 .1 .0 + 6
 
-abbrev μ-expression : Measures 1 expression-kinds.ps ℕ
-μ-expression κs a = 8 * a .1 .1 .0
+abbrev μ-expression : Measures 2 expression-kinds.ps ℕ
+μ-expression κs a = 8 * a .1 .1 .1 .0
 
-abbrev μ-invocation : Measures 1 invocation-kinds.ps ℕ
-μ-invocation κs a = 8 * a .1 .1 .0 + 4
+abbrev μ-invocation : Measures 2 invocation-kinds.ps ℕ
+μ-invocation κs a = 8 * a .1 .1 .1 .0 + 4
 
-abbrev μ-operand : Measures 1 operand-kinds.ps ℕ
-μ-operand κs a = 8 * a .1 .1 .0 + 1
+abbrev μ-operand : Measures 2 operand-kinds.ps ℕ
+μ-operand κs a = 8 * a .1 .1 .1 .0 + 1
 
-abbrev μ-pair : Measures 1 pair-kinds.ps ℕ
-μ-pair κs a = 8 * a .1 .1 .0 + 2
+abbrev μ-pair : Measures 2 pair-kinds.ps ℕ
+μ-pair κs a = 8 * a .1 .1 .1 .0 + 2
 
-abbrev μ-single : Measures 1 single-kinds.ps ℕ
-μ-single κs a = 8 * a .1 .1 .0 + 2
+abbrev μ-single : Measures 2 single-kinds.ps ℕ
+μ-single κs a = 8 * a .1 .1 .1 .0 + 2
 
-abbrev arguments-at : ℕ → In 1 arguments-kinds.ps
-arguments-at t = and 1 arguments-kinds.ps (is 1 arguments-kinds.ps μ-arguments t) arguments.Pre
+abbrev arguments-at : ℕ → In 2 arguments-kinds.ps
+arguments-at t = and 2 arguments-kinds.ps (is 2 arguments-kinds.ps μ-arguments t) arguments.Pre
 
-abbrev arguments-below : ℕ → In 1 arguments-kinds.ps
+abbrev arguments-below : ℕ → In 2 arguments-kinds.ps
 arguments-below t =
-    and 1 arguments-kinds.ps (falls 1 arguments-kinds.ps _<_ μ-arguments t) arguments.Pre
+    and 2 arguments-kinds.ps (falls 2 arguments-kinds.ps _<_ μ-arguments t) arguments.Pre
 
-abbrev call-at : ℕ → In 1 call-kinds.ps
-call-at t = and 1 call-kinds.ps (is 1 call-kinds.ps μ-call t) call.Pre
+abbrev call-at : ℕ → In 2 call-kinds.ps
+call-at t = and 2 call-kinds.ps (is 2 call-kinds.ps μ-call t) call.Pre
 
-abbrev call-below : ℕ → In 1 call-kinds.ps
-call-below t = and 1 call-kinds.ps (falls 1 call-kinds.ps _<_ μ-call t) call.Pre
+abbrev call-below : ℕ → In 2 call-kinds.ps
+call-below t = and 2 call-kinds.ps (falls 2 call-kinds.ps _<_ μ-call t) call.Pre
 
-abbrev creation-at : ℕ → In 1 creation-kinds.ps
-creation-at t = and 1 creation-kinds.ps (is 1 creation-kinds.ps μ-creation t) creation.Pre
+abbrev creation-at : ℕ → In 2 creation-kinds.ps
+creation-at t = and 2 creation-kinds.ps (is 2 creation-kinds.ps μ-creation t) creation.Pre
 
-abbrev creation-below : ℕ → In 1 creation-kinds.ps
+abbrev creation-below : ℕ → In 2 creation-kinds.ps
 creation-below t =
-    and 1 creation-kinds.ps (falls 1 creation-kinds.ps _<_ μ-creation t) creation.Pre
+    and 2 creation-kinds.ps (falls 2 creation-kinds.ps _<_ μ-creation t) creation.Pre
 
-abbrev dotted-at : ℕ → In 1 dotted-kinds.ps
-dotted-at t = and 1 dotted-kinds.ps (is 1 dotted-kinds.ps μ-dotted t) dotted.Pre
+abbrev dotted-at : ℕ → In 2 dotted-kinds.ps
+dotted-at t = and 2 dotted-kinds.ps (is 2 dotted-kinds.ps μ-dotted t) dotted.Pre
 
-abbrev dotted-below : ℕ → In 1 dotted-kinds.ps
-dotted-below t = and 1 dotted-kinds.ps (falls 1 dotted-kinds.ps _<_ μ-dotted t) dotted.Pre
+abbrev dotted-below : ℕ → In 2 dotted-kinds.ps
+dotted-below t = and 2 dotted-kinds.ps (falls 2 dotted-kinds.ps _<_ μ-dotted t) dotted.Pre
 
-abbrev expression-at : ℕ → In 1 expression-kinds.ps
+abbrev expression-at : ℕ → In 2 expression-kinds.ps
 expression-at t =
-    and 1 expression-kinds.ps (is 1 expression-kinds.ps μ-expression t) expression.Pre
+    and 2 expression-kinds.ps (is 2 expression-kinds.ps μ-expression t) expression.Pre
 
-abbrev expression-below : ℕ → In 1 expression-kinds.ps
+abbrev expression-below : ℕ → In 2 expression-kinds.ps
 expression-below t =
-    and 1 expression-kinds.ps (falls 1 expression-kinds.ps _<_ μ-expression t) expression.Pre
+    and 2 expression-kinds.ps (falls 2 expression-kinds.ps _<_ μ-expression t) expression.Pre
 
-abbrev invocation-at : ℕ → In 1 invocation-kinds.ps
+abbrev invocation-at : ℕ → In 2 invocation-kinds.ps
 invocation-at t =
-    and 1 invocation-kinds.ps (is 1 invocation-kinds.ps μ-invocation t) invocation.Pre
+    and 2 invocation-kinds.ps (is 2 invocation-kinds.ps μ-invocation t) invocation.Pre
 
-abbrev invocation-below : ℕ → In 1 invocation-kinds.ps
+abbrev invocation-below : ℕ → In 2 invocation-kinds.ps
 invocation-below t =
-    and 1 invocation-kinds.ps (falls 1 invocation-kinds.ps _<_ μ-invocation t) invocation.Pre
+    and 2 invocation-kinds.ps (falls 2 invocation-kinds.ps _<_ μ-invocation t) invocation.Pre
 
-abbrev operand-at : ℕ → In 1 operand-kinds.ps
-operand-at t = and 1 operand-kinds.ps (is 1 operand-kinds.ps μ-operand t) operand.Pre
+abbrev operand-at : ℕ → In 2 operand-kinds.ps
+operand-at t = and 2 operand-kinds.ps (is 2 operand-kinds.ps μ-operand t) operand.Pre
 
-abbrev operand-below : ℕ → In 1 operand-kinds.ps
-operand-below t = and 1 operand-kinds.ps (falls 1 operand-kinds.ps _<_ μ-operand t) operand.Pre
+abbrev operand-below : ℕ → In 2 operand-kinds.ps
+operand-below t = and 2 operand-kinds.ps (falls 2 operand-kinds.ps _<_ μ-operand t) operand.Pre
 
-abbrev pair-at : ℕ → In 1 pair-kinds.ps
-pair-at t = and 1 pair-kinds.ps (is 1 pair-kinds.ps μ-pair t) pair.Pre
+abbrev pair-at : ℕ → In 2 pair-kinds.ps
+pair-at t = and 2 pair-kinds.ps (is 2 pair-kinds.ps μ-pair t) pair.Pre
 
-abbrev pair-below : ℕ → In 1 pair-kinds.ps
-pair-below t = and 1 pair-kinds.ps (falls 1 pair-kinds.ps _<_ μ-pair t) pair.Pre
+abbrev pair-below : ℕ → In 2 pair-kinds.ps
+pair-below t = and 2 pair-kinds.ps (falls 2 pair-kinds.ps _<_ μ-pair t) pair.Pre
 
-abbrev single-at : ℕ → In 1 single-kinds.ps
-single-at t = and 1 single-kinds.ps (is 1 single-kinds.ps μ-single t) single.Pre
+abbrev single-at : ℕ → In 2 single-kinds.ps
+single-at t = and 2 single-kinds.ps (is 2 single-kinds.ps μ-single t) single.Pre
 
-abbrev single-below : ℕ → In 1 single-kinds.ps
-single-below t = and 1 single-kinds.ps (falls 1 single-kinds.ps _<_ μ-single t) single.Pre
+abbrev single-below : ℕ → In 2 single-kinds.ps
+single-below t = and 2 single-kinds.ps (falls 2 single-kinds.ps _<_ μ-single t) single.Pre
 
 abbrev arguments-calls : ℕ → arguments-lts.Claims
 arguments-calls t = (word-reads.Asked, word-reads.Learnt, type-of-reads.Asked, type-of-reads.Learnt, operand-below t, operand.Post, arguments-below t, arguments.Post)
@@ -147,7 +147,7 @@ abbrev expression-calls : ℕ → expression-lts.Claims
 expression-calls t = (kind-reads.Asked, kind-reads.Learnt, is-atom-reads.Asked, is-atom-reads.Learnt, atom-reads.Asked, atom-reads.Learnt, creation-below t, creation.Post, dotted-below t, dotted.Post, single-below t, single.Post, pair-below t, pair.Post)
 
 abbrev invocation-calls : ℕ → invocation-lts.Claims
-invocation-calls t = (word-reads.Asked, word-reads.Learnt, find-method-reads.Asked, find-method-reads.Learnt, same-count-reads.Asked, same-count-reads.Learnt, arguments-below t, arguments.Post, type-of-reads.Asked, type-of-reads.Learnt)
+invocation-calls t = (word-reads.Asked, word-reads.Learnt, method-reads.Asked, method-reads.Learnt, same-count-reads.Asked, same-count-reads.Learnt, arguments-below t, arguments.Post, type-of-reads.Asked, type-of-reads.Learnt)
 
 abbrev operand-calls : ℕ → operand-lts.Claims
 operand-calls t = (expression-below t, expression.Post, fits-reads.Asked, fits-reads.Learnt, word-reads.Asked, word-reads.Learnt)
@@ -187,7 +187,7 @@ module _ (t : ℕ) where
   arguments-word-requires-3 c κs = search needs
 
   arguments-arguments-requires : arguments-lts.Need-arguments-requires (arguments-calls t) (arguments-at t) arguments.Post
-  arguments-arguments-requires c κs = search needs
+  arguments-arguments-requires c κs = (search needs, (search needs, search needs, search needs))
 
   arguments-enum-known-a : arguments-lts.Need-enum-known-a (arguments-calls t) (arguments-at t) arguments.Post
   arguments-enum-known-a c = search needs
@@ -298,7 +298,7 @@ module _ (t : ℕ) where
   expression-sub-single c = search needs
 
   expression-single-requires : expression-lts.Need-single-requires (expression-calls t) (expression-at t) expression.Post
-  expression-single-requires c κs = search needs
+  expression-single-requires c κs = (search needs, (search needs, search needs, search needs))
 
   expression-returns-5 : expression-lts.Need-returns-5 (expression-calls t) (expression-at t) expression.Post
   expression-returns-5 c = search expression-not
@@ -307,7 +307,7 @@ module _ (t : ℕ) where
   expression-sub-pair c = search needs
 
   expression-pair-requires : expression-lts.Need-pair-requires (expression-calls t) (expression-at t) expression.Post
-  expression-pair-requires c κs = search needs
+  expression-pair-requires c κs = (search needs, (search needs, search needs, search needs))
 
   expression-returns-6 : expression-lts.Need-returns-6 (expression-calls t) (expression-at t) expression.Post
   expression-returns-6 c = search expression-element
@@ -316,7 +316,7 @@ module _ (t : ℕ) where
   expression-sub-pair-2 c = search needs
 
   expression-pair-requires-2 : expression-lts.Need-pair-requires-2 (expression-calls t) (expression-at t) expression.Post
-  expression-pair-requires-2 c κs = search needs
+  expression-pair-requires-2 c κs = (search needs, (search needs, search needs, search needs))
 
   expression-returns-7 : expression-lts.Need-returns-7 (expression-calls t) (expression-at t) expression.Post
   expression-returns-7 c = search expression-and
@@ -325,7 +325,7 @@ module _ (t : ℕ) where
   expression-sub-pair-3 c = search needs
 
   expression-pair-requires-3 : expression-lts.Need-pair-requires-3 (expression-calls t) (expression-at t) expression.Post
-  expression-pair-requires-3 c κs = search needs
+  expression-pair-requires-3 c κs = (search needs, (search needs, search needs, search needs))
 
   expression-returns-8 : expression-lts.Need-returns-8 (expression-calls t) (expression-at t) expression.Post
   expression-returns-8 c = search expression-less
@@ -334,7 +334,7 @@ module _ (t : ℕ) where
   expression-sub-pair-4 c = search needs
 
   expression-pair-requires-4 : expression-lts.Need-pair-requires-4 (expression-calls t) (expression-at t) expression.Post
-  expression-pair-requires-4 c κs = search needs
+  expression-pair-requires-4 c κs = (search needs, (search needs, search needs, search needs))
 
   expression-returns-9 : expression-lts.Need-returns-9 (expression-calls t) (expression-at t) expression.Post
   expression-returns-9 c = search expression-sum
@@ -345,8 +345,8 @@ module _ (t : ℕ) where
   invocation-word-requires : invocation-lts.Need-word-requires (invocation-calls t) (invocation-at t) invocation.Post
   invocation-word-requires c κs = search needs
 
-  invocation-find-method-requires : invocation-lts.Need-find-method-requires (invocation-calls t) (invocation-at t) invocation.Post
-  invocation-find-method-requires c κs = search needs
+  invocation-method-requires : invocation-lts.Need-method-requires (invocation-calls t) (invocation-at t) invocation.Post
+  invocation-method-requires c κs = search needs
 
   invocation-add-word-2 : invocation-lts.Need-add-word-2 (invocation-calls t) (invocation-at t) invocation.Post
   invocation-add-word-2 c = search needs
@@ -479,7 +479,7 @@ pub +arguments+call+creation+dotted+expression+invocation+operand+pair+single-sp
     (λ t. creation-lts.spec (creation-calls t) (creation-at t) creation.Post (creation-add-kind t) (creation-kind-requires t) (creation-single-requires t) (creation-returns t) (creation-new-object-requires t) (creation-returns-2 t))
     (λ t. dotted-lts.spec (dotted-calls t) (dotted-at t) dotted.Post (dotted-add-kind t) (dotted-kind-requires t) (dotted-single-requires t) (dotted-returns t) (dotted-call-requires t) (dotted-returns-2 t))
     (λ t. expression-lts.spec (expression-calls t) (expression-at t) expression.Post (expression-returns t) (expression-kind-requires t) (expression-is-atom-requires t) (expression-atom-requires t) (expression-returns-2 t) (expression-sub-creation t) (expression-creation-requires t) (expression-returns-3 t) (expression-sub-dotted t) (expression-dotted-requires t) (expression-returns-4 t) (expression-sub-single t) (expression-single-requires t) (expression-returns-5 t) (expression-sub-pair t) (expression-pair-requires t) (expression-returns-6 t) (expression-sub-pair-2 t) (expression-pair-requires-2 t) (expression-returns-7 t) (expression-sub-pair-3 t) (expression-pair-requires-3 t) (expression-returns-8 t) (expression-sub-pair-4 t) (expression-pair-requires-4 t) (expression-returns-9 t))
-    (λ t. invocation-lts.spec (invocation-calls t) (invocation-at t) invocation.Post (invocation-add-word t) (invocation-word-requires t) (invocation-find-method-requires t) (invocation-add-word-2 t) (invocation-word-requires-2 t) (invocation-returns t) (invocation-word-requires-3 t) (invocation-word-requires-4 t) (invocation-same-count-requires t) (invocation-arguments-requires t) (invocation-enum-told t) (invocation-word-requires-5 t) (invocation-type-of-requires t) (invocation-returns-2 t) (invocation-enum-known-a t) (invocation-returns-3 t) (invocation-add-word-3 t) (invocation-word-requires-6 t) (invocation-returns-4 t))
+    (λ t. invocation-lts.spec (invocation-calls t) (invocation-at t) invocation.Post (invocation-add-word t) (invocation-word-requires t) (invocation-method-requires t) (invocation-add-word-2 t) (invocation-word-requires-2 t) (invocation-returns t) (invocation-word-requires-3 t) (invocation-word-requires-4 t) (invocation-same-count-requires t) (invocation-arguments-requires t) (invocation-enum-told t) (invocation-word-requires-5 t) (invocation-type-of-requires t) (invocation-returns-2 t) (invocation-enum-known-a t) (invocation-returns-3 t) (invocation-add-word-3 t) (invocation-word-requires-6 t) (invocation-returns-4 t))
     (λ t. operand-lts.spec (operand-calls t) (operand-at t) operand.Post (operand-expression-requires t) (operand-enum-known-e t) (operand-fits-requires t) (operand-returns t) (operand-word-requires t) (operand-enum-known-e-2 t) (operand-returns-2 t) (operand-returns-3 t))
     (λ t. pair-lts.spec (pair-calls t) (pair-at t) pair.Post (pair-word-requires t) (pair-operand-requires t) (pair-enum-told t) (pair-word-requires-2 t) (pair-operand-requires-2 t) (pair-enum-told-2 t) (pair-enum-known-b t) (pair-enum-known-a t) (pair-returns t) (pair-returns-2 t) (pair-returns-3 t))
     (λ t. single-lts.spec (single-calls t) (single-at t) single.Post (single-word-requires t) (single-operand-requires t) (single-enum-told t) (single-enum-known-a t) (single-returns t) (single-returns-2 t))

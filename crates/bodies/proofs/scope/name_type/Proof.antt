@@ -16,8 +16,8 @@ variable-type-requires-2 c κs = search needs
 returns-2 : tie.Need-returns-2
 returns-2 c = search name-local
 
-field-type-requires : tie.Need-field-type-requires
-field-type-requires c κs = search needs
+field-requires : tie.Need-field-requires
+field-requires c κs = search needs
 
 returns-3 : tie.Need-returns-3
 returns-3 c = search name-field
@@ -30,5 +30,5 @@ name-type-spec =
     returns
     variable-type-requires-2
     returns-2
-    field-type-requires
+    field-requires
     returns-3)

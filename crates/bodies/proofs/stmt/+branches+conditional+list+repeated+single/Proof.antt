@@ -27,54 +27,54 @@ use borrow.Author.Needs.{needs}
 use Prim.Native.Nat.{_+_, _*_, _-_}
 use Rattle.bodies.proofs.StatementLaws.{branches-second, branches-first, conditional-branches, conditional-refused, list-none, list-end, list-next, list-refused, loop-body, loop-refused, statement-none, statement-block, statement-if, statement-while, statement-print, statement-assignment}
 
-abbrev μ-branches : Measures 1 branches-kinds.ps ℕ
-μ-branches κs a = 4 * a .1 .1 .0 + 1
+abbrev μ-branches : Measures 2 branches-kinds.ps ℕ
+μ-branches κs a = 4 * a .1 .1 .1 .0 + 1
 
-abbrev μ-conditional : Measures 1 conditional-kinds.ps ℕ
-μ-conditional κs a = 4 * a .1 .1 .0 + 2
+abbrev μ-conditional : Measures 2 conditional-kinds.ps ℕ
+μ-conditional κs a = 4 * a .1 .1 .1 .0 + 2
 
-abbrev μ-list : Measures 1 list-kinds.ps ℕ
-μ-list κs a = 4 * a .1 .1 .0 + 1
+abbrev μ-list : Measures 2 list-kinds.ps ℕ
+μ-list κs a = 4 * a .1 .1 .1 .0 + 1
 
-abbrev μ-repeated : Measures 1 repeated-kinds.ps ℕ
-μ-repeated κs a = 4 * a .1 .1 .0 + 1
+abbrev μ-repeated : Measures 2 repeated-kinds.ps ℕ
+μ-repeated κs a = 4 * a .1 .1 .1 .0 + 1
 
-abbrev μ-single : Measures 1 single-kinds.ps ℕ
-μ-single κs a = 4 * a .1 .1 .0
+abbrev μ-single : Measures 2 single-kinds.ps ℕ
+μ-single κs a = 4 * a .1 .1 .1 .0
 
-abbrev branches-at : ℕ → In 1 branches-kinds.ps
-branches-at t = and 1 branches-kinds.ps (is 1 branches-kinds.ps μ-branches t) branches.Pre
+abbrev branches-at : ℕ → In 2 branches-kinds.ps
+branches-at t = and 2 branches-kinds.ps (is 2 branches-kinds.ps μ-branches t) branches.Pre
 
-abbrev branches-below : ℕ → In 1 branches-kinds.ps
+abbrev branches-below : ℕ → In 2 branches-kinds.ps
 branches-below t =
-    and 1 branches-kinds.ps (falls 1 branches-kinds.ps _<_ μ-branches t) branches.Pre
+    and 2 branches-kinds.ps (falls 2 branches-kinds.ps _<_ μ-branches t) branches.Pre
 
-abbrev conditional-at : ℕ → In 1 conditional-kinds.ps
+abbrev conditional-at : ℕ → In 2 conditional-kinds.ps
 conditional-at t =
-    and 1 conditional-kinds.ps (is 1 conditional-kinds.ps μ-conditional t) conditional.Pre
+    and 2 conditional-kinds.ps (is 2 conditional-kinds.ps μ-conditional t) conditional.Pre
 
-abbrev conditional-below : ℕ → In 1 conditional-kinds.ps
+abbrev conditional-below : ℕ → In 2 conditional-kinds.ps
 conditional-below t =
-    and 1 conditional-kinds.ps (falls 1 conditional-kinds.ps _<_ μ-conditional t) conditional.Pre
+    and 2 conditional-kinds.ps (falls 2 conditional-kinds.ps _<_ μ-conditional t) conditional.Pre
 
-abbrev list-at : ℕ → In 1 list-kinds.ps
-list-at t = and 1 list-kinds.ps (is 1 list-kinds.ps μ-list t) list.Pre
+abbrev list-at : ℕ → In 2 list-kinds.ps
+list-at t = and 2 list-kinds.ps (is 2 list-kinds.ps μ-list t) list.Pre
 
-abbrev list-below : ℕ → In 1 list-kinds.ps
-list-below t = and 1 list-kinds.ps (falls 1 list-kinds.ps _<_ μ-list t) list.Pre
+abbrev list-below : ℕ → In 2 list-kinds.ps
+list-below t = and 2 list-kinds.ps (falls 2 list-kinds.ps _<_ μ-list t) list.Pre
 
-abbrev repeated-at : ℕ → In 1 repeated-kinds.ps
-repeated-at t = and 1 repeated-kinds.ps (is 1 repeated-kinds.ps μ-repeated t) repeated.Pre
+abbrev repeated-at : ℕ → In 2 repeated-kinds.ps
+repeated-at t = and 2 repeated-kinds.ps (is 2 repeated-kinds.ps μ-repeated t) repeated.Pre
 
-abbrev repeated-below : ℕ → In 1 repeated-kinds.ps
+abbrev repeated-below : ℕ → In 2 repeated-kinds.ps
 repeated-below t =
-    and 1 repeated-kinds.ps (falls 1 repeated-kinds.ps _<_ μ-repeated t) repeated.Pre
+    and 2 repeated-kinds.ps (falls 2 repeated-kinds.ps _<_ μ-repeated t) repeated.Pre
 
-abbrev single-at : ℕ → In 1 single-kinds.ps
-single-at t = and 1 single-kinds.ps (is 1 single-kinds.ps μ-single t) single.Pre
+abbrev single-at : ℕ → In 2 single-kinds.ps
+single-at t = and 2 single-kinds.ps (is 2 single-kinds.ps μ-single t) single.Pre
 
-abbrev single-below : ℕ → In 1 single-kinds.ps
-single-below t = and 1 single-kinds.ps (falls 1 single-kinds.ps _<_ μ-single t) single.Pre
+abbrev single-below : ℕ → In 2 single-kinds.ps
+single-below t = and 2 single-kinds.ps (falls 2 single-kinds.ps _<_ μ-single t) single.Pre
 
 abbrev branches-calls : ℕ → branches-lts.Claims
 branches-calls t = (word-reads.Asked, word-reads.Learnt, single-below t, single.Post)

@@ -12,14 +12,14 @@ use Rattle.typecheck.proofs.method.+all.Tie.{close}
 use borrow.Author.Needs.{needs}
 use Rattle.typecheck.proofs.BodyLaws.{classes-none, classes-end, classes-next, classes-refused}
 
-abbrev μ-all : Measures 1 all-kinds.ps ℕ
-μ-all κs a = a .1 .1 .1 .0
+abbrev μ-all : Measures 2 all-kinds.ps ℕ
+μ-all κs a = a .1 .1 .1 .1 .0
 
-abbrev all-at : ℕ → In 1 all-kinds.ps
-all-at t = and 1 all-kinds.ps (is 1 all-kinds.ps μ-all t) all.Pre
+abbrev all-at : ℕ → In 2 all-kinds.ps
+all-at t = and 2 all-kinds.ps (is 2 all-kinds.ps μ-all t) all.Pre
 
-abbrev all-below : ℕ → In 1 all-kinds.ps
-all-below t = and 1 all-kinds.ps (falls 1 all-kinds.ps _<_ μ-all t) all.Pre
+abbrev all-below : ℕ → In 2 all-kinds.ps
+all-below t = and 2 all-kinds.ps (falls 2 all-kinds.ps _<_ μ-all t) all.Pre
 
 abbrev all-calls : ℕ → all-lts.Claims
 all-calls t = (word-reads.Asked, word-reads.Learnt, methods-reads.Asked, methods-reads.Learnt, all-below t, all.Post)

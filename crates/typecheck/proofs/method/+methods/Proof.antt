@@ -12,14 +12,14 @@ use Rattle.typecheck.proofs.method.+methods.Tie.{close}
 use borrow.Author.Needs.{needs}
 use Rattle.typecheck.proofs.BodyLaws.{methods-none, methods-end, methods-next, methods-refused}
 
-abbrev μ-methods : Measures 1 methods-kinds.ps ℕ
-μ-methods κs a = a .1 .1 .1 .0
+abbrev μ-methods : Measures 2 methods-kinds.ps ℕ
+μ-methods κs a = a .1 .1 .1 .1 .0
 
-abbrev methods-at : ℕ → In 1 methods-kinds.ps
-methods-at t = and 1 methods-kinds.ps (is 1 methods-kinds.ps μ-methods t) methods.Pre
+abbrev methods-at : ℕ → In 2 methods-kinds.ps
+methods-at t = and 2 methods-kinds.ps (is 2 methods-kinds.ps μ-methods t) methods.Pre
 
-abbrev methods-below : ℕ → In 1 methods-kinds.ps
-methods-below t = and 1 methods-kinds.ps (falls 1 methods-kinds.ps _<_ μ-methods t) methods.Pre
+abbrev methods-below : ℕ → In 2 methods-kinds.ps
+methods-below t = and 2 methods-kinds.ps (falls 2 methods-kinds.ps _<_ μ-methods t) methods.Pre
 
 abbrev methods-calls : ℕ → methods-lts.Claims
 methods-calls t = (body-reads.Asked, body-reads.Learnt, word-reads.Asked, word-reads.Learnt, methods-below t, methods.Post)
