@@ -19,7 +19,7 @@ use Rattle.bodies.specs.declared.scope.Scope.{Scope}
 -- a table of so many tokens, and the index of the members of its classes
 pub record Judgeable (tab ix : List ℕ) (s : Scope) : Type 0 where
   pub walkable : Walkable tab (s .tokens)
-  pub indexed : Indexed tab (s .tokens) (s .classes) ix
+  pub indexed : Indexed tab (s .tokens) ix
 
 -- a list of variables begins in a row
 pub record ListedAt (tab : List ℕ) (n : ℕ) (ts : List Token) (row : ℕ) (vs : List Variable) : Type 0 where

@@ -8,8 +8,8 @@ use mathlib.Core.List.{List, [], _∷_}
 use mathlib.Core.Bool.{Bool, true, false, false≢true}
 use mathlib.Core.Option.{Option, none, some}
 use lib.ListN.{length}
-use lib.Dec.{ltb}
-use borrow.Author.Tests.{ltb-true}
+use lib.Dec.{leb}
+use borrow.Author.Tests.{leb-true}
 use Rattle.base.specs.Choice.{option}
 use Rattle.base.specs.Table.{col}
 use Rattle.lexer.specs.Tokens.{Token}
@@ -147,16 +147,16 @@ module _ {tab : List ℕ} {n : ℕ} {ts : List Token} {G : List Class} (w : Worl
 
 -- WHAT IS ANSWERED
 
-pub has-none : {ix : List ℕ} {c x : ℕ} → HasPost ix c x false
+pub has-none : {ix : List ℕ} {left c x : ℕ} → HasPost ix left c x false
 has-none = record { says = λ e. absurd (false≢true e) }
 
-pub has-height : {ix : List ℕ} {c x h : ℕ} → c < absent → x < absent → h ≡ heightOf ix c → {r : Bool} → r ≡ ltb 0 h → HasPost ix c x r
-has-height {h = h} low name e {r} t = record { says = λ q. (low, name, omega (arith, e, ltb-true 0 h (sym t ∙ q))) }
+pub has-height : {ix : List ℕ} {left c x h : ℕ} → c < absent → x < absent → h ≡ heightOf ix c → (h ≡ 0 → ⊥) → {r : Bool} → r ≡ leb h left → HasPost ix left c x r
+has-height {left} {h} low name e more t = record { says = λ q. (low, name, omega (arith, e, more), omega (arith, e, leb-true h left (sym t ∙ q))) }
 
 pub entry-is : {ix : List ℕ} {c k root r : ℕ} → root ≡ rootOf ix c → r ≡ get ix 12 root k → r < 4294967296 → EntryPost ix c k r
 entry-is {ix} {k = k} e q h = record { is = q ∙ ap (λ (p : ℕ). get ix 12 p k) e; small = h }
 
-module _ {ix : List ℕ} {c x : ℕ} {b : Bool} (has : HasPost ix c x b) (taken : b ≡ true) where
+module _ {ix : List ℕ} {left c x : ℕ} {b : Bool} (has : HasPost ix left c x b) (taken : b ≡ true) where
   pub has-class : c < 2048
   has-class = has .says taken .0
 
@@ -166,55 +166,55 @@ module _ {ix : List ℕ} {c x : ℕ} {b : Bool} (has : HasPost ix c x b) (taken 
   pub method-key : 2 * x + 1 < 18446744073709551616
   method-key = omega (arith, has .says taken .1)
 
-module _ {tab ix : List ℕ} {n classes c x : ℕ} {b : Bool} (i : Indexed tab n classes ix) (has : HasPost ix c x b) (taken : b ≡ true) where
-  served : Serves tab n classes c (rootOf ix c) ix
-  served = i .serves c (has .says taken .0) (has .says taken .2)
+module _ {tab ix : List ℕ} {n left c x : ℕ} {b : Bool} (i : Indexed tab n ix) (has : HasPost ix left c x b) (taken : b ≡ true) where
+  served : Serves tab n left c (rootOf ix c) ix
+  served = let h = has .says taken in i .serves c (h .0) (h .2) left (h .3)
 
-  field-entry : {e : ℕ} → EntryPost ix c (2 * x) e → e ≡ upwards tab n 4 classes c x
+  field-entry : {e : ℕ} → EntryPost ix c (2 * x) e → e ≡ upwards tab n 4 left c x
   field-entry p = p .is ∙ ap (get ix 12 (rootOf ix c)) (omega arith) ∙ served .fields x (has .says taken .1)
 
-  method-entry : {e : ℕ} → EntryPost ix c (2 * x + 1) e → e ≡ upwards tab n 5 classes c x
+  method-entry : {e : ℕ} → EntryPost ix c (2 * x + 1) e → e ≡ upwards tab n 5 left c x
   method-entry p = p .is ∙ served .methods x (has .says taken .1)
 
-  pub no-field : {e : ℕ} → EntryPost ix c (2 * x) e → e ≡ 0 → FieldTyped tab n classes c x nothing
+  pub no-field : {e : ℕ} → EntryPost ix c (2 * x) e → e ≡ 0 → FieldTyped tab n left c x nothing
   no-field p z =
       record {
-        says = λ ts G w name h text sp. go ts (nearestField (chainFrom classes G name) text) (upwards-field w sp classes name c h);
+        says = λ ts G w name h text sp. go ts (nearestField (chainFrom left G name) text) (upwards-field w sp left name c h);
       }
     where
-      go : (ts : List Token) (o : Option Slot) → Located tab ts o (upwards tab n 4 classes c x) → Typed ts o nothing
+      go : (ts : List Token) (o : Option Slot) → Located tab ts o (upwards tab n 4 left c x) → Typed ts o nothing
       go ts none (nowhere q) = untyped refl
       go ts (some s) (somewhere v q m d t) = absurd (omega (arith, field-entry p, q))
 
-  pub a-field : {e : ℕ} → EntryPost ix c (2 * x) e → (e ≡ 0 → ⊥) → {t r : ℕ} → t ≡ wordAt tab 3 (e - 1) → TypeOf tab n t r → FieldTyped tab n classes c x r
+  pub a-field : {e : ℕ} → EntryPost ix c (2 * x) e → (e ≡ 0 → ⊥) → {t r : ℕ} → t ≡ wordAt tab 3 (e - 1) → TypeOf tab n t r → FieldTyped tab n left c x r
   a-field {e} p m {t} {r} e₃ k =
       record {
-        says = λ ts G w name h text sp. go ts (w .tokens) (nearestField (chainFrom classes G name) text) (upwards-field w sp classes name c h);
+        says = λ ts G w name h text sp. go ts (w .tokens) (nearestField (chainFrom left G name) text) (upwards-field w sp left name c h);
       }
     where
-      go : (ts : List Token) → Lexemes tab n ts → (o : Option Slot) → Located tab ts o (upwards tab n 4 classes c x) → Typed ts o r
+      go : (ts : List Token) → Lexemes tab n ts → (o : Option Slot) → Located tab ts o (upwards tab n 4 left c x) → Typed ts o r
       go ts lx none (nowhere q) = absurd (m (field-entry p ∙ q))
       go ts lx (some s) (somewhere v q u d f) =
           let row : e - 1 ≡ v .name .row = omega (arith, field-entry p, q) in
           typed (subst (λ t. Codes ts t r) (sym f)
           (k .says ts lx (v .type) (sym (word-in tab 3 (v .name .row) (row-there lx (v .name .row) (u .name .token .there)) d) ∙ ap (wordAt tab 3) (sym row) ∙ sym e₃) (u .type)))
 
-  pub no-method : {e : ℕ} → EntryPost ix c (2 * x + 1) e → e ≡ 0 → FindsMethod tab n classes c x absent
+  pub no-method : {e : ℕ} → EntryPost ix c (2 * x + 1) e → e ≡ 0 → FindsMethod tab n left c x absent
   no-method p z =
       record {
-        says = λ ts G w name h text sp. go (nearestMethod (chainFrom classes G name) text) (upwards-method w sp classes name c h);
+        says = λ ts G w name h text sp. go (nearestMethod (chainFrom left G name) text) (upwards-method w sp left name c h);
       }
     where
-      go : (o : Option Found) → upwards tab n 5 classes c x ≡ foundEntry o → absent ≡ rowFound o
+      go : (o : Option Found) → upwards tab n 5 left c x ≡ foundEntry o → absent ≡ rowFound o
       go none q = refl
       go (some F) q = absurd (omega (arith, method-entry p, q))
 
-  pub a-method : {e : ℕ} → EntryPost ix c (2 * x + 1) e → (e ≡ 0 → ⊥) → FindsMethod tab n classes c x (e - 1)
+  pub a-method : {e : ℕ} → EntryPost ix c (2 * x + 1) e → (e ≡ 0 → ⊥) → FindsMethod tab n left c x (e - 1)
   a-method {e} p m =
       record {
-        says = λ ts G w name h text sp. go (nearestMethod (chainFrom classes G name) text) (upwards-method w sp classes name c h);
+        says = λ ts G w name h text sp. go (nearestMethod (chainFrom left G name) text) (upwards-method w sp left name c h);
       }
     where
-      go : (o : Option Found) → upwards tab n 5 classes c x ≡ foundEntry o → e - 1 ≡ rowFound o
+      go : (o : Option Found) → upwards tab n 5 left c x ≡ foundEntry o → e - 1 ≡ rowFound o
       go none q = absurd (m (method-entry p ∙ q))
       go (some F) q = omega (arith, method-entry p, q)

@@ -31,14 +31,13 @@ record Kept (top c : ℕ) (ix ix′ : List ℕ) : Type 0 where
   heights : (d : ℕ) → d < 2048 → (d ≡ c → ⊥) → heightOf ix′ d ≡ heightOf ix d
   roots : (d : ℕ) → d < 2048 → (d ≡ c → ⊥) → rootOf ix′ d ≡ rootOf ix d
 
-entered-stays : {tab : List ℕ} {n classes top c : ℕ} {ix ix′ : List ℕ} → Growing tab n classes top ix → Kept top c ix ix′ → {top′ : ℕ} → top ≤ top′
-    → (d : ℕ) → d < 2048 → (d ≡ c → ⊥) → 0 < heightOf ix′ d → Entered tab n classes top′ d ix′
-entered-stays {tab} {n} {classes} {top} {ix} {ix′} g k le d h other there =
+entered-stays : {tab : List ℕ} {n top c : ℕ} {ix ix′ : List ℕ} → Growing tab n top ix → Kept top c ix ix′ → {top′ : ℕ} → top ≤ top′
+    → (d : ℕ) → d < 2048 → (d ≡ c → ⊥) → 0 < heightOf ix′ d → Entered tab n top′ d ix′
+entered-stays {tab} {n} {top} {ix} {ix′} g k le d h other there =
     let eh = k .heights d h other in
     let er = k .roots d h other in
     let e = g .entered d h (omega (arith, eh)) in
     record {
-      low = omega (arith, eh, e .low);
       closed = rw er (closed-later ix′ 12 (rootOf ix d) le (closed-same ix ix′ 12 (rootOf ix d) (k .before) (e .closed)));
       serves = λ left m. rw er (serves-same (k .before) (e .closed) (e .serves left (omega (arith, eh))));
     }
@@ -85,13 +84,13 @@ module _ {tab : List ℕ} {n a b root top : ℕ} {ix ix₁ ix₂ : List ℕ} {f 
   added-after i h = methods .after i h ∙ fields .after i h
 
   pub own-full : {c row h : ℕ} → OwnPost tab n c row root h top ix (m .top) ix₂
-  own-full {c} {row} {h} = record { says = λ classes g low near is closed above. grown classes g }
+  own-full {c} {row} {h} = record { says = λ g near is closed above. grown g }
     where
       kept : Kept top 2048 ix ix₂
       kept = record { before = added-before; heights = λ d h o. added-after (16384 + d) (omega arith); roots = λ d h o. added-after (18432 + d) (omega arith) }
 
-      grown : (classes : ℕ) → Growing tab n classes top ix → Growing tab n classes (m .top) ix₂
-      grown classes g =
+      grown : Growing tab n top ix → Growing tab n (m .top) ix₂
+      grown g =
           let p = rises in
           record {
             long = methods .long ∙ fields .long ∙ g .long;
@@ -112,7 +111,7 @@ module _ {tab : List ℕ} {n a b root top : ℕ} {ix ix₁ ix₂ : List ℕ} {f 
           roots = λ d l o. written-other ix₂ c h (m .root) (18432 + d) (λ e. omega (arith, e)) (λ e. o (omega (arith, e))) ∙ added-after (18432 + d) (omega arith);
         }
 
-    module _ (classes : ℕ) (is : row ≡ wordAt tab 7 c) (there : row < absent) (closed : Closed ix top 12 root)
+    module _ (is : row ≡ wordAt tab 7 c) (there : row < absent) (closed : Closed ix top 12 root)
         (above : (left : ℕ) → h ≤ left → Serves tab n left (wordAt tab 2 (wordAt tab 3 row)) root ix) where
       added-fields : Added tab 0 n a root top ix f ix₁
       added-fields = let p = rises in fields .says (omega (arith, p .1)) closed
@@ -137,20 +136,19 @@ module _ {tab : List ℕ} {n a b root top : ℕ} {ix ix₁ ix₂ : List ℕ} {f 
                 ∙ sym (upwards-next tab n 5 left c x row is there);
           }
 
-      entered-here : h < classes → Entered tab n classes (m .top) c (written ix₂ c h (m .root))
-      entered-here low =
+      entered-here : Entered tab n (m .top) c (written ix₂ c h (m .root))
+      entered-here =
           let eh = written-height ix₂ c h (m .root) near (methods .long ∙ fields .long ∙ long) in
           let er = written-root ix₂ c h (m .root) near (methods .long ∙ fields .long ∙ long) in
           let s = written-before ix₂ c h (m .root) fits in
           record {
-            low = omega (arith, eh);
             closed = rw er (closed-same ix₂ (written ix₂ c h (m .root)) 12 (m .root) s (added-methods .closed));
             serves = λ left l. rw er (serves-same s (added-methods .closed) (serves-here left (omega (arith, eh))));
           }
 
-    grown-here : (classes : ℕ) → Growing tab n classes top ix → Entered tab n classes (m .top) c (written ix₂ c h (m .root))
-        → Growing tab n classes (m .top) (written ix₂ c h (m .root))
-    grown-here classes g here =
+    grown-here : Growing tab n top ix → Entered tab n (m .top) c (written ix₂ c h (m .root))
+        → Growing tab n (m .top) (written ix₂ c h (m .root))
+    grown-here g here =
         let p = rises in
         record {
           long = written-long ix₂ c h (m .root) ∙ methods .long ∙ fields .long ∙ long;
@@ -159,14 +157,14 @@ module _ {tab : List ℕ} {n a b root top : ℕ} {ix ix₁ ix₂ : List ℕ} {f 
           first = kept-written .before 0 (omega (arith, g .least)) ∙ g .first;
           second = kept-written .before 1 (omega (arith, g .least)) ∙ g .second;
           entered = λ d l t. elim (ℕ-discrete d c) [
-            | yes e ↦ subst (λ (w : ℕ). Entered tab n classes (m .top) w (written ix₂ c h (m .root))) (sym e) here
+            | yes e ↦ subst (λ (w : ℕ). Entered tab n (m .top) w (written ix₂ c h (m .root))) (sym e) here
             | no o ↦ entered-stays g kept-written (omega (arith, p .0, p .1)) d l o t
           ];
         }
 
     pub own-done : OwnPost tab n c row root h top ix (m .top) (set (set ix₂ (16384 + c) (h + 1)) (18432 + c) (m .root))
     unfolding written
-    own-done = record { says = λ classes g low is there closed above. grown-here classes g (entered-here classes is there closed above low) }
+    own-done = record { says = λ g is there closed above. grown-here g (entered-here is there closed above) }
 
 -- CLASS
 
@@ -177,27 +175,27 @@ empty-serves {tab} {n} {ix} e₀ e₁ left c far =
       methods = λ x h. empty-get ix 12 (2 * x + 1) e₀ e₁ ∙ sym (upwards-none tab n 5 left c x (wordAt tab 7 c) refl (omega (arith, word-out tab 7 c far)));
     }
 
-module _ {tab : List ℕ} {n classes left c row p q : ℕ} (more : left ≡ 0 → ⊥) (few : left ≤ classes) (is : row ≡ wordAt tab 7 c) (there : row < absent)
+module _ {tab : List ℕ} {n c row p q : ℕ} (is : row ≡ wordAt tab 7 c) (there : row < absent)
     (e₃ : q ≡ wordAt tab 3 row) (e₂ : p ≡ wordAt tab 2 q) where
-  pub class-top : {top r : ℕ} {ix ix′ : List ℕ} → Growing tab n classes top ix → absent ≤ p → OwnPost tab n c row 0 0 top ix r ix′ → Growing tab n classes r ix′
+  pub class-top : {top r : ℕ} {ix ix′ : List ℕ} → Growing tab n top ix → absent ≤ p → OwnPost tab n c row 0 0 top ix r ix′ → Growing tab n r ix′
   class-top {ix} g far o =
-      o .says classes g (omega (arith, more)) is there (empty-closed ix 12 (g .least) (g .first) (g .second))
+      o .says g is there (empty-closed ix 12 (g .least) (g .first) (g .second))
       (λ left l. empty-serves (g .first) (g .second) left (wordAt tab 2 (wordAt tab 3 row)) (omega (arith, e₂ ∙ ap (wordAt tab 2) e₃)))
 
-  pub class-next : {top h root r : ℕ} {ix ix′ : List ℕ} → Growing tab n classes top ix → p < absent → h ≡ getD ix (16384 + p) 0 → (h ≡ 0 → ⊥) → h < classes
-      → root ≡ getD ix (18432 + p) 0 → OwnPost tab n c row root h top ix r ix′ → Growing tab n classes r ix′
-  class-next {top} {h} {root} {ix} g near eh some low er o =
+  pub class-next : {top h root r : ℕ} {ix ix′ : List ℕ} → Growing tab n top ix → p < absent → h ≡ getD ix (16384 + p) 0 → (h ≡ 0 → ⊥)
+      → root ≡ getD ix (18432 + p) 0 → OwnPost tab n c row root h top ix r ix′ → Growing tab n r ix′
+  class-next {top} {h} {root} {ix} g near eh some er o =
       let e = g .entered p near (omega (arith, eh, some)) in
-      o .says classes g low is there (rw er (e .closed))
+      o .says g is there (rw er (e .closed))
       (λ left l. rw (er, ← e₃, ← e₂) (e .serves left (omega (arith, eh))))
 
 -- ALL, BUILD
 
-pub growing-indexed : {tab : List ℕ} {n classes top : ℕ} {ix : List ℕ} → Growing tab n classes top ix → Indexed tab n classes ix
-growing-indexed {classes} g = record { serves = λ c h t. let e = g .entered c h t in e .serves classes (e .low) }
+pub growing-indexed : {tab : List ℕ} {n top : ℕ} {ix : List ℕ} → Growing tab n top ix → Indexed tab n ix
+growing-indexed g = record { serves = λ c h t. g .entered c h t .serves }
 
-pub growing-none : {tab : List ℕ} {n classes : ℕ} {ix : List ℕ} → (k : ℕ) → k ≡ 20480 → ix ≡ replicate k 0 → Growing tab n classes 2 ix
-growing-none {tab} {n} {classes} {ix} k long e =
+pub growing-none : {tab : List ℕ} {n : ℕ} {ix : List ℕ} → (k : ℕ) → k ≡ 20480 → ix ≡ replicate k 0 → Growing tab n 2 ix
+growing-none {tab} {n} {ix} k long e =
     record {
       long = ap length e ∙ length-replicate {A = ℕ} k 0 ∙ long;
       least = omega arith;

@@ -48,23 +48,22 @@ pub record Serves (tab : List ℕ) (n left c root : ℕ) (ix : List ℕ) : Type 
   pub fields : (x : ℕ) → x < 2048 → get ix 12 root (2 * x + 0) ≡ upwards tab n 4 left c x
   pub methods : (x : ℕ) → x < 2048 → get ix 12 root (2 * x + 1) ≡ upwards tab n 5 left c x
 
--- of a class in the index: its height, and whatever is counted from it on, its members
-pub record Entered (tab : List ℕ) (n classes top c : ℕ) (ix : List ℕ) : Type 0 where
-  pub low : heightOf ix c ≤ classes
+-- of a class in the index: however many classes are counted upwards, from its height on, these are its members
+pub record Entered (tab : List ℕ) (n top c : ℕ) (ix : List ℕ) : Type 0 where
   pub closed : Closed ix top 12 (rootOf ix c)
   pub serves : (left : ℕ) → heightOf ix c ≤ left → Serves tab n left c (rootOf ix c) ix
 
 -- the index while it grows: the first node is empty, the words from `top` on are free
-pub record Growing (tab : List ℕ) (n classes top : ℕ) (ix : List ℕ) : Type 0 where
+pub record Growing (tab : List ℕ) (n top : ℕ) (ix : List ℕ) : Type 0 where
   pub long : length ix ≡ 20480
   pub least : 2 ≤ top
   pub most : top ≤ 16385
   pub first : getD ix 0 0 ≡ 0
   pub second : getD ix 1 0 ≡ 0
-  pub entered : (c : ℕ) → c < 2048 → 0 < heightOf ix c → Entered tab n classes top c ix
+  pub entered : (c : ℕ) → c < 2048 → 0 < heightOf ix c → Entered tab n top c ix
 
-pub record Indexed (tab : List ℕ) (n classes : ℕ) (ix : List ℕ) : Type 0 where
-  pub serves : (c : ℕ) → c < 2048 → 0 < heightOf ix c → Serves tab n classes c (rootOf ix c) ix
+pub record Indexed (tab : List ℕ) (n : ℕ) (ix : List ℕ) : Type 0 where
+  pub serves : (c : ℕ) → c < 2048 → 0 < heightOf ix c → (left : ℕ) → heightOf ix c ≤ left → Serves tab n left c (rootOf ix c) ix
 
 -- MAKING IT
 
@@ -87,14 +86,14 @@ pub record AddPost (tab : List ℕ) (bit left row root top : ℕ) (ix : List ℕ
 
 -- the members of the class in a row: where the nodes suffice, the class gets its height and its root
 pub record OwnPost (tab : List ℕ) (n c row root h top : ℕ) (ix : List ℕ) (r : ℕ) (ix′ : List ℕ) : Type 0 where
-  pub says : (classes : ℕ) → Growing tab n classes top ix → h < classes → row ≡ wordAt tab 7 c → row < absent → Closed ix top 12 root
-      → ((left : ℕ) → h ≤ left → Serves tab n left (wordAt tab 2 (wordAt tab 3 row)) root ix) → Growing tab n classes r ix′
+  pub says : Growing tab n top ix → row ≡ wordAt tab 7 c → row < absent → Closed ix top 12 root
+      → ((left : ℕ) → h ≤ left → Serves tab n left (wordAt tab 2 (wordAt tab 3 row)) root ix) → Growing tab n r ix′
 
 -- READING IT
 
--- the index has a class, and names by this number
-pub record HasPost (ix : List ℕ) (c x : ℕ) (r : Bool) : Type 0 where
-  pub says : r ≡ true → (c < 2048) × (x < 2048) × (0 < heightOf ix c)
+-- the index has a class, with what is `left` classes upwards at most, and names by this number
+pub record HasPost (ix : List ℕ) (left c x : ℕ) (r : Bool) : Type 0 where
+  pub says : r ≡ true → (c < 2048) × (x < 2048) × (0 < heightOf ix c) × (heightOf ix c ≤ left)
 
 pub record EntryPost (ix : List ℕ) (c k : ℕ) (r : ℕ) : Type 0 where
   pub is : r ≡ get ix 12 (rootOf ix c) k

@@ -15,9 +15,9 @@ ghost use Rattle.reader.specs.WalkPost.{Walkable};
 ghost use Rattle.lookup.specs.Lookups.{FieldTyped, FindsMethod};
 ghost use Rattle.members.specs.Growth.{Indexed, HasPost, EntryPost};
 
-// Whether the index has the class whose name has the number c, for names by the number x.
-fn has(index: &[u32], c: usize, x: usize) -> bool
-    ensures { λ r. ⌜ HasPost (now (index .entry)) c x r ⌝ }
+// Whether the index has the class whose name has the number c, with no more than `left` classes upwards, for names by the number x.
+fn has(index: &[u32], left: usize, c: usize, x: usize) -> bool
+    ensures { λ r. ⌜ HasPost (now (index .entry)) left c x r ⌝ }
 {
     if ABSENT <= c {
         return false;
@@ -25,7 +25,11 @@ fn has(index: &[u32], c: usize, x: usize) -> bool
     if ABSENT <= x {
         return false;
     }
-    0 < cell(index, HEIGHTS + c)
+    let h = cell(index, HEIGHTS + c);
+    if h == 0 {
+        return false;
+    }
+    h <= left
 }
 
 // The word of a key, below the root of the class whose name has the number c.
@@ -36,32 +40,32 @@ fn entry(index: &[u32], c: usize, k: usize) -> usize
     get(index, DEPTH, cell(index, ROOTS + c), k)
 }
 
-// The type of the nearest field of a name upwards from c.
-pub fn field(table: &[u32], index: &[u32], n: usize, classes: usize, c: usize, x: usize) -> usize
-    requires { ⌜ Walkable (now table) n × Indexed (now table) n classes (now index) ⌝ }
-    ensures { λ r. ⌜ FieldTyped (now (table .entry)) n classes c x r ⌝ }
+// The type of the nearest field of a name upwards from c, `left` classes at most.
+pub fn field(table: &[u32], index: &[u32], n: usize, left: usize, c: usize, x: usize) -> usize
+    requires { ⌜ Walkable (now table) n × Indexed (now table) n (now index) ⌝ }
+    ensures { λ r. ⌜ FieldTyped (now (table .entry)) n left c x r ⌝ }
 {
-    if has(index, c, x) {
+    if has(index, left, c, x) {
         let e = entry(index, c, 2 * x);
         if e == 0 {
             return NOTHING;
         }
         return type_of(table, n, word(table, 3, e - 1));
     }
-    field_type(table, n, classes, c, x)
+    field_type(table, n, left, c, x)
 }
 
-// The row of the first method of a name in the nearest class upwards from c that has one.
-pub fn method(table: &[u32], index: &[u32], n: usize, classes: usize, c: usize, m: usize) -> usize
-    requires { ⌜ Walkable (now table) n × Indexed (now table) n classes (now index) ⌝ }
-    ensures { λ r. ⌜ FindsMethod (now (table .entry)) n classes c m r ⌝ }
+// The row of the first method of a name in the nearest class upwards from c, `left` classes at most, that has one.
+pub fn method(table: &[u32], index: &[u32], n: usize, left: usize, c: usize, m: usize) -> usize
+    requires { ⌜ Walkable (now table) n × Indexed (now table) n (now index) ⌝ }
+    ensures { λ r. ⌜ FindsMethod (now (table .entry)) n left c m r ⌝ }
 {
-    if has(index, c, m) {
+    if has(index, left, c, m) {
         let e = entry(index, c, 2 * m + 1);
         if e == 0 {
             return ABSENT;
         }
         return e - 1;
     }
-    find_method(table, n, classes, c, m)
+    find_method(table, n, left, c, m)
 }

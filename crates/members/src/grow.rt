@@ -89,17 +89,9 @@ fn own(
 }
 
 // The class whose name has the number c, after the class above. Answers the first word that is free.
-fn class(
-    table: &[u32],
-    index: &mut [u32],
-    n: usize,
-    classes: usize,
-    left: usize,
-    c: usize,
-    top: usize,
-) -> usize
-    requires { ⌜ Walkable (now table) n × (classes ≤ 2048) × (left ≤ classes) × Growing (now table) n classes top (now index) ⌝ }
-    ensures { λ r. ⌜ Growing (now (table .entry)) n classes r (now (index .exit)) ⌝ }
+fn class(table: &[u32], index: &mut [u32], n: usize, left: usize, c: usize, top: usize) -> usize
+    requires { ⌜ Walkable (now table) n × Growing (now table) n top (now index) ⌝ }
+    ensures { λ r. ⌜ Growing (now (table .entry)) n r (now (index .exit)) ⌝ }
 {
     if left == 0 {
         return top;
@@ -118,12 +110,12 @@ fn class(
     if ABSENT <= p {
         return own(table, index, n, c, row, 0, 0, top);
     }
-    let t = class(table, index, n, classes, left - 1, p, top);
+    let t = class(table, index, n, left - 1, p, top);
     let h = cell(index, HEIGHTS + p);
     if h == 0 {
         return t;
     }
-    if classes <= h {
+    if ABSENT <= h {
         return t;
     }
     own(table, index, n, c, row, cell(index, ROOTS + p), h, t)
@@ -139,8 +131,8 @@ fn all(
     row: usize,
     top: usize,
 )
-    requires { ⌜ Walkable (now table) n × (classes ≤ 2048) × Growing (now table) n classes top (now index) ⌝ }
-    ensures { λ _. ⌜ Indexed (now (table .entry)) n classes (now (index .exit)) ⌝ }
+    requires { ⌜ Walkable (now table) n × Growing (now table) n top (now index) ⌝ }
+    ensures { λ _. ⌜ Indexed (now (table .entry)) n (now (index .exit)) ⌝ }
 {
     if left == 0 {
         return;
@@ -148,14 +140,14 @@ fn all(
     if ABSENT <= row {
         return;
     }
-    let t = class(table, index, n, classes, classes, word(table, 2, row), top);
+    let t = class(table, index, n, classes, word(table, 2, row), top);
     all(table, index, n, classes, left - 1, word(table, 6, row), t);
 }
 
 // The index of all classes. The first node is empty: its words lead to itself, and its keys have word 0.
 pub fn build(table: &[u32], index: &mut [u32], n: usize, classes: usize)
-    requires { ⌜ Walkable (now table) n × (classes ≤ 2048) × (now index ≡ replicate 20480 0) ⌝ }
-    ensures { λ _. ⌜ Indexed (now (table .entry)) n classes (now (index .exit)) ⌝ }
+    requires { ⌜ Walkable (now table) n × (now index ≡ replicate 20480 0) ⌝ }
+    ensures { λ _. ⌜ Indexed (now (table .entry)) n (now (index .exit)) ⌝ }
 {
     all(table, index, n, classes, n, word(table, 6, 0), 2);
 }

@@ -43,14 +43,14 @@ tested : {tab : List ℕ} {n : ℕ} {ts : List Token} → Lexemes tab n ts → (
 tested {ts = ts} lx i {k} kind kind′ test =
     ap (λ (j : ℕ). isUse j (kindAt ts (i + 1))) (sym (kinds lx i) ∙ sym kind) ∙ ap (isUse k) (sym (kinds lx (i + 1)) ∙ sym kind′) ∙ sym test
 
-module _ {tab : List ℕ} {s : Scope} {i k next : ℕ} (kind : k ≡ kindIn tab (s .tokens) i) (kind′ : next ≡ kindIn tab (s .tokens) (i + 1)) {b : Bool} (test : b ≡ isUse k next) where
-  pub mark-none : b ≡ false → MarkPost s i tab tab
+module _ {tab slots : List ℕ} {s : Scope} {i k next : ℕ} (kind : k ≡ kindIn tab (s .tokens) i) (kind′ : next ≡ kindIn tab (s .tokens) (i + 1)) {b : Bool} (test : b ≡ isUse k next) where
+  pub mark-none : b ≡ false → MarkPost slots s i tab tab
   mark-none other = record { says = λ ts G Γ w. passed (tested (w .linked .tokens) i kind kind′ test ∙ other) refl }
 
-  pub mark-use : b ≡ true → {x v : ℕ} → x ≡ wordAt tab 2 i → SlotPost tab s x v → {after : List ℕ} → after ≡ put tab 7 i v → MarkPost s i tab after
+  pub mark-use : b ≡ true → {x v : ℕ} → x ≡ wordAt tab 2 i → SlotPost tab slots s x v → {after : List ℕ} → after ≡ put tab 7 i v → MarkPost slots s i tab after
   mark-use is {x} {v} e₂ h {after} e = record { says = go }
     where
-      go : (ts : List Token) (G : List Class) (Γ : Context) → InScope tab ts G Γ s → Step (uses ts) (meaningAt ts G Γ) i tab after
+      go : (ts : List Token) (G : List Class) (Γ : Context) → InScope tab slots ts G Γ s → Step (uses ts) (meaningAt ts G Γ) i tab after
       go ts G Γ w =
           let used = tested (w .linked .tokens) i kind kind′ test ∙ is in
           let m = name-at ts i (use-named (kindAt ts i) (kindAt ts (i + 1)) used) in
@@ -60,16 +60,16 @@ module _ {tab : List ℕ} {s : Scope} {i k next : ℕ} (kind : k ≡ kindIn tab 
 -- THE ROWS BETWEEN TWO
 
 -- the rows before i are done
-pub record NamesUpTo (s : Scope) (from to i : ℕ) (before now : List ℕ) : Type 0 where
+pub record NamesUpTo (slots : List ℕ) (s : Scope) (from to i : ℕ) (before now : List ℕ) : Type 0 where
   pub turns : Turns from to i before now
-  pub so-far : NamesPost s from i before now
+  pub so-far : NamesPost slots s from i before now
 
-module _ {s : Scope} {from to : ℕ} {before : List ℕ} where
-  pub names-none : NamesUpTo s from to from before before
+module _ {slots : List ℕ} {s : Scope} {from to : ℕ} {before : List ℕ} where
+  pub names-none : NamesUpTo slots s from to from before before
   names-none = record { turns = turns-none; so-far = record { says = λ ts G Γ w. filled-none } }
 
-  pub names-more : {i : ℕ} {now after : List ℕ} → size ≤ length before → i < to → to ≤ 2048 → NamesUpTo s from to i before now → MarkPost s i now after → length after ≡ length now
-      → NamesUpTo s from to (i + 1) before after
+  pub names-more : {i : ℕ} {now after : List ℕ} → size ≤ length before → i < to → to ≤ 2048 → NamesUpTo slots s from to i before now → MarkPost slots s i now after → length after ≡ length now
+      → NamesUpTo slots s from to (i + 1) before after
   names-more large lt few h p l =
       record {
         turns = turns-more lt (h .turns) l;
@@ -78,5 +78,5 @@ module _ {s : Scope} {from to : ℕ} {before : List ℕ} where
         };
       }
 
-  pub names-all : {i : ℕ} {now : List ℕ} → to ≤ i → NamesUpTo s from to i before now → NamesPost s from to before now
+  pub names-all : {i : ℕ} {now : List ℕ} → to ≤ i → NamesUpTo slots s from to i before now → NamesPost slots s from to before now
   names-all ge h = record { says = λ ts G Γ w. filled-all ge (h .turns) (h .so-far .says ts G Γ w) }

@@ -5,7 +5,7 @@ use mathlib.Core.Path.{_≡_, refl, sym, ap, _∙_, subst}
 use mathlib.Core.List.{List, [], _∷_, _++_}
 use mathlib.Core.Bool.{Bool, true, false}
 use mathlib.Core.Option.{Option, none, some}
-use lib.ListN.{length}
+use lib.ListN.{length, getD}
 use Rattle.base.specs.Choice.{if_then_else_, option}
 use Rattle.base.specs.Bytes.{same}
 use Rattle.lexer.specs.Tokens.{Token}
@@ -18,7 +18,7 @@ use Rattle.lookup.specs.VariableLaws.{variable-left}
 use Rattle.resolver.specs.declared.scope.Scope.{Scope}
 use Rattle.resolver.specs.Resolving.{objectSlot, slotOf}
 use Rattle.resolver.specs.Changes.{uses, Changed, Within, Linked}
-use Rattle.resolver.specs.Places.{placeFrom, PlacePost, FieldPost}
+use Rattle.resolver.specs.Places.{placeFrom, PlacePost, held}
 use Rattle.resolver.specs.Scoping.{ListedAt, InScope, SlotPost}
 use Rattle.resolver.proofs.ChangeLaws.{lexemes-few, variables-kept, linked-used}
 use Rattle.resolver.proofs.PlaceLaws.{variables-many, place-below}
@@ -86,23 +86,23 @@ place-in : {tab : List ℕ} {n x : ℕ} {ts : List Token} {G : List Class} {i ro
     → (text : List ℕ) → Spells ts text x → i ≡ placeFrom 0 (variableNamed vs text)
 place-in {n = n} {ts = ts} {vs = vs} w l h text sp = h .says n ts (w .tokens) vs (l .at) (l .stand) (l .few) text sp
 
-module _ {tab : List ℕ} {s : Scope} {x : ℕ} where
-  pub slot-parameter : {i : ℕ} → PlacePost tab (s .tokens) (s .parameters) x 0 i → i < absent → SlotPost tab s x i
+module _ {tab slots : List ℕ} {s : Scope} {x : ℕ} where
+  pub slot-parameter : {i : ℕ} → PlacePost tab (s .tokens) (s .parameters) x 0 i → i < absent → SlotPost tab slots s x i
   slot-parameter {i} h low = record { most = omega arith; says = go }
     where
-      go : (ts : List Token) (G : List Class) (Γ : Context) → InScope tab ts G Γ s → (text : List ℕ) → Spells ts text x → i ≡ slotOf (meaning G Γ text)
+      go : (ts : List Token) (G : List Class) (Γ : Context) → InScope tab slots ts G Γ s → (text : List ℕ) → Spells ts text x → i ≡ slotOf (meaning G Γ text)
       go ts G Γ w text sp =
           let f = found i (variableNamed (w .given) text) low (place-in (w .linked) (w .given-listed) h text sp) in
           rw (meaning-row G Γ text (ap (λ (vs : List Variable). variableNamed vs text) (w .seen) ∙ variable-left (w .given) (w .own) text (f .1))) (f .2)
 
   module _ (few : s .tokens ≤ 2048) {i : ℕ} (h : PlacePost tab (s .tokens) (s .parameters) x 0 i) (high : absent ≤ i) where
-    not-given : {ts : List Token} {G : List Class} {Γ : Context} (w : InScope tab ts G Γ s) (text : List ℕ) → Spells ts text x → variableNamed (w .given) text ≡ none
+    not-given : {ts : List Token} {G : List Class} {Γ : Context} (w : InScope tab slots ts G Γ s) (text : List ℕ) → Spells ts text x → variableNamed (w .given) text ≡ none
     not-given w text sp = missing i (w .given) text high (omega (arith, w .given-listed .few)) (place-in (w .linked) (w .given-listed) h text sp)
 
-    pub slot-local : {j : ℕ} → PlacePost tab (s .tokens) (s .locals) x 0 j → j < absent → {n : ℕ} → Counts tab (s .tokens) (s .parameters) n → SlotPost tab s x (n + j)
+    pub slot-local : {j : ℕ} → PlacePost tab (s .tokens) (s .locals) x 0 j → j < absent → {n : ℕ} → Counts tab (s .tokens) (s .parameters) n → SlotPost tab slots s x (n + j)
     slot-local {j} h′ low {n} c = record { most = omega (arith, c .most); says = go }
       where
-        go : (ts : List Token) (G : List Class) (Γ : Context) → InScope tab ts G Γ s → (text : List ℕ) → Spells ts text x → n + j ≡ slotOf (meaning G Γ text)
+        go : (ts : List Token) (G : List Class) (Γ : Context) → InScope tab slots ts G Γ s → (text : List ℕ) → Spells ts text x → n + j ≡ slotOf (meaning G Γ text)
         go ts G Γ w text sp =
             let f = found j (variableNamed (w .own) text) low (place-in (w .linked) (w .own-listed) h′ text sp) in
             let many = subst (λ (i : ℕ). Many tab i (length (w .given))) (w .given-listed .at) (variables-many (w .linked .tokens) (w .given-listed .stand)) in
@@ -111,26 +111,41 @@ module _ {tab : List ℕ} {s : Scope} {x : ℕ} where
             let named : variableNamed (Γ .variables) text ≡ some (moved (length (w .given)) (f .0)) = ap (λ (vs : List Variable). variableNamed vs text) (w .seen) ∙ second ∙ ap (λ (o : Option Slot). option o none λ s. some (moved (length (w .given)) s)) (f .1) in
             rw (meaning-row G Γ text named) (omega (arith, l, f .2))
 
-    pub slot-field : s .classes ≤ 2048 → {j : ℕ} → PlacePost tab (s .tokens) (s .locals) x 0 j → absent ≤ j → {r : ℕ} → FieldPost tab (s .tokens) (s .classes) (s .owner) x r → SlotPost tab s x r
-    slot-field most {j} h′ high′ {r} f = record { most = omega (arith, f .most); says = go }
-      where
-        go : (ts : List Token) (G : List Class) (Γ : Context) → InScope tab ts G Γ s → (text : List ℕ) → Spells ts text x → r ≡ slotOf (meaning G Γ text)
-        go ts G Γ w text sp =
-            let own = missing j (w .own) text high′ (omega (arith, w .own-listed .few)) (place-in (w .linked) (w .own-listed) h′ text sp) in
-            let second = variable-second (w .given) (w .own) text (not-given w text sp) in
-            let named : variableNamed (Γ .variables) text ≡ none = ap (λ (vs : List Variable). variableNamed vs text) (w .seen) ∙ second ∙ ap (λ (o : Option Slot). option o none λ s. some (moved (length (w .given)) s)) own in
-            f .says ts G (w .linked) (Γ .owner) (w .declarer) text sp
-            ∙ ap (λ (n : ℕ). objectSlot (nearestField (chainFrom n G (Γ .owner)) text)) (sym (w .many)) ∙ sym (meaning-field G Γ text named)
+    module _ {j : ℕ} (h′ : PlacePost tab (s .tokens) (s .locals) x 0 j) (high′ : absent ≤ j) where
+      -- what a name that is no parameter or local means
+      object : {ts : List Token} {G : List Class} {Γ : Context} (w : InScope tab slots ts G Γ s) (text : List ℕ) → Spells ts text x
+          → slotOf (meaning G Γ text) ≡ objectSlot (nearestField (chainFrom (length G) G (Γ .owner)) text)
+      object {G = G} {Γ} w text sp =
+          let own = missing j (w .own) text high′ (omega (arith, w .own-listed .few)) (place-in (w .linked) (w .own-listed) h′ text sp) in
+          let second = variable-second (w .given) (w .own) text (not-given w text sp) in
+          let named : variableNamed (Γ .variables) text ≡ none = ap (λ (vs : List Variable). variableNamed vs text) (w .seen) ∙ second ∙ ap (λ (o : Option Slot). option o none λ s. some (moved (length (w .given)) s)) own in
+          meaning-field G Γ text named
+
+      pub slot-held : (getD slots x 0 ≡ 0 → ⊥) → getD slots x 0 < 4294967296 → SlotPost tab slots s x (getD slots x 0)
+      slot-held some-word fits =
+          record { most = fits; says = λ ts G Γ w text sp. go (nearestField (chainFrom (length G) G (Γ .owner)) text) (w .fields .says text x sp) ∙ sym (object w text sp) }
+        where
+          go : (o : Option Slot) → getD slots x 0 ≡ held 0 o → getD slots x 0 ≡ objectSlot o
+          go none z = absurd (some-word z)
+          go (some t) z = z
+
+      pub slot-none : getD slots x 0 ≡ 0 → SlotPost tab slots s x absent
+      slot-none no-word =
+          record { most = omega arith; says = λ ts G Γ w text sp. go (nearestField (chainFrom (length G) G (Γ .owner)) text) (w .fields .says text x sp) ∙ sym (object w text sp) }
+        where
+          go : (o : Option Slot) → getD slots x 0 ≡ held 0 o → absent ≡ objectSlot o
+          go none z = refl
+          go (some t) z = absurd (omega (arith, z))
 
 -- CHANGES
 
 -- the scope stays that of the context where only variables change
-pub scope-kept : {ts : List Token} {from to : ℕ} {tab tab′ : List ℕ} {G : List Class} {Γ : Context} {s : Scope} → Changed (Within (uses ts) from to) tab tab′ → InScope tab ts G Γ s → InScope tab′ ts G Γ s
+pub scope-kept : {ts : List Token} {from to : ℕ} {tab tab′ : List ℕ} {slots : List ℕ} {G : List Class} {Γ : Context} {s : Scope} → Changed (Within (uses ts) from to) tab tab′ → InScope tab slots ts G Γ s
+    → InScope tab′ slots ts G Γ s
 scope-kept {ts} {tab = tab} {tab′} {s = s} x w =
     record {
       linked = linked-used ts (λ r u. u .test) x (w .linked);
-      many = w .many;
-      declarer = w .declarer;
+      fields = w .fields;
       given = w .given;
       own = w .own;
       seen = w .seen;

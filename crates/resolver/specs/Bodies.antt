@@ -3,6 +3,7 @@ use Prim.Native.Nat.{ℕ, _≤_}
 use mathlib.Core.Path.{_≡_}
 use mathlib.Core.List.{List, [], _∷_}
 use mathlib.Core.Bool.{true, false}
+use mathlib.Core.Option.{some}
 use lib.ListN.{length}
 use Rattle.base.specs.Lists.{All}
 use Rattle.base.specs.Table.{col}
@@ -10,11 +11,12 @@ use Rattle.lexer.specs.Tokens.{Token}
 use Rattle.parser.specs.Tree.{Name, Sort, Part, Method, Class, Program}
 use Rattle.parser.specs.Layout.{rowMethods, rowClasses}
 use Rattle.reader.specs.Matches.{NameIs}
-use Rattle.checker.specs.ClassTable.{Context, mainContext, contextOf, meaning, classNamed}
-use Rattle.lookup.specs.Standing.{MethodStands, MethodsStand, ClassesStand, rowClass}
+use Rattle.checker.specs.ClassTable.{Context, mainContext, contextOf, meaning}
+use Rattle.lookup.specs.Standing.{MethodStands, MethodsStand, ClassStands, ClassesStand}
 use Rattle.resolver.specs.Uses.{Uses}
 use Rattle.resolver.specs.Resolving.{slotOf}
 use Rattle.resolver.specs.Changes.{uses, heads, Opened, endOf, Changed, Within, Filled, Led, Headed, Linked}
+use Rattle.resolver.specs.Places.{FieldsHeld}
 use Rattle.resolver.specs.Scoping.{meaningAt}
 
 -- WHERE BODIES LIE
@@ -55,17 +57,22 @@ pub record BodyMeans (tab : List ℕ) (G : List Class) (c : List ℕ) (m : Metho
   pub body : Means tab G (contextOf c m) (m .body)
   pub value : Means tab G (contextOf c m) (m .value)
 
-pub record BodyPost (n classes owner row end : ℕ) (before after : List ℕ) : Type 0 where
-  pub says : (ts : List Token) (G : List Class) → Linked before n ts G → length G ≡ classes → (c : List ℕ) → owner ≡ rowClass (classNamed G c)
+pub record BodyPost (slots : List ℕ) (n row end : ℕ) (before after : List ℕ) : Type 0 where
+  pub says : (ts : List Token) (G : List Class) → Linked before n ts G → (c : List ℕ) → FieldsHeld ts G (some c) slots
       → (m : Method) → m .name .row ≡ row → MethodStands before n ts m → Filled (uses ts) (meaningAt ts G (contextOf c m)) row end before after
 
 pub record MethodsDone (ts : List Token) (G : List Class) (c : List ℕ) (row end : ℕ) (before after : List ℕ) (ms : List Method) : Type 0 where
   pub changed : Changed (Within (uses ts) row end) before after
   pub bodies : All (BodyMeans after G c) ms
 
-pub record MethodsPost (n classes owner left row end : ℕ) (before after : List ℕ) : Type 0 where
-  pub says : (ts : List Token) (G : List Class) → Linked before n ts G → length G ≡ classes → (c : List ℕ) → owner ≡ rowClass (classNamed G c)
+pub record MethodsPost (slots : List ℕ) (n left row end : ℕ) (before after : List ℕ) : Type 0 where
+  pub says : (ts : List Token) (G : List Class) → Linked before n ts G → (c : List ℕ) → FieldsHeld ts G (some c) slots
       → (ms : List Method) → rowMethods ms ≡ row → MethodsStand before n ts ms → length ms ≤ left → MethodsLie ts end ms → MethodsDone ts G c row end before after ms
+
+pub record ClassPost (n classes row end : ℕ) (before after : List ℕ) : Type 0 where
+  pub says : (ts : List Token) (G : List Class) → Linked before n ts G → Led before ts G → length G ≡ classes
+      → (k : Class) → k .name .row ≡ row → ClassStands before n ts k → Headed ts k → MethodsLie ts end (k .methods)
+      → MethodsDone ts G (k .name .text) (rowMethods (k .methods)) end before after (k .methods)
 
 pub record ClassesDone (ts : List Token) (G : List Class) (row n : ℕ) (before after : List ℕ) (ks : List Class) : Type 0 where
   pub changed : Changed (Within (uses ts) row n) before after

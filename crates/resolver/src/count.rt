@@ -1,4 +1,4 @@
-// Places of variables in their lists and of fields in objects. Column 7 of the name of a class's parent leads to the parent; `left` is how many members, or
+// Places of variables in their lists, and how many fields objects hold. Column 7 of the name of a class's parent leads to the parent; `left` is how many members, or
 // classes upwards, may still come.
 use lookup::member::count;
 use lookup::rows::ABSENT;
@@ -6,7 +6,7 @@ use lookup::rows::word;
 ghost use Prim.Native.Nat.{_+_, _≤_, _<_};
 ghost use lib.ListN.{length};
 ghost use Rattle.reader.specs.WalkPost.{Walkable};
-ghost use Rattle.resolver.specs.Places.{PlacePost, FieldsPost, FieldPost};
+ghost use Rattle.resolver.specs.Places.{PlacePost, FieldsPost};
 
 // Which variable of a list, counted on from `at`, is the first of a name; ABSENT where none is.
 pub fn place(table: &[u32], left: usize, row: usize, x: usize, at: usize) -> usize
@@ -39,23 +39,4 @@ pub fn fields(table: &[u32], n: usize, left: usize, class: usize) -> usize
     let own = count(table, n, word(table, 4, class));
     let above = word(table, 7, word(table, 3, class));
     fields(table, n, left - 1, above) + own
-}
-
-// 32 and the place in the object of the nearest field of a name upwards from a class; ABSENT where there is none.
-pub fn field(table: &[u32], n: usize, left: usize, class: usize, x: usize) -> usize
-    requires { ⌜ Walkable (now table) n × (left ≤ 2048) ⌝ }
-    ensures { λ r. ⌜ FieldPost (now (table .entry)) n left class x r ⌝ }
-{
-    if left == 0 {
-        return ABSENT;
-    }
-    if ABSENT <= class {
-        return ABSENT;
-    }
-    let i = place(table, n, word(table, 4, class), x, 0);
-    let above = word(table, 7, word(table, 3, class));
-    if i < ABSENT {
-        return fields(table, n, left - 1, above) + i + 32;
-    }
-    field(table, n, left - 1, above, x)
 }

@@ -8,6 +8,7 @@ use parser::kinds::is_name;
 use parser::table::kind;
 ghost use mathlib.Core.Path.{_≡_};
 ghost use Prim.Native.Nat.{_≤_, _<_};
+ghost use lib.ListN.{length};
 ghost use Rattle.reader.specs.WalkPost.{Walkable};
 ghost use Rattle.resolver.specs.Changes as Changes;
 ghost use Rattle.resolver.specs.Scoping.{MarkPost, NamesPost};
@@ -36,25 +37,25 @@ pub fn is_use(k: u32, next: u32) -> bool
 }
 
 // Row i, if it is a variable's: what it means.
-fn mark(table: &mut [u32], s: Scope, i: usize)
-    requires { ⌜ Walkable (now table) (s .tokens) × (s .classes ≤ 2048) × (i < 2048) ⌝ }
-    ensures { λ _. ⌜ MarkPost s i (now (table .entry)) (now (table .exit)) ⌝ }
+fn mark(table: &mut [u32], slots: &[u32], s: Scope, i: usize)
+    requires { ⌜ Walkable (now table) (s .tokens) × (2048 ≤ length (now slots)) × (i < 2048) ⌝ }
+    ensures { λ _. ⌜ MarkPost (now (slots .entry)) s i (now (table .entry)) (now (table .exit)) ⌝ }
 {
     let n = s.tokens;
     if is_use(kind(table, n, i), kind(table, n, i + 1)) {
-        let v = slot(table, s, word(table, 2, i));
+        let v = slot(table, slots, s, word(table, 2, i));
         write(table, i, v);
     }
 }
 
 // The rows from one up to another, of one body.
-pub fn names(table: &mut [u32], s: Scope, from: usize, to: usize)
-    requires { ⌜ Walkable (now table) (s .tokens) × (s .classes ≤ 2048) × (to ≤ 2048) ⌝ }
-    ensures { λ _. ⌜ NamesPost s from to (now (table .entry)) (now (table .exit)) ⌝ }
+pub fn names(table: &mut [u32], slots: &[u32], s: Scope, from: usize, to: usize)
+    requires { ⌜ Walkable (now table) (s .tokens) × (2048 ≤ length (now slots)) × (to ≤ 2048) ⌝ }
+    ensures { λ _. ⌜ NamesPost (now (slots .entry)) s from to (now (table .entry)) (now (table .exit)) ⌝ }
 {
     let mut i: usize = from;
     while i < to {
-        mark(table, s, i);
+        mark(table, slots, s, i);
         i += 1;
     }
 }

@@ -31,7 +31,7 @@ pub struct CheckAnswer {
 
 // Declarations and bodies.
 fn contents(table: &[u32], n: usize, classes: usize, first: usize) -> Judged
-    requires { ⌜ Walkable (now table) n × (classes ≤ 2048) ⌝ }
+    requires { ⌜ Walkable (now table) n ⌝ }
     ensures { λ r. ⌜ ContentsJudged (now (table .entry)) n classes first r ⌝ }
 {
     let d = declarations(table, n, classes, n, first);
@@ -43,7 +43,7 @@ fn contents(table: &[u32], n: usize, classes: usize, first: usize) -> Judged
 
 // Chains, then what the classes hold.
 fn chained(table: &[u32], n: usize, classes: usize, first: usize) -> Judged
-    requires { ⌜ Walkable (now table) n × (classes ≤ 2048) ⌝ }
+    requires { ⌜ Walkable (now table) n ⌝ }
     ensures { λ r. ⌜ ChainedJudged (now (table .entry)) n classes first r ⌝ }
 {
     let c = chains(table, classes, n, first);

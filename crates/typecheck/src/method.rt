@@ -32,7 +32,7 @@ fn carried(table: &[u32], index: &[u32], s: Scope, row: usize) -> Judged
 
 // The body of a method in the class whose name has the number `owner`.
 fn body(table: &[u32], index: &[u32], n: usize, classes: usize, owner: usize, row: usize) -> Judged
-    requires { ⌜ Walkable (now table) n × Indexed (now table) n classes (now index) × (row < 4294967296) ⌝ }
+    requires { ⌜ Walkable (now table) n × Indexed (now table) n (now index) × (row < 4294967296) ⌝ }
     ensures { λ r. ⌜ BodyJudged (now (table .entry)) n classes owner row r ⌝ }
 {
     let parameters = word(table, 4, row);
@@ -64,7 +64,7 @@ fn methods(
     owner: usize,
     row: usize,
 ) -> Judged
-    requires { ⌜ Walkable (now table) n × Indexed (now table) n classes (now index) ⌝ }
+    requires { ⌜ Walkable (now table) n × Indexed (now table) n (now index) ⌝ }
     ensures { λ r. ⌜ MethodsJudged (now (table .entry)) n classes left owner row r ⌝ }
 {
     if left == 0 {
@@ -90,7 +90,7 @@ fn methods(
 
 // The bodies of the classes from a row on.
 fn all(table: &[u32], index: &[u32], n: usize, classes: usize, left: usize, row: usize) -> Judged
-    requires { ⌜ Walkable (now table) n × Indexed (now table) n classes (now index) ⌝ }
+    requires { ⌜ Walkable (now table) n × Indexed (now table) n (now index) ⌝ }
     ensures { λ r. ⌜ ClassesJudged (now (table .entry)) n classes left row r ⌝ }
 {
     if left == 0 {
@@ -116,7 +116,7 @@ fn all(table: &[u32], index: &[u32], n: usize, classes: usize, left: usize, row:
 
 // All bodies, main first: its statement stands in row 14.
 fn program(table: &[u32], index: &[u32], n: usize, classes: usize) -> Judged
-    requires { ⌜ Walkable (now table) n × Indexed (now table) n classes (now index) ⌝ }
+    requires { ⌜ Walkable (now table) n × Indexed (now table) n (now index) ⌝ }
     ensures { λ r. ⌜ BodiesJudged (now (table .entry)) n classes r ⌝ }
 {
     let s = Scope {
@@ -135,7 +135,7 @@ fn program(table: &[u32], index: &[u32], n: usize, classes: usize) -> Judged
 
 // All bodies, by an index of what the classes have.
 pub fn bodies(table: &[u32], n: usize, classes: usize) -> Judged
-    requires { ⌜ Walkable (now table) n × (classes ≤ 2048) ⌝ }
+    requires { ⌜ Walkable (now table) n ⌝ }
     ensures { λ r. ⌜ BodiesJudged (now (table .entry)) n classes r ⌝ }
 {
     let mut index = [0u32; 20480];

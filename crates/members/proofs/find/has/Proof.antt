@@ -17,7 +17,10 @@ cell-requires : tie.Need-cell-requires
 cell-requires c κs = search needs
 
 returns-3 : tie.Need-returns-3
-returns-3 c = search has-height
+returns-3 c = search has-none
+
+returns-4 : tie.Need-returns-4
+returns-4 c = search has-height
 
 pub has-spec : {M : Type 1} → statement M
-has-spec = tie.close (tie.spec returns returns-2 add-cell cell-requires returns-3)
+has-spec = tie.close (tie.spec returns returns-2 add-cell cell-requires returns-3 returns-4)

@@ -15,7 +15,7 @@ use borrow.Author.Needs.{needs}
 use Rattle.members.proofs.GrowthLaws.{class-top, class-next}
 
 abbrev μ-class : Measures 2 class-kinds.ps ℕ
-μ-class κs a = a .1 .1 .1 .1 .0
+μ-class κs a = a .1 .1 .1 .0
 
 abbrev class-at : ℕ → In 2 class-kinds.ps
 class-at t = and 2 class-kinds.ps (is 2 class-kinds.ps μ-class t) class.Pre
@@ -73,7 +73,7 @@ module _ (t : ℕ) where
   class-class-requires c κs =
       let p = c .before .before .before .before .before .before .before .before .before .before .before .before .before .pre in
       let more = c .before .before .before .before .before .before .before .before .before .before .if1 .left in
-      (omega (arith, p .0, more), (p .1 .0, p .1 .1, omega (arith, p .1 .2), p .1 .3))
+      (omega (arith, p .0, more), (p .1 .0, p .1 .1))
 
   class-add-cell-2 : class-lts.Need-add-cell-2 (class-calls t) (class-at t) class.Post
   class-add-cell-2 c = search needs
@@ -104,7 +104,7 @@ module _ (t : ℕ) where
       let g = c .before .before .before .before .before .before .before .before .before .class .ensures in
       let d = c .before .before .before .before .before .before .before .before .before .before .before .before .before .before .before .before .before .before .before in
       let p = d .before .before .before .before .pre .1 in
-      (p .0, g .long, d .if2 .left, c .cell3 .ensures .1, omega (arith, p .1, c .before .before .before .if7 .left), g .most)
+      (p .0, g .long, d .if2 .left, c .cell3 .ensures .1, c .before .before .before .if7 .left, g .most)
 
   class-same-length-5 : class-lts.Need-same-length-5 (class-calls t) (class-at t) class.Post
   class-same-length-5 c = search needs
@@ -114,10 +114,9 @@ module _ (t : ℕ) where
       let e = c .before .before .before .before .before .before in
       let d = e .before .before .before .before .before .before .before .before in
       let f = d .before .before .before .before .before .before in
-      class-next (f .before .before .before .if1 .left) (f .before .before .before .before .before .before .pre .1 .2)
-      (f .before .word .ensures .0) (f .if3 .left) (d .before .before .word2 .ensures .0) (d .before .word3 .ensures .0)
+      class-next (f .before .word .ensures .0) (f .if3 .left) (d .before .before .word2 .ensures .0) (d .before .word3 .ensures .0)
       (e .before .before .before .before .before .before .class .ensures) (d .if5 .left)
-      (e .before .before .cell2 .ensures .0) (e .before .if6 .left) (e .if7 .left) (c .before .before .before .cell3 .ensures .0) (c .before .before .own2 .ensures)
+      (e .before .before .cell2 .ensures .0) (e .before .if6 .left) (c .before .before .before .cell3 .ensures .0) (c .before .before .own2 .ensures)
 
 pub +class-spec : {M : Type 1} → statement M
 +class-spec =

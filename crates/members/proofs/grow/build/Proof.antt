@@ -9,7 +9,7 @@ word-requires : tie.Need-word-requires
 word-requires c κs = search needs
 
 all-requires : tie.Need-all-requires
-all-requires c κs = let p = c .before .before .before .before .pre in (p .0, p .1, growing-none 20480 refl (p .2))
+all-requires c κs = let p = c .before .before .before .before .pre in (p .0, growing-none 20480 refl (p .1))
 
 same-length : tie.Need-same-length
 same-length c = search needs

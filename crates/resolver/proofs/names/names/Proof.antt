@@ -6,10 +6,10 @@ use Prim.Native.Nat.{_-_}
 use Rattle.resolver.proofs.NameLaws.{NamesUpTo, names-none, names-more, names-all}
 
 abbrev Inv-loop : tie.InvT-loop
-Inv-loop table₀ s from to i₀ table i = NamesUpTo s from to i table₀ table
+Inv-loop table₀ slots s from to i₀ table i = NamesUpTo slots s from to i table₀ table
 
 abbrev μ-loop : tie.MeasureT-loop
-μ-loop table₀ s from to i₀ table i = to - i
+μ-loop table₀ slots s from to i₀ table i = to - i
 
 loop-holds : tie.Need-loop-holds Inv-loop μ-loop
 loop-holds c = names-none

@@ -14,14 +14,14 @@ use borrow.Author.Needs.{needs}
 use Prim.Native.Nat.{_-_}
 use Rattle.resolver.proofs.BodyLaws.{methods-none-left, methods-absent, methods-next}
 
-abbrev μ-methods : Measures 1 methods-kinds.ps ℕ
-μ-methods κs a = a .1 .1 .1 .1 .0
+abbrev μ-methods : Measures 2 methods-kinds.ps ℕ
+μ-methods κs a = a .1 .1 .1 .0
 
-abbrev methods-at : ℕ → In 1 methods-kinds.ps
-methods-at t = and 1 methods-kinds.ps (is 1 methods-kinds.ps μ-methods t) methods.Pre
+abbrev methods-at : ℕ → In 2 methods-kinds.ps
+methods-at t = and 2 methods-kinds.ps (is 2 methods-kinds.ps μ-methods t) methods.Pre
 
-abbrev methods-below : ℕ → In 1 methods-kinds.ps
-methods-below t = and 1 methods-kinds.ps (falls 1 methods-kinds.ps _<_ μ-methods t) methods.Pre
+abbrev methods-below : ℕ → In 2 methods-kinds.ps
+methods-below t = and 2 methods-kinds.ps (falls 2 methods-kinds.ps _<_ μ-methods t) methods.Pre
 
 abbrev methods-calls : ℕ → methods-lts.Claims
 methods-calls t = (word-reads.Asked, word-reads.Learnt, end-of-reads.Asked, end-of-reads.Learnt, body-reads.Asked, body-reads.Learnt, methods-below t, methods.Post)
