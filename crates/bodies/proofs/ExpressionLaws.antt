@@ -15,7 +15,7 @@ use Rattle.base.specs.Outcome.{Outcome, accepted, refused, _>>=_}
 use Rattle.base.specs.Table.{col}
 use Rattle.lexer.specs.Kinds.{kLiteral, kTrue, kFalse, kThis, isName}
 use Rattle.lexer.specs.Tokens.{Token}
-use Rattle.parser.specs.Tree.{Place, Name, Operator.and, Operator.less, Operator.plus, Operator.minus, Operator.times, Sort, Sort.expression, Sort.arguments, Part, Expression, placeE, Ty, Ty.int, Ty.boolean, Ty.intArray, Ty.class, Variable, Class}
+use Rattle.parser.specs.Tree.{Place, Name, Operator.and, Operator.less, Operator.plus, Operator.minus, Operator.times, Sort, Sort.arguments, Part, Expression, placeE, Ty, Ty.int, Ty.boolean, Ty.intArray, Ty.class, Variable, Class}
 use Rattle.parser.specs.Tree.{Part.literal, Part.truth, Part.variable, Part.this, Part.newArray, Part.newObject, Part.negation, Part.binary, Part.element, Part.arrayLength, Part.call, Part.noArguments, Part.argument}
 use Rattle.parser.specs.Stream.{kindAt, startAt}
 use Rattle.parser.specs.Layout.{rowOf, rowVariables}
@@ -23,19 +23,19 @@ use Rattle.parser.specs.Measure.{nodes}
 use Rattle.parser.specs.Post.{isAtom, kindIn}
 use Rattle.reader.specs.Holds.{Holds}
 use Rattle.reader.specs.Matches.{Matches, NameIs}
-use Rattle.checker.specs.ClassTable.{Found, Context, Meaning, meaningType, chain, methodOf, known, meaning}
+use Rattle.checker.specs.ClassTable.{Found, Context, Meaning, meaningType, chain, methodOf, meaning}
 use Rattle.checker.specs.Judge.{judge, must, receiver, arity, invocation}
 use Rattle.base.specs.Tests.{apart, or-neither}
 use Rattle.typing.specs.Choices.{bind-assoc}
 use Rattle.lookup.specs.declared.answer.Judged.{Judged}
 use Rattle.lookup.specs.declared.answer.Judged.the-variants.{Fine, Refused}
-use Rattle.lookup.specs.Standing.{absent, wordAt, Lexemes, Spells, Numbers, no-name, a-name, nothing, Codes, code-int, code-boolean, code-intArray, code-class, VariablesStand, more-variables, MethodStands, World}
+use Rattle.lookup.specs.Standing.{absent, wordAt, Lexemes, Spells, Numbers, no-name, a-name, nothing, Codes, code-int, code-boolean, code-intArray, code-class, VariablesStand, more-variables, MethodStands, World, ListedAt}
 use Rattle.lookup.specs.StandingLaws.{word-in, name-kind, kinds, start-word, name-word, row-there, codes-below}
 use Rattle.lookup.specs.Lookups.{TypeOf, Knows, Fits, rowFound, FindsMethod}
 use Rattle.lookup.specs.ChainLaws.{found-stands}
 use Rattle.lookup.specs.Answers.{settled, settled-fine, settled-refused, Judges, well, ill}
 use Rattle.bodies.specs.declared.scope.Scope.{Scope}
-use Rattle.bodies.specs.Scoping.{ListedAt, InScope, PartAt, Means, unmeant, meant, NameTyped}
+use Rattle.bodies.specs.Scoping.{InScope, PartAt, Means, unmeant, meant, NameTyped}
 use Rattle.bodies.specs.ExpressionPost.{NamePost, ThisPost, AtomPost, ExpressionPost, OperandPost, SinglePost, PairPost, CreationPost, DottedPost, CallPost, InvocationPost, ArgumentsPost, ObjectPost, SameCount}
 
 -- ANSWERS

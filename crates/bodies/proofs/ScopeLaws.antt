@@ -9,11 +9,11 @@ use Rattle.base.specs.Choice.{option}
 use Rattle.lexer.specs.Tokens.{Token}
 use Rattle.parser.specs.Tree.{Variable, Class}
 use Rattle.checker.specs.ClassTable.{Slot, Context, ofObject, variableNamed, chain, nearestField, meaning}
-use Rattle.lookup.specs.Standing.{Lexemes, Spells, nothing, chainFrom}
+use Rattle.lookup.specs.Standing.{Lexemes, Spells, nothing, chainFrom, ListedAt}
 use Rattle.lookup.specs.Lookups.{Typed, untyped, typed, VariableTyped, FieldTyped}
 use Rattle.lookup.specs.VariableLaws.{typed-some, typed-none, variable-left, variable-right}
 use Rattle.bodies.specs.declared.scope.Scope.{Scope}
-use Rattle.bodies.specs.Scoping.{ListedAt, InScope, Means, unmeant, meant, NameTyped}
+use Rattle.bodies.specs.Scoping.{InScope, Means, unmeant, meant, NameTyped}
 
 -- what a list of variables says of a name
 listed : {tab : List ℕ} {n x t : ℕ} (row : ℕ) → VariableTyped tab n n row x t → {ts : List Token} → Lexemes tab n ts → {vs : List Variable} → ListedAt tab n ts row vs

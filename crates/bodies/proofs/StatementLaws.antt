@@ -10,7 +10,7 @@ use Rattle.base.specs.Outcome.{_>>=_}
 use Rattle.base.specs.Table.{col}
 use Rattle.lexer.specs.Kinds.{isName}
 use Rattle.lexer.specs.Tokens.{Token}
-use Rattle.parser.specs.Tree.{Place, Sort.statement, Sort.statements, Part, Expression, Statement, Ty.int, Ty.boolean, Ty.intArray, Class}
+use Rattle.parser.specs.Tree.{Place, Sort.statements, Part, Expression, Statement, Ty.int, Ty.boolean, Ty.intArray, Class}
 use Rattle.parser.specs.Tree.{Part.block, Part.conditional, Part.loop, Part.print, Part.assign, Part.assignElement, Part.noStatements, Part.sequence}
 use Rattle.parser.specs.Stream.{kindAt}
 use Rattle.parser.specs.Layout.{rowOf}

@@ -9,17 +9,17 @@ use Rattle.base.specs.Outcome.{accepted, _>>=_}
 use Rattle.base.specs.Table.{col}
 use Rattle.lexer.specs.Kinds.{kNew, kDot}
 use Rattle.lexer.specs.Tokens.{Token}
-use Rattle.parser.specs.Tree.{Place, Name, Sort.expression, Sort.arguments, Part, Part.newObject, Part.call, Expression, Ty, Ty.class, Variable, Class}
+use Rattle.parser.specs.Tree.{Place, Name, Sort.arguments, Part, Part.newObject, Part.call, Expression, Ty, Variable, Class}
 use Rattle.parser.specs.Stream.{kindAt}
 use Rattle.parser.specs.Post.{isAtom}
 use Rattle.reader.specs.Matches.{NameIs}
 use Rattle.checker.specs.ClassTable.{Context, methodOf}
 use Rattle.checker.specs.Judge.{judge, must, arity, invocation, lookUp}
 use Rattle.lookup.specs.declared.answer.Judged.{Judged}
-use Rattle.lookup.specs.Standing.{wordAt, Spells, Codes}
+use Rattle.lookup.specs.Standing.{wordAt, Spells, Codes, ListedAt}
 use Rattle.lookup.specs.Answers.{settled, Judges}
 use Rattle.bodies.specs.declared.scope.Scope.{Scope}
-use Rattle.bodies.specs.Scoping.{ListedAt, InScope, PartAt}
+use Rattle.bodies.specs.Scoping.{InScope, PartAt}
 
 module _ (tab : List ℕ) (s : Scope) where
   -- a name, which is a whole expression or the target of an assignment

@@ -6,13 +6,13 @@ use mathlib.Core.Option.{Option, none, some}
 use lib.ListN.{length}
 use Rattle.lexer.specs.Tokens.{Token}
 use Rattle.parser.specs.Tree.{Sort, Part, Variable, Class}
-use Rattle.parser.specs.Layout.{rowOf, rowVariables}
+use Rattle.parser.specs.Layout.{rowOf}
 use Rattle.parser.specs.Measure.{nodes}
 use Rattle.reader.specs.Holds.{Holds}
 use Rattle.reader.specs.Matches.{Matches}
 use Rattle.reader.specs.WalkPost.{Walkable}
 use Rattle.checker.specs.ClassTable.{Context, Meaning, meaning, meaningType}
-use Rattle.lookup.specs.Standing.{Spells, Numbers, nothing, Codes, VariablesStand, World}
+use Rattle.lookup.specs.Standing.{Spells, Numbers, nothing, Codes, World, ListedAt}
 use Rattle.members.specs.Growth.{Indexed}
 use Rattle.bodies.specs.declared.scope.Scope.{Scope}
 
@@ -20,12 +20,6 @@ use Rattle.bodies.specs.declared.scope.Scope.{Scope}
 pub record Judgeable (tab ix : List ℕ) (s : Scope) : Type 0 where
   pub walkable : Walkable tab (s .tokens)
   pub indexed : Indexed tab (s .tokens) ix
-
--- a list of variables begins in a row
-pub record ListedAt (tab : List ℕ) (n : ℕ) (ts : List Token) (row : ℕ) (vs : List Variable) : Type 0 where
-  pub at : rowVariables vs ≡ row
-  pub stand : VariablesStand tab ts vs
-  pub few : length vs ≤ n
 
 -- the scope is that of the context, in the class table that the table holds
 pub record InScope (tab : List ℕ) (ts : List Token) (G : List Class) (Γ : Context) (s : Scope) : Type 0 where

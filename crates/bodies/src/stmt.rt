@@ -12,7 +12,6 @@ use lookup::types::INT_ARRAY;
 use parser::kinds;
 use parser::table::kind;
 ghost use Prim.Native.Nat.{_≤_, _<_};
-ghost use lib.ListN.{length};
 ghost use Rattle.bodies.specs.Scoping.{Judgeable};
 ghost use Rattle.bodies.specs.StatementPost.{StatementPost, ListPost, ConditionalPost, BranchesPost, LoopPost, AssignmentPost, AssignedPost, ValuePost};
 

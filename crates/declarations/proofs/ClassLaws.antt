@@ -1,6 +1,6 @@
--- What the judgements of parents, chains and classes return meets their contracts: the index tells whether a parent is a class of the table, and the other tests are
+-- What the judgements of parents and classes return meets their contracts: the index tells whether a parent is a class of the table, and the other tests are
 -- those of the look-ups and of the members, class by class.
-use Prim.Native.Nat.{ℕ, _-_, _≤_, _<_}
+use Prim.Native.Nat.{ℕ, _+_, _-_, _≤_, _<_}
 use native.Mathlib.Omega.{arith}
 use mathlib.Core.Path.{_≡_, refl, sym, ap, _∙_, subst}
 use mathlib.Core.List.{List, [], _∷_}
@@ -17,16 +17,18 @@ use Rattle.lexer.specs.Tokens.{Token}
 use Rattle.parser.specs.Tree.{Name, Class}
 use Rattle.parser.specs.Layout.{rowParent}
 use Rattle.reader.specs.Matches.{ParentMatches}
-use Rattle.checker.specs.ClassTable.{classNamed, endsWithin}
-use Rattle.checker.specs.Declarations.{knownParent, knownParents, endless, fields, heads, declarations}
+use Rattle.checker.specs.ClassTable.{classNamed}
+use Rattle.checker.specs.Declarations.{knownParent, knownParents, fields, heads, declarations}
 use Rattle.typing.specs.Choices.{bind-assoc}
 use Rattle.lookup.specs.declared.answer.Judged.{Judged}
 use Rattle.lookup.specs.declared.answer.Judged.the-variants.{Fine, Refused}
 use Rattle.lookup.specs.Standing.{absent, wordAt, Lexemes, Spells, a-name, ClassStands, ClassesStand, more-classes, World}
 use Rattle.lookup.specs.StandingLaws.{word-in, start-word, name-word, row-there, ClassAt, no-class, a-class, class-at}
-use Rattle.lookup.specs.Lookups.{Above, Ends}
+use Rattle.lookup.specs.Lookups.{Above}
 use Rattle.lookup.specs.Answers.{settled, goes-on, stops}
-use Rattle.declarations.specs.Judgements.{FieldsJudged, HeadsJudged, orphaned, OrphanAt, ClassesAt, ParentsJudged, endlessAnswer, ChainsJudged, Own, MembersJudged, DeclarationsJudged}
+use Rattle.declarations.specs.Marking.{Below}
+use Rattle.declarations.specs.Judgements.{FieldsJudged, HeadsJudged, orphaned, OrphanAt, ClassesAt, ParentsJudged, Own, MembersJudged, DeclarationsJudged}
+use Rattle.declarations.proofs.MarkLaws.{below-more, none-marked}
 
 -- ROWS
 
@@ -35,21 +37,13 @@ class-word : {tab : List ℕ} {n : ℕ} {ts : List Token} → Lexemes tab n ts �
     → w ≡ wordAt tab j row → col tab j (k .name .row) ≡ v → w ≡ v
 class-word {tab} lx k at s j e c = e ∙ ap (wordAt tab j) (sym at) ∙ word-in tab j (k .name .row) (row-there lx (k .name .row) (s .named .token .there)) c
 
--- where its name stands, and the name's number
-class-place : {tab : List ℕ} {n : ℕ} {ts : List Token} → Lexemes tab n ts → (k : Class) {row p : ℕ} → k .name .row ≡ row → ClassStands tab n ts k → p ≡ wordAt tab 1 row → p ≡ k .name .start
-class-place {tab} lx k at s e₁ = e₁ ∙ ap (wordAt tab 1) (sym at) ∙ start-word lx (k .name .row) (s .named .token .there) ∙ s .named .start
-
-class-number : {tab : List ℕ} {n : ℕ} {ts : List Token} → Lexemes tab n ts → (k : Class) {row x : ℕ} → k .name .row ≡ row → ClassStands tab n ts k → x ≡ wordAt tab 2 row
-    → Spells ts (k .name .text) x
-class-number {tab} {ts = ts} lx k at s e₂ = subst (Spells ts (k .name .text)) (ap (wordAt tab 2) at ∙ sym e₂) (name-word lx (k .name .row) (s .named .token))
-
 -- the first of the classes of a row, and the others
-record FirstClass (tab : List ℕ) (n : ℕ) (ts : List Token) (k : Class) (ks : List Class) (left row : ℕ) : Type 0 where
-  near : row < absent
-  stands : ClassStands tab n ts k
-  rest : {next : ℕ} → next ≡ wordAt tab 6 row → (left ≡ 0 → ⊥) → ClassesAt tab n ts ks (left - 1) next
+pub record FirstClass (tab : List ℕ) (n : ℕ) (ts : List Token) (k : Class) (ks : List Class) (left row : ℕ) : Type 0 where
+  pub near : row < absent
+  pub stands : ClassStands tab n ts k
+  pub rest : {next : ℕ} → next ≡ wordAt tab 6 row → (left ≡ 0 → ⊥) → ClassesAt tab n ts ks (left - 1) next
 
-first-class : {tab : List ℕ} {n : ℕ} {ts : List Token} → Lexemes tab n ts → {k : Class} {ks : List Class} {left row : ℕ} → ClassesAt tab n ts (k ∷ ks) left row
+pub first-class : {tab : List ℕ} {n : ℕ} {ts : List Token} → Lexemes tab n ts → {k : Class} {ks : List Class} {left row : ℕ} → ClassesAt tab n ts (k ∷ ks) left row
     → FirstClass tab n ts k ks left row
 first-class {tab} {n} {ts} lx {k} {ks} {left} {row} a = go (a .stand)
   where
@@ -145,72 +139,31 @@ module _ {tab : List ℕ} {left row : ℕ} where
             let f = first-class (w .tokens) a in
             rw (parent G (k .parent) (sym is ∙ h .says n ts G w k (a .here) (f .stands))) (h′ .says n ts G w ks (f .rest e₆ more))
 
--- CHAINS
-
--- whether the chain of the class of a row ends
-ends-here : {tab : List ℕ} {classes row x : ℕ} {b : Bool} → x ≡ wordAt tab 2 row → Ends tab classes x b → {n : ℕ} {ts : List Token} {G : List Class} → World tab n ts G
-    → length G ≡ classes → (k : Class) → k .name .row ≡ row → ClassStands tab n ts k → endsWithin (length G) G (k .name .text) ≡ b
-ends-here e₂ h {n} {ts} {G} w l k at s =
-    ap (λ (i : ℕ). endsWithin i G (k .name .text)) l ∙ sym (h .says n ts G w (k .name .text) (class-number (w .tokens) k at s e₂))
-
-module _ {tab : List ℕ} {classes left row : ℕ} where
-  pub chains-none-left : left ≡ 0 → ChainsJudged tab classes left row (Fine 0)
-  unfolding endless
-  chains-none-left e = record { says = λ n ts G w l ks a. go G ks (a .few) }
-    where
-      go : (G ks : List Class) → length ks ≤ left → Fine 0 ≡ endlessAnswer (endless G ks)
-      go G [] few = refl
-      go G (k ∷ ks) few = absurd (omega arith)
-
-  pub chains-absent : absent ≤ row → ChainsJudged tab classes left row (Fine 0)
-  unfolding endless
-  chains-absent far = record { says = λ n ts G w l ks a. go n ts G w ks a }
-    where
-      go : (n : ℕ) (ts : List Token) (G : List Class) → World tab n ts G → (ks : List Class) → ClassesAt tab n ts ks left row → Fine 0 ≡ endlessAnswer (endless G ks)
-      go n ts G w [] a = refl
-      go n ts G w (k ∷ ks) a = absurd (omega (arith, first-class (w .tokens) a .near))
-
-  module _ (near : row < absent) {x : ℕ} (e₂ : x ≡ wordAt tab 2 row) {b : Bool} (h : Ends tab classes x b) where
-    pub chains-endless : b ≡ false → {p : ℕ} → p ≡ wordAt tab 1 row → ChainsJudged tab classes left row (Refused 22 p)
-    unfolding endless
-    chains-endless is {p} e₁ = record { says = λ n ts G w l ks a. go n ts G w l ks a }
-      where
-        go : (n : ℕ) (ts : List Token) (G : List Class) → World tab n ts G → length G ≡ classes → (ks : List Class) → ClassesAt tab n ts ks left row
-            → Refused 22 p ≡ endlessAnswer (endless G ks)
-        go n ts G w l [] a = absurd (omega (arith, a .here))
-        go n ts G w l (k ∷ ks) a =
-            let s = first-class (w .tokens) a .stands in
-            rw (ends-here e₂ h w l k (a .here) s ∙ is) (ap (Refused 22) (class-place (w .tokens) k (a .here) s e₁))
-
-    pub chains-next : (left ≡ 0 → ⊥) → b ≡ true → {next : ℕ} {r : Judged} → next ≡ wordAt tab 6 row → ChainsJudged tab classes (left - 1) next r → ChainsJudged tab classes left row r
-    unfolding endless
-    chains-next more is {next} {r} e₆ h′ = record { says = λ n ts G w l ks a. go n ts G w l ks a }
-      where
-        go : (n : ℕ) (ts : List Token) (G : List Class) → World tab n ts G → length G ≡ classes → (ks : List Class) → ClassesAt tab n ts ks left row
-            → r ≡ endlessAnswer (endless G ks)
-        go n ts G w l [] a = absurd (omega (arith, a .here))
-        go n ts G w l (k ∷ ks) a =
-            let f = first-class (w .tokens) a in
-            rw (ends-here e₂ h w l k (a .here) (f .stands) ∙ is) (h′ .says n ts G w l ks (f .rest e₆ more))
-
 -- MEMBERS
 
-module _ {tab : List ℕ} {n class first : ℕ} (e₄ : first ≡ wordAt tab 4 class) {f : Judged} (h : FieldsJudged tab n n first 0 first f) where
+-- after the fields no word has reached the stamp of the methods
+fields-below : {tab : List ℕ} {n stamp first : ℕ} {before mid : List ℕ} {f : Judged} → Below stamp before → FieldsJudged tab n n stamp first before mid f → Below (stamp + 1) mid
+fields-below {stamp = stamp} new h = h .below (stamp + 1) (omega arith) (below-more (omega arith) new)
+
+module _ {tab : List ℕ} {n stamp class first : ℕ} (e₄ : first ≡ wordAt tab 4 class) {before mid : List ℕ} (new : Below stamp before)
+    {f : Judged} (h : FieldsJudged tab n n stamp first before mid f) where
   own-fields : {ts : List Token} {G : List Class} → World tab n ts G → (k : Class) → k .name .row ≡ class → ClassStands tab n ts k → f ≡ settled (fields G [] (k .fields))
   own-fields {ts} {G} w k at s =
-      let e = sym (class-word (w .tokens) k at s 4 e₄ (s .first)) in
-      h .says ts G w [] (k .fields) (record { stand = s .fields; begins = e; before = refl; here = e }) (s .few-fields)
+      h .says ts G w [] (k .fields) (record { here = sym (class-word (w .tokens) k at s 4 e₄ (s .first)); stand = s .fields; few = s .few-fields; marked = none-marked new })
 
-  pub members-stop : {classes number p : ℕ} → f ≡ Refused number p → MembersJudged tab n classes class (Refused number p)
-  members-stop is = record { says = λ ts G w l k at s own. ap settled (sym (stops (fields G [] (k .fields)) (λ _. heads G k [] (k .methods)) (own-fields w k at s) is)) }
+  pub members-stop : {classes number p : ℕ} → f ≡ Refused number p → MembersJudged tab n classes stamp class mid (Refused number p)
+  members-stop is = record {
+    below = below-more (omega arith) (fields-below new h);
+    says = λ ts G w l k at s own. ap settled (sym (stops (fields G [] (k .fields)) (λ _. heads G k [] (k .methods)) (own-fields w k at s) is));
+  }
 
-  pub members-next : {classes u : ℕ} → f ≡ Fine u → {methods p : ℕ} {r : Judged} → methods ≡ wordAt tab 5 class → Above tab class p
-      → HeadsJudged tab n classes n p methods 0 methods r → MembersJudged tab n classes class r
-  members-next is {methods} {p} {r} e₅ up h′ = record {
+  pub members-next : {classes u : ℕ} → f ≡ Fine u → {methods p : ℕ} {after : List ℕ} {r : Judged} → methods ≡ wordAt tab 5 class → Above tab class p
+      → HeadsJudged tab n classes n p (stamp + 1) methods mid after r → MembersJudged tab n classes stamp class after r
+  members-next is {methods} {p} {after} {r} e₅ up h′ = record {
+    below = h′ .below (stamp + 2) (omega arith) (below-more (omega arith) (fields-below new h));
     says = λ ts G w l k at s own.
-        let e = sym (class-word (w .tokens) k at s 5 e₅ (s .second)) in
         h′ .says ts G w l k (record { own = own; above = up .says n ts (w .tokens) k at s }) [] (k .methods)
-        (record { stand = s .methods; begins = e; before = refl; here = e }) (s .few-methods)
+        (record { here = sym (class-word (w .tokens) k at s 5 e₅ (s .second)); stand = s .methods; few = s .few-methods; marked = none-marked (fields-below new h) })
         ∙ ap settled (sym (goes-on (fields G [] (k .fields)) (λ _. heads G k [] (k .methods)) (own-fields w k at s) is));
   }
 
@@ -238,7 +191,7 @@ module _ {tab : List ℕ} {n classes left row : ℕ} where
       go ts G w [] a = refl
       go ts G w (k ∷ ks) a = absurd (omega (arith, first-class (w .tokens) a .near))
 
-  module _ (near : row < absent) {o : Judged} (h : MembersJudged tab n classes row o) where
+  module _ (near : row < absent) {stamp : ℕ} {after : List ℕ} {o : Judged} (h : MembersJudged tab n classes stamp row after o) where
     pub declarations-stop : {number p : ℕ} → o ≡ Refused number p → DeclarationsJudged tab n classes left row (Refused number p)
     declarations-stop {number} {p} is = record { says = λ ts G w l ks a own. go ts G w l ks a own }
       where

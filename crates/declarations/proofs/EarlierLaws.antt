@@ -1,5 +1,5 @@
--- Laws on the names declared earlier and on the row that is judged. The code looks for a name among the members of a list from its front on; the definition keeps
--- the latest name first; in both a name occurs just where a member has it.
+-- Laws on the names declared earlier and on the row that is judged. The code looks for a parameter's or a local's name among the members of a list from its front on;
+-- the definition keeps the latest name first; in both a name occurs just where a member has it.
 use Prim.Native.Nat.{ℕ, _+_, _<_}
 use native.Mathlib.Omega.{arith}
 use mathlib.Core.Path.{_≡_, refl, sym, ap, _∙_, subst}
@@ -13,11 +13,10 @@ use Rattle.parser.specs.Tree.{Ty, Ty.int, Ty.boolean, Ty.intArray, Ty.class, Ty
 use Rattle.parser.specs.Layout.{rowVariables, rowMethods, headOf}
 use Rattle.reader.specs.Matches.{TypeMatches, VariableMatches}
 use Rattle.checker.specs.Declarations.{occurs, textOf}
-use Rattle.checker.specs.Typing.{methodName}
 use Rattle.lookup.specs.Standing.{absent, wordAt, Lexemes, Spells, VariablesStand, more-variables, MethodStands, MethodsStand, more-methods}
 use Rattle.lookup.specs.StandingLaws.{word-in, start-word, spelt, name-word, row-there}
 use Rattle.lookup.specs.Lookups.{Names, no-names, more-names, Repeated}
-use Rattle.declarations.specs.Earlier.{onto, Listed, Along, AlongMethods}
+use Rattle.declarations.specs.Earlier.{onto, Listed, Along}
 
 -- NAMES
 
@@ -34,11 +33,6 @@ pub onto-occurs : (x : List ℕ) (earlier xs : List (List ℕ)) → occurs x (on
 unfolding occurs
 onto-occurs x earlier [] = or-false (occurs x earlier)
 onto-occurs x earlier (y ∷ ys) = onto-occurs x (y ∷ earlier) ys ∙ or-swap (same y x) (occurs x earlier) (occurs x ys)
-
--- after none
-pub onto-none : (x : List ℕ) (xs : List (List ℕ)) → occurs x (onto [] xs) ≡ occurs x xs
-unfolding occurs
-onto-none x xs = onto-occurs x [] xs
 
 pub onto-length : (earlier xs : List (List ℕ)) → length (onto earlier xs) ≡ length earlier + length xs
 onto-length earlier [] = omega arith
@@ -69,7 +63,7 @@ pub record DeclaredAt (tab : List ℕ) (ts : List Token) (v : Variable) (row : �
   pub start : wordAt tab 1 row ≡ v .name .start
 
 module _ {tab : List ℕ} {n : ℕ} {ts : List Token} (lx : Lexemes tab n ts) where
-  pub declared-at : (v : Variable) {row : ℕ} → v .name .row ≡ row → VariableMatches ts v → col tab 3 (v .name .row) ≡ v .type .row → DeclaredAt tab ts v row
+  declared-at : (v : Variable) {row : ℕ} → v .name .row ≡ row → VariableMatches ts v → col tab 3 (v .name .row) ≡ v .type .row → DeclaredAt tab ts v row
   declared-at v {row} at m c₃ =
       let there = m .name .token .there in
       subst (DeclaredAt tab ts v) at (record {
@@ -85,11 +79,6 @@ module _ {tab : List ℕ} {n : ℕ} {ts : List Token} (lx : Lexemes tab n ts) wh
   variable-names [] vs s = no-names
   variable-names (u ∷ us) vs (more-variables m c₃ c₆ s) =
       more-names (row-there lx (u .name .row) (m .name .token .there)) refl (spelt lx (u .name .row) (m .name .token)) c₆ (variable-names us vs s)
-
-  pub method-names : (us ms : List Method) → MethodsStand tab n ts (us ++ ms) → Names tab ts (rowMethods (us ++ ms)) (map methodName us)
-  method-names [] ms s = no-names
-  method-names (u ∷ us) ms (more-methods h c₆ s) =
-      more-names (row-there lx (u .name .row) (h .head .name .token .there)) refl (spelt lx (u .name .row) (h .head .name .token)) c₆ (method-names us ms s)
 
 -- VARIABLES
 
@@ -136,38 +125,34 @@ module _ {tab : List ℕ} {n : ℕ} {ts : List Token} (lx : Lexemes tab n ts) {f
         here = sym (word-in tab 6 (v .name .row) (row-there lx (v .name .row) (m .name .token .there)) c₆) ∙ ap (wordAt tab 6) (a .here) ∙ sym e₆;
       }
 
--- METHODS
+-- THE FIRST OF A LIST
 
-methods-from : {tab : List ℕ} {n : ℕ} {ts : List Token} (us ms : List Method) → MethodsStand tab n ts (us ++ ms) → MethodsStand tab n ts ms
-methods-from [] ms s = s
-methods-from (u ∷ us) ms (more-methods h c₆ s) = methods-from us ms s
+-- the variable that stands in a row, and where the next one does
+pub record First (tab : List ℕ) (ts : List Token) (v : Variable) (vs : List Variable) (row : ℕ) : Type 0 where
+  pub near : row < absent
+  pub declared : DeclaredAt tab ts v row
+  pub next : wordAt tab 6 row ≡ rowVariables vs
+  pub rest : VariablesStand tab ts vs
+
+pub first-of : {tab : List ℕ} {n : ℕ} {ts : List Token} → Lexemes tab n ts → {v : Variable} {vs : List Variable} {row : ℕ} → v .name .row ≡ row → VariablesStand tab ts (v ∷ vs)
+    → First tab ts v vs row
+first-of {tab} lx {v} {vs} at (more-variables m c₃ c₆ s) =
+    let there = row-there lx (v .name .row) (m .name .token .there) in
+    record { near = omega (arith, at, there); declared = declared-at lx v at m c₃; next = ap (wordAt tab 6) (sym at) ∙ word-in tab 6 (v .name .row) there c₆; rest = s }
+
+-- and the method
+pub record FirstMethod (tab : List ℕ) (n : ℕ) (ts : List Token) (m : Method) (ms : List Method) (row : ℕ) : Type 0 where
+  pub near : row < absent
+  pub stands : MethodStands tab n ts m
+  pub next : wordAt tab 6 row ≡ rowMethods ms
+  pub rest : MethodsStand tab n ts ms
+
+pub first-method : {tab : List ℕ} {n : ℕ} {ts : List Token} → Lexemes tab n ts → {m : Method} {ms : List Method} {row : ℕ} → m .name .row ≡ row → MethodsStand tab n ts (m ∷ ms)
+    → FirstMethod tab n ts m ms row
+first-method {tab} lx {m} {ms} at (more-methods h c₆ s) =
+    let there = row-there lx (m .name .row) (h .head .name .token .there) in
+    record { near = omega (arith, at, there); stands = h; next = ap (wordAt tab 6) (sym at) ∙ word-in tab 6 (m .name .row) there c₆; rest = s }
 
 pub method-declared : {tab : List ℕ} {n : ℕ} {ts : List Token} → Lexemes tab n ts → (m : Method) {row : ℕ} → m .name .row ≡ row → MethodStands tab n ts m
     → DeclaredAt tab ts (headOf m) row
 method-declared lx m at s = declared-at lx (headOf m) at (s .head) (s .result)
-
-module _ {tab : List ℕ} {n : ℕ} {ts : List Token} {first index row : ℕ} (us : List Method) (m : Method) (ms : List Method) (a : AlongMethods tab n ts us (m ∷ ms) first index row) where
-  pub method-here : MethodStands tab n ts m
-  method-here = go (methods-from us (m ∷ ms) (a .stand))
-    where
-      go : MethodsStand tab n ts (m ∷ ms) → MethodStands tab n ts m
-      go (more-methods h c₆ s) = h
-
-  pub method-near : Lexemes tab n ts → row < absent
-  method-near lx = omega (arith, a .here, row-there lx (m .name .row) (method-here .head .name .token .there))
-
-  pub method-repeated : Lexemes tab n ts → {x : ℕ} {r : Bool} → Repeated tab index first x r → (text : List ℕ) → Spells ts text x → r ≡ occurs text (map methodName us)
-  method-repeated lx {x} {r} h text sp =
-      h .says ts (map methodName us) (subst (λ (i : ℕ). Names tab ts i (map methodName us)) (a .begins) (method-names lx us (m ∷ ms) (a .stand)))
-      (length-map us methodName ∙ a .before) text sp
-
-  pub method-step : Lexemes tab n ts → {next : ℕ} → next ≡ wordAt tab 6 row → AlongMethods tab n ts (us ++ m ∷ []) ms first (index + 1) next
-  method-step lx {next} e₆ = go (methods-from us (m ∷ ms) (a .stand))
-    where
-      go : MethodsStand tab n ts (m ∷ ms) → AlongMethods tab n ts (us ++ m ∷ []) ms first (index + 1) next
-      go (more-methods h c₆ s) = record {
-        stand = subst (MethodsStand tab n ts) (sym (append-assoc us (m ∷ []) ms)) (a .stand);
-        begins = ap rowMethods (append-assoc us (m ∷ []) ms) ∙ a .begins;
-        before = length-append us (m ∷ []) ∙ ap (λ (i : ℕ). i + 1) (a .before);
-        here = sym (word-in tab 6 (m .name .row) (row-there lx (m .name .row) (h .head .name .token .there)) c₆) ∙ ap (wordAt tab 6) (a .here) ∙ sym e₆;
-      }

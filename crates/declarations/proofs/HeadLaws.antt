@@ -1,9 +1,9 @@
 -- What the judgements of method heads return meets their contracts: each test of the code is the definition's, on the method whose row it is. The method that is
 -- redeclared stands on the chain from the parent on, which is the class's own chain without its first.
-use Prim.Native.Nat.{ℕ, _+_, _-_, _≤_, _<_}
+use Prim.Native.Nat.{ℕ, _-_, _≤_, _<_}
 use native.Mathlib.Omega.{arith}
 use mathlib.Core.Path.{_≡_, refl, sym, ap, _∙_, subst}
-use mathlib.Core.List.{List, [], _∷_, _++_, map}
+use mathlib.Core.List.{List, [], _∷_}
 use mathlib.Core.Bool.{Bool, true, false}
 use mathlib.Core.Option.{Option, none, some}
 use lib.ListN.{length, drop}
@@ -11,6 +11,7 @@ use lib.Dec.{leb}
 use borrow.Author.Tests.{le-leb, lt-leb}
 use Rattle.base.specs.Choice.{option}
 use Rattle.base.specs.Outcome.{Outcome, accepted, refused, _>>=_}
+use Rattle.base.specs.Tests.{apart}
 use Rattle.lexer.specs.Tokens.{Token}
 use Rattle.parser.specs.Tree.{Variable, Method, Class}
 use Rattle.parser.specs.Layout.{rowVariables}
@@ -20,30 +21,19 @@ use Rattle.checker.specs.Typing.{methodName}
 use Rattle.typing.specs.Choices.{none-some}
 use Rattle.lookup.specs.declared.answer.Judged.{Judged}
 use Rattle.lookup.specs.declared.answer.Judged.the-variants.{Fine, Refused}
-use Rattle.lookup.specs.Standing.{absent, wordAt, Lexemes, Spells, Codes, VariablesStand, no-variables, more-variables, MethodStands, World, chainFrom, parentName}
+use Rattle.lookup.specs.Standing.{absent, wordAt, Lexemes, Spells, Codes, VariablesStand, no-variables, MethodStands, World, chainFrom, parentName}
 use Rattle.lookup.specs.StandingLaws.{word-in, row-there, same-codes, other-codes}
 use Rattle.lookup.specs.ChainLaws.{chain-some, found-stands}
-use Rattle.lookup.specs.Lookups.{TypeOf, Fits, Repeated, rowFound, FindsMethod}
+use Rattle.lookup.specs.Lookups.{TypeOf, Fits, rowFound, FindsMethod}
 use Rattle.lookup.specs.Answers.{settled, goes-on, stops}
-use Rattle.declarations.specs.Earlier.{onto, AlongMethods}
+use Rattle.declarations.specs.Marking.{Marked, MarkPost}
+use Rattle.declarations.specs.Earlier.{MethodAt, MethodsAt}
 use Rattle.declarations.specs.Judgements.{KnownAt, VariablesJudged, TypesCompared, RedeclaresAt, Parented, redeclared, CompatibleAt, opened, closed, OpeningJudged, RestJudged, HeadJudged, HeadsJudged}
-use Rattle.declarations.proofs.EarlierLaws.{onto-none, onto-next, DeclaredAt, declared-at, method-declared, method-here, method-near, method-repeated, method-step}
+use Rattle.declarations.proofs.MarkLaws.{marked-is, marked-next}
+use Rattle.declarations.proofs.EarlierLaws.{DeclaredAt, first-of, first-method, method-declared}
 use Rattle.declarations.proofs.VariableLaws.{declared-known, type-place}
 
 -- PARAMETER TYPES
-
--- the variable that stands in a row, and where the next one does
-record First (tab : List ℕ) (ts : List Token) (v : Variable) (vs : List Variable) (row : ℕ) : Type 0 where
-  near : row < absent
-  declared : DeclaredAt tab ts v row
-  next : wordAt tab 6 row ≡ rowVariables vs
-  rest : VariablesStand tab ts vs
-
-first-of : {tab : List ℕ} {n : ℕ} {ts : List Token} → Lexemes tab n ts → {v : Variable} {vs : List Variable} {row : ℕ} → v .name .row ≡ row → VariablesStand tab ts (v ∷ vs)
-    → First tab ts v vs row
-first-of {tab} lx {v} {vs} at (more-variables m c₃ c₆ s) =
-    let there = row-there lx (v .name .row) (m .name .token .there) in
-    record { near = omega (arith, at, there); declared = declared-at lx v at m c₃; next = ap (wordAt tab 6) (sym at) ∙ word-in tab 6 (v .name .row) there c₆; rest = s }
 
 -- the number of the type of the variable of a row
 type-code : {tab : List ℕ} {n : ℕ} {ts : List Token} → Lexemes tab n ts → {v : Variable} {row t p : ℕ} → DeclaredAt tab ts v row → t ≡ wordAt tab 3 row → TypeOf tab n t p
@@ -190,39 +180,41 @@ module _ {tab : List ℕ} {n classes parent row : ℕ} where
 
 -- ONE HEAD
 
-module _ {tab : List ℕ} {n first index row t : ℕ} (e₃ : t ≡ wordAt tab 3 row) {b : Bool} (k : KnownAt tab n t b) where
-  pub opening-unknown : b ≡ false → {p : ℕ} → p ≡ wordAt tab 1 t → OpeningJudged tab n first index row (Refused 24 p)
+module _ {tab : List ℕ} {n stamp row t : ℕ} {before : List ℕ} (e₃ : t ≡ wordAt tab 3 row) {b : Bool} (k : KnownAt tab n t b) where
+  pub opening-unknown : b ≡ false → {p : ℕ} → p ≡ wordAt tab 1 t → OpeningJudged tab n stamp row before before (Refused 24 p)
   unfolding opened
-  opening-unknown is {p} e₁ = record { says = λ ts G w us m ms a. go ts G w us m ms a }
+  opening-unknown is {p} e₁ = record { below = λ bound high b. b; says = go; marks = λ e. apart (cc) }
     where
-      go : (ts : List Token) (G : List Class) → World tab n ts G → (us : List Method) (m : Method) (ms : List Method) → AlongMethods tab n ts us (m ∷ ms) first index row
-          → Refused 24 p ≡ settled (opened G (onto [] (map methodName us)) m)
-      go ts G w us m ms a =
-          let d = method-declared (w .tokens) m (a .here) (method-here us m ms a) in
+      go : (ts : List Token) (G : List Class) → World tab n ts G → (earlier : List (List ℕ)) (m : Method) → MethodAt tab n ts before stamp earlier m row
+          → Refused 24 p ≡ settled (opened G earlier m)
+      go ts G w earlier m a =
+          let d = method-declared (w .tokens) m (a .here) (a .stand) in
           rw (declared-known k e₃ w d ∙ is) (ap (Refused 24) (type-place e₃ e₁ d))
 
-  module _ (is : b ≡ true) {x : ℕ} (e₂ : x ≡ wordAt tab 2 row) {c : Bool} (h : Repeated tab index first x c) where
-    pub opening-repeated : c ≡ true → {p : ℕ} → p ≡ wordAt tab 1 row → OpeningJudged tab n first index row (Refused 25 p)
-    unfolding opened
-    opening-repeated again {p} e₁ = record { says = λ ts G w us m ms a. go ts G w us m ms a }
-      where
-        go : (ts : List Token) (G : List Class) → World tab n ts G → (us : List Method) (m : Method) (ms : List Method) → AlongMethods tab n ts us (m ∷ ms) first index row
-            → Refused 25 p ≡ settled (opened G (onto [] (map methodName us)) m)
-        go ts G w us m ms a =
-            let d = method-declared (w .tokens) m (a .here) (method-here us m ms a) in
-            let o = method-repeated us m ms a (w .tokens) h (methodName m) (subst (Spells ts (methodName m)) (sym e₂) (d .number)) in
-            rw (declared-known k e₃ w d ∙ is, onto-none (methodName m) (map methodName us) ∙ sym o ∙ again) (ap (Refused 25) (e₁ ∙ d .start))
+  module _ (is : b ≡ true) {x : ℕ} (e₂ : x ≡ wordAt tab 2 row) {after : List ℕ} {c : Bool} (h : MarkPost x stamp before after c) where
+    -- the number of the method's name
+    number : {ts : List Token} → Lexemes tab n ts → {earlier : List (List ℕ)} (m : Method) → MethodAt tab n ts before stamp earlier m row → Spells ts (methodName m) x
+    number {ts} lx m a = subst (Spells ts (methodName m)) (sym e₂) (method-declared lx m (a .here) (a .stand) .number)
 
-    pub opening-fine : c ≡ false → OpeningJudged tab n first index row (Fine 0)
+    pub opening-repeated : c ≡ true → {p : ℕ} → p ≡ wordAt tab 1 row → OpeningJudged tab n stamp row before after (Refused 25 p)
     unfolding opened
-    opening-fine new = record { says = λ ts G w us m ms a. go ts G w us m ms a }
+    opening-repeated again {p} e₁ = record { below = h .below; says = go; marks = λ e. apart (cc) }
       where
-        go : (ts : List Token) (G : List Class) → World tab n ts G → (us : List Method) (m : Method) (ms : List Method) → AlongMethods tab n ts us (m ∷ ms) first index row
-            → Fine 0 ≡ settled (opened G (onto [] (map methodName us)) m)
-        go ts G w us m ms a =
-            let d = method-declared (w .tokens) m (a .here) (method-here us m ms a) in
-            let o = method-repeated us m ms a (w .tokens) h (methodName m) (subst (Spells ts (methodName m)) (sym e₂) (d .number)) in
-            rw (declared-known k e₃ w d ∙ is, onto-none (methodName m) (map methodName us) ∙ sym o ∙ new)
+        go : (ts : List Token) (G : List Class) → World tab n ts G → (earlier : List (List ℕ)) (m : Method) → MethodAt tab n ts before stamp earlier m row
+            → Refused 25 p ≡ settled (opened G earlier m)
+        go ts G w earlier m a =
+            let d = method-declared (w .tokens) m (a .here) (a .stand) in
+            rw (declared-known k e₃ w d ∙ is, marked-is (w .tokens) h (number (w .tokens) m a) (a .marked) ∙ again) (ap (Refused 25) (e₁ ∙ d .start))
+
+    pub opening-fine : c ≡ false → OpeningJudged tab n stamp row before after (Fine 0)
+    unfolding opened
+    opening-fine new = record { below = h .below; says = go; marks = λ e ts lx earlier m a. marked-next lx h (number lx m a) (a .marked) }
+      where
+        go : (ts : List Token) (G : List Class) → World tab n ts G → (earlier : List (List ℕ)) (m : Method) → MethodAt tab n ts before stamp earlier m row
+            → Fine 0 ≡ settled (opened G earlier m)
+        go ts G w earlier m a =
+            let d = method-declared (w .tokens) m (a .here) (a .stand) in
+            rw (declared-known k e₃ w d ∙ is, marked-is (w .tokens) h (number (w .tokens) m a) (a .marked) ∙ new)
 
 module _ {tab : List ℕ} {n row first : ℕ} {v : Judged} (e₄ : first ≡ wordAt tab 4 row) (h : VariablesJudged tab n n 2048 0 first 0 first v) where
   own-parameters : {ts : List Token} {G : List Class} → World tab n ts G → (m : Method) → m .name .row ≡ row → MethodStands tab n ts m → v ≡ settled (variables G [] (m .parameters))
@@ -251,15 +243,20 @@ module _ {tab : List ℕ} {n row first : ℕ} {v : Judged} (e₄ : first ≡ wor
           ap (Refused 26) (e₁ ∙ method-declared (w .tokens) m at s .start) ∙ ap settled (sym (closed-by w l k p m at s ∙ ap (λ (a : Bool). redeclared a m) ill));
     }
 
-module _ {tab : List ℕ} {n classes parent first index row : ℕ} {o : Judged} (h : OpeningJudged tab n first index row o) where
-  pub head-stop : {number p : ℕ} → o ≡ Refused number p → HeadJudged tab n classes parent first index row (Refused number p)
-  head-stop is = record { says = λ ts G w l k p us m ms a. ap settled (sym (stops (opened G (onto [] (map methodName us)) m) (λ _. closed G k m) (h .says ts G w us m ms a) is)) }
+module _ {tab : List ℕ} {n classes parent stamp row : ℕ} {before after : List ℕ} {o : Judged} (h : OpeningJudged tab n stamp row before after o) where
+  pub head-stop : {number p : ℕ} → o ≡ Refused number p → HeadJudged tab n classes parent stamp row before after (Refused number p)
+  head-stop is = record {
+    below = h .below;
+    says = λ ts G w l k p earlier m a. ap settled (sym (stops (opened G earlier m) (λ _. closed G k m) (h .says ts G w earlier m a) is));
+    marks = λ e. apart (cc);
+  }
 
-  pub head-next : {u : ℕ} → o ≡ Fine u → {r : Judged} → RestJudged tab n classes parent row r → HeadJudged tab n classes parent first index row r
+  pub head-next : {u : ℕ} → o ≡ Fine u → {r : Judged} → RestJudged tab n classes parent row r → HeadJudged tab n classes parent stamp row before after r
   head-next is h′ = record {
-    says = λ ts G w l k p us m ms a.
-        h′ .says ts G w l k p m (a .here) (method-here us m ms a)
-        ∙ ap settled (sym (goes-on (opened G (onto [] (map methodName us)) m) (λ _. closed G k m) (h .says ts G w us m ms a) is));
+    below = h .below;
+    says = λ ts G w l k p earlier m a.
+        h′ .says ts G w l k p m (a .here) (a .stand) ∙ ap settled (sym (goes-on (opened G earlier m) (λ _. closed G k m) (h .says ts G w earlier m a) is));
+    marks = λ e. h .marks is;
   }
 
 -- HEADS
@@ -276,46 +273,57 @@ unfolding heads opened closed
 heads-more G k earlier m ms =
     four-stages (knownType G (m .result)) (newMethod earlier m) (variables G [] (m .parameters)) (redeclaration G k m) (heads G k (methodName m ∷ earlier) ms)
 
-module _ {tab : List ℕ} {n classes left parent first index row : ℕ} where
-  pub heads-none-left : left ≡ 0 → HeadsJudged tab n classes left parent first index row (Fine 0)
+-- the first of the methods of a row
+head-of : {tab : List ℕ} {n : ℕ} {ts : List Token} → Lexemes tab n ts → {marks : List ℕ} {stamp left row : ℕ} {earlier : List (List ℕ)} {m : Method} {ms : List Method}
+    → MethodsAt tab n ts marks stamp earlier (m ∷ ms) left row → MethodAt tab n ts marks stamp earlier m row
+head-of lx a = record { here = a .here; stand = first-method lx (a .here) (a .stand) .stands; marked = a .marked }
+
+-- the methods after it
+heads-rest : {tab : List ℕ} {n : ℕ} {ts : List Token} → Lexemes tab n ts → {before mid : List ℕ} {stamp left row next : ℕ} {earlier : List (List ℕ)} {m : Method} {ms : List Method}
+    → MethodsAt tab n ts before stamp earlier (m ∷ ms) left row → next ≡ wordAt tab 6 row → Marked ts mid stamp (methodName m ∷ earlier)
+    → MethodsAt tab n ts mid stamp (methodName m ∷ earlier) ms (left - 1) next
+heads-rest lx a e₆ marked =
+    let f = first-method lx (a .here) (a .stand) in
+    record { here = sym (f .next) ∙ sym e₆; stand = f .rest; few = omega (arith, a .few); marked = marked }
+
+module _ {tab : List ℕ} {n classes left parent stamp row : ℕ} {before : List ℕ} where
+  pub heads-none-left : left ≡ 0 → HeadsJudged tab n classes left parent stamp row before before (Fine 0)
   unfolding heads
-  heads-none-left e = record { says = λ ts G w l k p us ms a few. go G k (onto [] (map methodName us)) ms few }
+  heads-none-left e = record { below = λ bound high b. b; says = λ ts G w l k p earlier ms a. go G k earlier ms (a .few) }
     where
       go : (G : List Class) (k : Class) (earlier : List (List ℕ)) (ms : List Method) → length ms ≤ left → Fine 0 ≡ settled (heads G k earlier ms)
       go G k earlier [] few = refl
       go G k earlier (m ∷ ms) few = absurd (omega arith)
 
-  pub heads-absent : absent ≤ row → HeadsJudged tab n classes left parent first index row (Fine 0)
+  pub heads-absent : absent ≤ row → HeadsJudged tab n classes left parent stamp row before before (Fine 0)
   unfolding heads
-  heads-absent far = record { says = λ ts G w l k p us ms a few. go ts G w k us ms a }
+  heads-absent far = record { below = λ bound high b. b; says = λ ts G w l k p earlier ms a. go ts G w k earlier ms a }
     where
-      go : (ts : List Token) (G : List Class) → World tab n ts G → (k : Class) (us ms : List Method) → AlongMethods tab n ts us ms first index row
-          → Fine 0 ≡ settled (heads G k (onto [] (map methodName us)) ms)
-      go ts G w k us [] a = refl
-      go ts G w k us (m ∷ ms) a = absurd (omega (arith, method-near us m ms a (w .tokens)))
+      go : (ts : List Token) (G : List Class) → World tab n ts G → (k : Class) (earlier : List (List ℕ)) (ms : List Method)
+          → MethodsAt tab n ts before stamp earlier ms left row → Fine 0 ≡ settled (heads G k earlier ms)
+      go ts G w k earlier [] a = refl
+      go ts G w k earlier (m ∷ ms) a = absurd (omega (arith, first-method (w .tokens) (a .here) (a .stand) .near))
 
-  module _ (near : row < absent) {o : Judged} (h : HeadJudged tab n classes parent first index row o) where
-    pub heads-stop : {number p : ℕ} → o ≡ Refused number p → HeadsJudged tab n classes left parent first index row (Refused number p)
-    heads-stop {number} {p} is = record { says = λ ts G w l k q us ms a few. go ts G w l k q us ms a }
+  module _ (near : row < absent) {mid : List ℕ} {o : Judged} (h : HeadJudged tab n classes parent stamp row before mid o) where
+    pub heads-stop : {number p : ℕ} → o ≡ Refused number p → HeadsJudged tab n classes left parent stamp row before mid (Refused number p)
+    heads-stop {number} {p} is = record { below = h .below; says = go }
       where
-        go : (ts : List Token) (G : List Class) → World tab n ts G → length G ≡ classes → (k : Class) → Parented ts G k parent → (us ms : List Method)
-            → AlongMethods tab n ts us ms first index row → Refused number p ≡ settled (heads G k (onto [] (map methodName us)) ms)
-        go ts G w l k q us [] a = absurd (omega (arith, a .here))
-        go ts G w l k q us (m ∷ ms) a =
-            let earlier = onto [] (map methodName us) in
+        go : (ts : List Token) (G : List Class) → World tab n ts G → length G ≡ classes → (k : Class) → Parented ts G k parent → (earlier : List (List ℕ)) (ms : List Method)
+            → MethodsAt tab n ts before stamp earlier ms left row → Refused number p ≡ settled (heads G k earlier ms)
+        go ts G w l k q earlier [] a = absurd (omega (arith, a .here))
+        go ts G w l k q earlier (m ∷ ms) a =
             ap settled (sym (heads-more G k earlier m ms
-            ∙ stops (opened G earlier m >>= λ _. closed G k m) (λ _. heads G k (methodName m ∷ earlier) ms) (h .says ts G w l k q us m ms a) is))
+            ∙ stops (opened G earlier m >>= λ _. closed G k m) (λ _. heads G k (methodName m ∷ earlier) ms) (h .says ts G w l k q earlier m (head-of (w .tokens) a)) is))
 
-    pub heads-next : {u : ℕ} → o ≡ Fine u → {next : ℕ} {r : Judged} → next ≡ wordAt tab 6 row → HeadsJudged tab n classes (left - 1) parent first (index + 1) next r
-        → HeadsJudged tab n classes left parent first index row r
-    heads-next {u} is {next} {r} e₆ h′ = record { says = λ ts G w l k q us ms a few. go ts G w l k q us ms a few }
+    pub heads-next : {u : ℕ} → o ≡ Fine u → {next : ℕ} {after : List ℕ} {r : Judged} → next ≡ wordAt tab 6 row → HeadsJudged tab n classes (left - 1) parent stamp next mid after r
+        → HeadsJudged tab n classes left parent stamp row before after r
+    heads-next {u} is {next} {after} {r} e₆ h′ = record { below = λ bound high b. h′ .below bound high (h .below bound high b); says = go }
       where
-        go : (ts : List Token) (G : List Class) → World tab n ts G → length G ≡ classes → (k : Class) → Parented ts G k parent → (us ms : List Method)
-            → AlongMethods tab n ts us ms first index row → length ms ≤ left → r ≡ settled (heads G k (onto [] (map methodName us)) ms)
-        go ts G w l k q us [] a few = absurd (omega (arith, a .here))
-        go ts G w l k q us (m ∷ ms) a few =
-            let earlier = onto [] (map methodName us) in
-            h′ .says ts G w l k q (us ++ m ∷ []) ms (method-step us m ms a (w .tokens) e₆) (omega arith)
-            ∙ ap (λ (names : List (List ℕ)). settled (heads G k names ms)) (onto-next methodName [] us m)
+        go : (ts : List Token) (G : List Class) → World tab n ts G → length G ≡ classes → (k : Class) → Parented ts G k parent → (earlier : List (List ℕ)) (ms : List Method)
+            → MethodsAt tab n ts before stamp earlier ms left row → r ≡ settled (heads G k earlier ms)
+        go ts G w l k q earlier [] a = absurd (omega (arith, a .here))
+        go ts G w l k q earlier (m ∷ ms) a =
+            let one = head-of (w .tokens) a in
+            h′ .says ts G w l k q (methodName m ∷ earlier) ms (heads-rest (w .tokens) a e₆ (h .marks is ts (w .tokens) earlier m one))
             ∙ ap settled (sym (heads-more G k earlier m ms
-            ∙ goes-on (opened G earlier m >>= λ _. closed G k m) (λ _. heads G k (methodName m ∷ earlier) ms) (h .says ts G w l k q us m ms a) is))
+            ∙ goes-on (opened G earlier m >>= λ _. closed G k m) (λ _. heads G k (methodName m ∷ earlier) ms) (h .says ts G w l k q earlier m one) is))

@@ -5,13 +5,10 @@ use mathlib.Core.List.{List, [], _∷_}
 use native.Mathlib.Omega.{arith}
 use lib.ListN.{length}
 use Rattle.lexer.specs.Tokens.{Token}
-use Rattle.parser.specs.Tree.{Sort, Sort.expression, Sort.arguments, Sort.statement, Sort.statements, Part, Variable, Method, Class, Program}
+use Rattle.parser.specs.Tree.{Sort.statement, Variable, Method, Class, Program}
 use Rattle.parser.specs.Layout.{rowOf}
 use Rattle.parser.specs.Measure.{nodes}
-use Rattle.parser.specs.Grammar.{Kind, Derives, DerivesMethod, DerivesMethods, DerivesClass, DerivesClasses, DerivesProgram}
-use Rattle.parser.specs.Grammar.{Derives.operate, Derives.one-operand, Derives.negate, Derives.no-negation, Derives.make-array, Derives.no-array, Derives.index, Derives.take-length, Derives.invoke, Derives.no-suffix}
-use Rattle.parser.specs.Grammar.{Derives.a-literal, Derives.a-true, Derives.a-false, Derives.a-name, Derives.a-this, Derives.make-object, Derives.parentheses, Derives.none-given, Derives.some-given, Derives.one-argument, Derives.more-arguments}
-use Rattle.parser.specs.Grammar.{Derives.a-block, Derives.an-if, Derives.a-while, Derives.a-print, Derives.an-assignment, Derives.an-element-assignment, Derives.no-statement, Derives.more-statements}
+use Rattle.parser.specs.Grammar.{DerivesMethod, DerivesMethods, DerivesClass, DerivesClasses, DerivesProgram}
 use Rattle.parser.specs.Grammar.{DerivesMethod.a-method, DerivesMethods.no-method, DerivesMethods.more-methods, DerivesClass.a-class-declaration, DerivesClasses.no-class, DerivesClasses.more-classes, DerivesProgram.a-program}
 use Rattle.reader.specs.Order.{first-row}
 use Rattle.reader.specs.Stored.{parent-order}

@@ -16,12 +16,14 @@ use Rattle.checker.specs.ClassTable.{known}
 use Rattle.checker.specs.Declarations.{occurs, textOf, knownType, fields, variables}
 use Rattle.lookup.specs.declared.answer.Judged.{Judged}
 use Rattle.lookup.specs.declared.answer.Judged.the-variants.{Fine, Refused}
-use Rattle.lookup.specs.Standing.{absent, wordAt, Spells, World}
+use Rattle.lookup.specs.Standing.{absent, wordAt, Lexemes, Spells, World}
 use Rattle.lookup.specs.Lookups.{TypeOf, Knows, Repeated}
 use Rattle.lookup.specs.Answers.{settled, goes-on, stops}
-use Rattle.declarations.specs.Earlier.{onto, Listed, Along}
+use Rattle.declarations.specs.Marking.{Marked, MarkPost}
+use Rattle.declarations.specs.Earlier.{onto, Listed, Along, FieldsAt}
 use Rattle.declarations.specs.Judgements.{KnownAt, FieldsJudged, newVariable, VariableJudged, VariablesJudged}
-use Rattle.declarations.proofs.EarlierLaws.{onto-occurs, onto-none, onto-length, onto-next, DeclaredAt, listed-repeated, variable-near, variable-declared, variable-repeated, variable-step}
+use Rattle.declarations.proofs.MarkLaws.{marked-is, marked-next}
+use Rattle.declarations.proofs.EarlierLaws.{onto-occurs, onto-length, onto-next, DeclaredAt, listed-repeated, variable-near, variable-declared, variable-repeated, variable-step, first-of}
 
 -- TYPES
 
@@ -39,68 +41,70 @@ type-place {tab} e₃ e₁ d = e₁ ∙ ap (wordAt tab 1) (e₃ ∙ d .type) ∙
 
 -- FIELDS
 
--- whether the name of the field of a row is repeated
-twice : {tab : List ℕ} {n first index row x : ℕ} {c : Bool} → x ≡ wordAt tab 2 row → Repeated tab index first x c → {ts : List Token} {G : List Class} → World tab n ts G
-    → (us : List Variable) (v : Variable) (vs : List Variable) → Along tab ts us (v ∷ vs) first index row → occurs (textOf v) (onto [] (map textOf us)) ≡ c
-twice e₂ h {ts} w us v vs a =
-    let d = variable-declared (w .tokens) us v vs a in
-    onto-none (textOf v) (map textOf us) ∙ sym (variable-repeated (w .tokens) us v vs a h (textOf v) (subst (Spells ts (textOf v)) (sym e₂) (d .number)))
+-- the fields after the first
+fields-rest : {tab : List ℕ} {n : ℕ} {ts : List Token} → Lexemes tab n ts → {before mid : List ℕ} {stamp left row next : ℕ} {earlier : List (List ℕ)} {v : Variable} {vs : List Variable}
+    → FieldsAt tab ts before stamp earlier (v ∷ vs) left row → next ≡ wordAt tab 6 row → Marked ts mid stamp (textOf v ∷ earlier)
+    → FieldsAt tab ts mid stamp (textOf v ∷ earlier) vs (left - 1) next
+fields-rest lx a e₆ m =
+    let f = first-of lx (a .here) (a .stand) in
+    record { here = sym (f .next) ∙ sym e₆; stand = f .rest; few = omega (arith, a .few); marked = m }
 
-module _ {tab : List ℕ} {n left first index row : ℕ} where
-  pub fields-none-left : left ≡ 0 → FieldsJudged tab n left first index row (Fine 0)
+module _ {tab : List ℕ} {n left stamp row : ℕ} {before : List ℕ} where
+  pub fields-none-left : left ≡ 0 → FieldsJudged tab n left stamp row before before (Fine 0)
   unfolding fields
-  fields-none-left e = record { says = λ ts G w us vs a few. go G (onto [] (map textOf us)) vs few }
+  fields-none-left e = record { below = λ bound high b. b; says = λ ts G w earlier vs a. go G earlier vs (a .few) }
     where
       go : (G : List Class) (earlier : List (List ℕ)) (vs : List Variable) → length vs ≤ left → Fine 0 ≡ settled (fields G earlier vs)
       go G earlier [] few = refl
       go G earlier (v ∷ vs) few = absurd (omega arith)
 
-  pub fields-absent : absent ≤ row → FieldsJudged tab n left first index row (Fine 0)
+  pub fields-absent : absent ≤ row → FieldsJudged tab n left stamp row before before (Fine 0)
   unfolding fields
-  fields-absent far = record { says = λ ts G w us vs a few. go ts G w us vs a }
+  fields-absent far = record { below = λ bound high b. b; says = go }
     where
-      go : (ts : List Token) (G : List Class) → World tab n ts G → (us vs : List Variable) → Along tab ts us vs first index row
-          → Fine 0 ≡ settled (fields G (onto [] (map textOf us)) vs)
-      go ts G w us [] a = refl
-      go ts G w us (v ∷ vs) a = absurd (omega (arith, variable-near (w .tokens) us v vs a))
+      go : (ts : List Token) (G : List Class) → World tab n ts G → (earlier : List (List ℕ)) (vs : List Variable) → FieldsAt tab ts before stamp earlier vs left row
+          → Fine 0 ≡ settled (fields G earlier vs)
+      go ts G w earlier [] a = refl
+      go ts G w earlier (v ∷ vs) a = absurd (omega (arith, first-of (w .tokens) (a .here) (a .stand) .near))
 
   module _ (near : row < absent) {t : ℕ} (e₃ : t ≡ wordAt tab 3 row) {b : Bool} (k : KnownAt tab n t b) where
-    pub fields-unknown : b ≡ false → {p : ℕ} → p ≡ wordAt tab 1 t → FieldsJudged tab n left first index row (Refused 24 p)
+    pub fields-unknown : b ≡ false → {p : ℕ} → p ≡ wordAt tab 1 t → FieldsJudged tab n left stamp row before before (Refused 24 p)
     unfolding fields
-    fields-unknown is {p} e₁ = record { says = λ ts G w us vs a few. go ts G w us vs a }
+    fields-unknown is {p} e₁ = record { below = λ bound high b. b; says = go }
       where
-        go : (ts : List Token) (G : List Class) → World tab n ts G → (us vs : List Variable) → Along tab ts us vs first index row
-            → Refused 24 p ≡ settled (fields G (onto [] (map textOf us)) vs)
-        go ts G w us [] a = absurd (omega (arith, a .here))
-        go ts G w us (v ∷ vs) a =
-            let d = variable-declared (w .tokens) us v vs a in
+        go : (ts : List Token) (G : List Class) → World tab n ts G → (earlier : List (List ℕ)) (vs : List Variable) → FieldsAt tab ts before stamp earlier vs left row
+            → Refused 24 p ≡ settled (fields G earlier vs)
+        go ts G w earlier [] a = absurd (omega (arith, a .here))
+        go ts G w earlier (v ∷ vs) a =
+            let d = first-of (w .tokens) (a .here) (a .stand) .declared in
             rw (declared-known k e₃ w d ∙ is) (ap (Refused 24) (type-place e₃ e₁ d))
 
-    module _ (is : b ≡ true) {x : ℕ} (e₂ : x ≡ wordAt tab 2 row) {c : Bool} (h : Repeated tab index first x c) where
-      pub fields-repeated : c ≡ true → {p : ℕ} → p ≡ wordAt tab 1 row → FieldsJudged tab n left first index row (Refused 23 p)
+    module _ (is : b ≡ true) {x : ℕ} (e₂ : x ≡ wordAt tab 2 row) {mid : List ℕ} {c : Bool} (h : MarkPost x stamp before mid c) where
+      pub fields-repeated : c ≡ true → {p : ℕ} → p ≡ wordAt tab 1 row → FieldsJudged tab n left stamp row before mid (Refused 23 p)
       unfolding fields
-      fields-repeated again {p} e₁ = record { says = λ ts G w us vs a few. go ts G w us vs a }
+      fields-repeated again {p} e₁ = record { below = h .below; says = go }
         where
-          go : (ts : List Token) (G : List Class) → World tab n ts G → (us vs : List Variable) → Along tab ts us vs first index row
-              → Refused 23 p ≡ settled (fields G (onto [] (map textOf us)) vs)
-          go ts G w us [] a = absurd (omega (arith, a .here))
-          go ts G w us (v ∷ vs) a =
-              let d = variable-declared (w .tokens) us v vs a in
-              rw (declared-known k e₃ w d ∙ is, twice e₂ h w us v vs a ∙ again) (ap (Refused 23) (e₁ ∙ d .start))
+          go : (ts : List Token) (G : List Class) → World tab n ts G → (earlier : List (List ℕ)) (vs : List Variable) → FieldsAt tab ts before stamp earlier vs left row
+              → Refused 23 p ≡ settled (fields G earlier vs)
+          go ts G w earlier [] a = absurd (omega (arith, a .here))
+          go ts G w earlier (v ∷ vs) a =
+              let d = first-of (w .tokens) (a .here) (a .stand) .declared in
+              rw (declared-known k e₃ w d ∙ is, marked-is (w .tokens) h (subst (Spells ts (textOf v)) (sym e₂) (d .number)) (a .marked) ∙ again)
+              (ap (Refused 23) (e₁ ∙ d .start))
 
-      pub fields-next : c ≡ false → {next : ℕ} {r : Judged} → next ≡ wordAt tab 6 row → FieldsJudged tab n (left - 1) first (index + 1) next r
-          → FieldsJudged tab n left first index row r
+      pub fields-next : c ≡ false → {next : ℕ} {after : List ℕ} {r : Judged} → next ≡ wordAt tab 6 row → FieldsJudged tab n (left - 1) stamp next mid after r
+          → FieldsJudged tab n left stamp row before after r
       unfolding fields
-      fields-next new {next} {r} e₆ h′ = record { says = λ ts G w us vs a few. go ts G w us vs a few }
+      fields-next new {next} {after} {r} e₆ h′ = record { below = λ bound high b. h′ .below bound high (h .below bound high b); says = go }
         where
-          go : (ts : List Token) (G : List Class) → World tab n ts G → (us vs : List Variable) → Along tab ts us vs first index row → length vs ≤ left
-              → r ≡ settled (fields G (onto [] (map textOf us)) vs)
-          go ts G w us [] a few = absurd (omega (arith, a .here))
-          go ts G w us (v ∷ vs) a few =
-              let d = variable-declared (w .tokens) us v vs a in
-              rw (declared-known k e₃ w d ∙ is, twice e₂ h w us v vs a ∙ new)
-              (h′ .says ts G w (us ++ v ∷ []) vs (variable-step (w .tokens) us v vs a e₆) (omega arith)
-              ∙ ap (λ (earlier : List (List ℕ)). settled (fields G earlier vs)) (onto-next textOf [] us v))
+          go : (ts : List Token) (G : List Class) → World tab n ts G → (earlier : List (List ℕ)) (vs : List Variable) → FieldsAt tab ts before stamp earlier vs left row
+              → r ≡ settled (fields G earlier vs)
+          go ts G w earlier [] a = absurd (omega (arith, a .here))
+          go ts G w earlier (v ∷ vs) a =
+              let d = first-of (w .tokens) (a .here) (a .stand) .declared in
+              let sp = subst (Spells ts (textOf v)) (sym e₂) (d .number) in
+              rw (declared-known k e₃ w d ∙ is, marked-is (w .tokens) h sp (a .marked) ∙ new)
+              (h′ .says ts G w (textOf v ∷ earlier) vs (fields-rest (w .tokens) a e₆ (marked-next (w .tokens) h sp (a .marked))))
 
 -- PARAMETERS AND LOCALS
 

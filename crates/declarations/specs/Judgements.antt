@@ -1,5 +1,5 @@
 -- What judging the declarations ensures, whatever the tokens and the classes are that the table holds.
-use Prim.Native.Nat.{ℕ, _≤_}
+use Prim.Native.Nat.{ℕ, _+_, _≤_}
 use mathlib.Core.Path.{_≡_}
 use mathlib.Core.List.{List, [], _∷_, map}
 use mathlib.Core.Bool.{Bool, true, false}
@@ -21,16 +21,18 @@ use Rattle.lookup.specs.declared.answer.Judged.{Judged}
 use Rattle.lookup.specs.declared.answer.Judged.the-variants.{Fine, Refused}
 use Rattle.lookup.specs.Standing.{Lexemes, Numbers, VariablesStand, MethodStands, ClassStands, ClassesStand, World, parentName}
 use Rattle.lookup.specs.Answers.{settled}
-use Rattle.declarations.specs.Earlier.{onto, Listed, Along, AlongMethods}
+use Rattle.declarations.specs.Marking.{Below, Stays, Marked}
+use Rattle.declarations.specs.Earlier.{onto, Listed, Along, FieldsAt, MethodAt, MethodsAt}
 
 -- VARIABLES
 
 pub record KnownAt (tab : List ℕ) (n row : ℕ) (r : Bool) : Type 0 where
   pub says : (ts : List Token) (G : List Class) → World tab n ts G → (t : TypeUse) → t .row ≡ row → TypeMatches ts t (t .type) → r ≡ known G (t .type)
 
-pub record FieldsJudged (tab : List ℕ) (n left first index row : ℕ) (r : Judged) : Type 0 where
-  pub says : (ts : List Token) (G : List Class) → World tab n ts G → (us vs : List Variable) → Along tab ts us vs first index row → length vs ≤ left
-      → r ≡ settled (fields G (onto [] (map textOf us)) vs)
+pub record FieldsJudged (tab : List ℕ) (n left stamp row : ℕ) (before after : List ℕ) (r : Judged) : Type 0 where
+  pub below : Stays stamp before after
+  pub says : (ts : List Token) (G : List Class) → World tab n ts G → (earlier : List (List ℕ)) (vs : List Variable) → FieldsAt tab ts before stamp earlier vs left row
+      → r ≡ settled (fields G earlier vs)
 
 -- one parameter or local: 24, 27, 28
 unfoldable pub newVariable : List Class → (earlier : List (List ℕ)) → Variable → Outcome (Unit {0})
@@ -81,22 +83,29 @@ opened G earlier m = knownType G (m .result) >>= λ _. newMethod earlier m
 unfoldable pub closed : List Class → Class → Method → Outcome (Unit {0})
 closed G k m = variables G [] (m .parameters) >>= λ _. redeclaration G k m
 
-pub record OpeningJudged (tab : List ℕ) (n first index row : ℕ) (r : Judged) : Type 0 where
-  pub says : (ts : List Token) (G : List Class) → World tab n ts G → (us : List Method) (m : Method) (ms : List Method) → AlongMethods tab n ts us (m ∷ ms) first index row
-      → r ≡ settled (opened G (onto [] (map methodName us)) m)
+-- where it is fine, the method's name has the stamp too
+pub record OpeningJudged (tab : List ℕ) (n stamp row : ℕ) (before after : List ℕ) (r : Judged) : Type 0 where
+  pub below : Stays stamp before after
+  pub says : (ts : List Token) (G : List Class) → World tab n ts G → (earlier : List (List ℕ)) (m : Method) → MethodAt tab n ts before stamp earlier m row
+      → r ≡ settled (opened G earlier m)
+  pub marks : {u : ℕ} → r ≡ Fine u → (ts : List Token) → Lexemes tab n ts → (earlier : List (List ℕ)) (m : Method) → MethodAt tab n ts before stamp earlier m row
+      → Marked ts after stamp (methodName m ∷ earlier)
 
 pub record RestJudged (tab : List ℕ) (n classes parent row : ℕ) (r : Judged) : Type 0 where
   pub says : (ts : List Token) (G : List Class) → World tab n ts G → length G ≡ classes → (k : Class) → Parented ts G k parent
       → (m : Method) → m .name .row ≡ row → MethodStands tab n ts m → r ≡ settled (closed G k m)
 
-pub record HeadJudged (tab : List ℕ) (n classes parent first index row : ℕ) (r : Judged) : Type 0 where
+pub record HeadJudged (tab : List ℕ) (n classes parent stamp row : ℕ) (before after : List ℕ) (r : Judged) : Type 0 where
+  pub below : Stays stamp before after
   pub says : (ts : List Token) (G : List Class) → World tab n ts G → length G ≡ classes → (k : Class) → Parented ts G k parent
-      → (us : List Method) (m : Method) (ms : List Method) → AlongMethods tab n ts us (m ∷ ms) first index row
-      → r ≡ settled (opened G (onto [] (map methodName us)) m >>= λ _. closed G k m)
+      → (earlier : List (List ℕ)) (m : Method) → MethodAt tab n ts before stamp earlier m row → r ≡ settled (opened G earlier m >>= λ _. closed G k m)
+  pub marks : {u : ℕ} → r ≡ Fine u → (ts : List Token) → Lexemes tab n ts → (earlier : List (List ℕ)) (m : Method) → MethodAt tab n ts before stamp earlier m row
+      → Marked ts after stamp (methodName m ∷ earlier)
 
-pub record HeadsJudged (tab : List ℕ) (n classes left parent first index row : ℕ) (r : Judged) : Type 0 where
+pub record HeadsJudged (tab : List ℕ) (n classes left parent stamp row : ℕ) (before after : List ℕ) (r : Judged) : Type 0 where
+  pub below : Stays stamp before after
   pub says : (ts : List Token) (G : List Class) → World tab n ts G → length G ≡ classes → (k : Class) → Parented ts G k parent
-      → (us ms : List Method) → AlongMethods tab n ts us ms first index row → length ms ≤ left → r ≡ settled (heads G k (onto [] (map methodName us)) ms)
+      → (earlier : List (List ℕ)) (ms : List Method) → MethodsAt tab n ts before stamp earlier ms left row → r ≡ settled (heads G k earlier ms)
 
 -- CLASSES
 
@@ -130,7 +139,8 @@ pub record ChainsJudged (tab : List ℕ) (classes left row : ℕ) (r : Judged) :
 abbrev pub Own : List Class → List Class → Type 0
 Own G ks = All (λ (k : Class). classNamed G (k .name .text) ≡ some k) ks
 
-pub record MembersJudged (tab : List ℕ) (n classes class : ℕ) (r : Judged) : Type 0 where
+pub record MembersJudged (tab : List ℕ) (n classes stamp class : ℕ) (after : List ℕ) (r : Judged) : Type 0 where
+  pub below : Below (stamp + 2) after
   pub says : (ts : List Token) (G : List Class) → World tab n ts G → length G ≡ classes → (k : Class) → k .name .row ≡ class → ClassStands tab n ts k
       → classNamed G (k .name .text) ≡ some k → r ≡ settled (fields G [] (k .fields) >>= λ _. heads G k [] (k .methods))
 

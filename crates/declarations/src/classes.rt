@@ -1,14 +1,17 @@
 // Parents, chains, and the declarations of each class.
 use crate::heads::heads;
+use crate::heights::height;
 use crate::variables::fields;
 use lookup::answer::Judged;
 use lookup::chain::above;
-use lookup::chain::ends;
 use lookup::rows::ABSENT;
 use lookup::rows::word;
-ghost use Prim.Native.Nat.{_≤_};
+ghost use Prim.Native.Nat.{_+_, _*_, _≤_};
 ghost use lib.ListN.{length};
 ghost use Rattle.reader.specs.WalkPost.{Walkable};
+ghost use Rattle.members.specs.Growth.{Indexed};
+ghost use Rattle.declarations.specs.Marking.{Below};
+ghost use Rattle.declarations.specs.Climbs.{HeightsRight};
 ghost use Rattle.declarations.specs.Judgements.{OrphanAt, ParentsJudged, ChainsJudged, MembersJudged, DeclarationsJudged};
 
 // Whether a class has a parent that is no class of the table.
@@ -41,8 +44,8 @@ pub fn parents(table: &[u32], left: usize, row: usize) -> Judged
 }
 
 // 22: the first class whose chain never ends.
-pub fn chains(table: &[u32], classes: usize, left: usize, row: usize) -> Judged
-    requires { ⌜ 16384 ≤ length (now table) ⌝ }
+pub fn chains(table: &[u32], heights: &mut [u32], classes: usize, left: usize, row: usize) -> Judged
+    requires { ⌜ (16384 ≤ length (now table)) × (2048 ≤ length (now heights)) × (classes ≤ 2048) × HeightsRight (now table) (now heights) ⌝ }
     ensures { λ r. ⌜ ChainsJudged (now (table .entry)) classes left row r ⌝ }
 {
     if left == 0 {
@@ -51,30 +54,40 @@ pub fn chains(table: &[u32], classes: usize, left: usize, row: usize) -> Judged
     if ABSENT <= row {
         return Judged::Fine(0);
     }
-    if ends(table, classes, word(table, 2, row)) {
-        return chains(table, classes, left - 1, word(table, 6, row));
+    if height(table, heights, classes, word(table, 2, row)) == 0 {
+        return Judged::Refused(22, word(table, 1, row));
     }
-    Judged::Refused(22, word(table, 1, row))
+    chains(table, heights, classes, left - 1, word(table, 6, row))
 }
 
-// The fields and the method heads of a class.
-fn members(table: &[u32], n: usize, classes: usize, class: usize) -> Judged
-    requires { ⌜ Walkable (now table) n ⌝ }
-    ensures { λ r. ⌜ MembersJudged (now (table .entry)) n classes class r ⌝ }
+// The fields and the method heads of a class. The fields have this stamp and the methods the next.
+fn members(
+    table: &[u32],
+    index: &[u32],
+    marks: &mut [u32],
+    n: usize,
+    classes: usize,
+    stamp: u32,
+    class: usize,
+) -> Judged
+    requires { ⌜ Walkable (now table) n × Indexed (now table) n (now index) × (2048 ≤ length (now marks)) × Below stamp (now marks) × (stamp ≤ 4096) ⌝ }
+    ensures { λ r. ⌜ MembersJudged (now (table .entry)) n classes stamp class (now (marks .exit)) r ⌝ }
 {
     let first = word(table, 4, class);
-    let f = fields(table, n, n, first, 0, first);
+    let f = fields(table, marks, n, n, stamp, first);
     match f {
         Judged::Fine(_) => {
             let methods = word(table, 5, class);
+            let parent = above(table, class);
             heads(
                 table,
+                index,
+                marks,
                 n,
                 classes,
                 n,
-                above(table, class),
-                methods,
-                0,
+                parent,
+                stamp + 1,
                 methods,
             )
         }
@@ -82,9 +95,19 @@ fn members(table: &[u32], n: usize, classes: usize, class: usize) -> Judged
     }
 }
 
-// 23 to 28, class by class.
-pub fn declarations(table: &[u32], n: usize, classes: usize, left: usize, row: usize) -> Judged
-    requires { ⌜ Walkable (now table) n ⌝ }
+// 23 to 28, class by class. No word of `marks` has reached the stamp.
+pub fn declarations(
+    table: &[u32],
+    index: &[u32],
+    marks: &mut [u32],
+    n: usize,
+    classes: usize,
+    left: usize,
+    stamp: u32,
+    row: usize,
+) -> Judged
+    requires { ⌜ Walkable (now table) n × Indexed (now table) n (now index) × (2048 ≤ length (now marks)) × Below stamp (now marks)
+        × (stamp + 2 * left ≤ 4098) ⌝ }
     ensures { λ r. ⌜ DeclarationsJudged (now (table .entry)) n classes left row r ⌝ }
 {
     if left == 0 {
@@ -93,9 +116,18 @@ pub fn declarations(table: &[u32], n: usize, classes: usize, left: usize, row: u
     if ABSENT <= row {
         return Judged::Fine(0);
     }
-    let m = members(table, n, classes, row);
+    let m = members(table, index, marks, n, classes, stamp, row);
     match m {
-        Judged::Fine(_) => declarations(table, n, classes, left - 1, word(table, 6, row)),
+        Judged::Fine(_) => declarations(
+            table,
+            index,
+            marks,
+            n,
+            classes,
+            left - 1,
+            stamp + 2,
+            word(table, 6, row),
+        ),
         Judged::Refused(number, at) => Judged::Refused(number, at),
     }
 }

@@ -1,15 +1,17 @@
-// Method heads: the result's type, the name, the parameters, and what the method redeclares.
+// Method heads: the result's type, the name, the parameters, and what the method redeclares. `index` is that of the members of classes.
+use crate::marks::mark;
 use crate::variables::is_known;
 use crate::variables::variables;
 use lookup::answer::Judged;
-use lookup::chain::find_method;
 use lookup::chain::fits;
-use lookup::member::repeated;
 use lookup::rows::ABSENT;
 use lookup::rows::word;
 use lookup::types::type_of;
-ghost use Prim.Native.Nat.{_+_, _≤_};
+use members::find::method;
+ghost use Prim.Native.Nat.{_≤_};
+ghost use lib.ListN.{length};
 ghost use Rattle.reader.specs.WalkPost.{Walkable};
+ghost use Rattle.members.specs.Growth.{Indexed};
 ghost use Rattle.declarations.specs.Judgements.{TypesCompared, RedeclaresAt, CompatibleAt, OpeningJudged, RestJudged, HeadJudged, HeadsJudged};
 
 // Whether two lists of parameters have equal types.
@@ -46,14 +48,21 @@ fn redeclares(table: &[u32], n: usize, classes: usize, lower: usize, upper: usiz
 }
 
 // 26, against the nearest method of that name upwards from the class above.
-fn is_compatible(table: &[u32], n: usize, classes: usize, parent: usize, row: usize) -> bool
-    requires { ⌜ Walkable (now table) n ⌝ }
+fn is_compatible(
+    table: &[u32],
+    index: &[u32],
+    n: usize,
+    classes: usize,
+    parent: usize,
+    row: usize,
+) -> bool
+    requires { ⌜ Walkable (now table) n × Indexed (now table) n (now index) ⌝ }
     ensures { λ r. ⌜ CompatibleAt (now (table .entry)) n classes parent row r ⌝ }
 {
     if classes == 0 {
         return true;
     }
-    let upper = find_method(table, n, classes - 1, parent, word(table, 2, row));
+    let upper = method(table, index, n, classes - 1, parent, word(table, 2, row));
     if ABSENT <= upper {
         return true;
     }
@@ -61,13 +70,13 @@ fn is_compatible(table: &[u32], n: usize, classes: usize, parent: usize, row: us
 }
 
 // What a head declares before the parameters: 24, 25.
-fn opening(table: &[u32], n: usize, first: usize, index: usize, row: usize) -> Judged
-    requires { ⌜ Walkable (now table) n ⌝ }
-    ensures { λ r. ⌜ OpeningJudged (now (table .entry)) n first index row r ⌝ }
+fn opening(table: &[u32], marks: &mut [u32], n: usize, stamp: u32, row: usize) -> Judged
+    requires { ⌜ Walkable (now table) n × (2048 ≤ length (now marks)) ⌝ }
+    ensures { λ r. ⌜ OpeningJudged (now (table .entry)) n stamp row (now (marks .entry)) (now (marks .exit)) r ⌝ }
 {
     let t = word(table, 3, row);
     if is_known(table, n, t) {
-        if repeated(table, index, first, word(table, 2, row)) {
+        if mark(marks, word(table, 2, row), stamp) {
             return Judged::Refused(25, word(table, 1, row));
         }
         return Judged::Fine(0);
@@ -76,15 +85,15 @@ fn opening(table: &[u32], n: usize, first: usize, index: usize, row: usize) -> J
 }
 
 // The parameters, and last 26.
-fn rest(table: &[u32], n: usize, classes: usize, parent: usize, row: usize) -> Judged
-    requires { ⌜ Walkable (now table) n ⌝ }
+fn rest(table: &[u32], index: &[u32], n: usize, classes: usize, parent: usize, row: usize) -> Judged
+    requires { ⌜ Walkable (now table) n × Indexed (now table) n (now index) ⌝ }
     ensures { λ r. ⌜ RestJudged (now (table .entry)) n classes parent row r ⌝ }
 {
     let first = word(table, 4, row);
     let v = variables(table, n, n, ABSENT, 0, first, 0, first);
     match v {
         Judged::Fine(_) => {
-            if is_compatible(table, n, classes, parent, row) {
+            if is_compatible(table, index, n, classes, parent, row) {
                 return Judged::Fine(0);
             }
             Judged::Refused(26, word(table, 1, row))
@@ -96,36 +105,38 @@ fn rest(table: &[u32], n: usize, classes: usize, parent: usize, row: usize) -> J
 // One head.
 fn head(
     table: &[u32],
+    index: &[u32],
+    marks: &mut [u32],
     n: usize,
     classes: usize,
     parent: usize,
-    first: usize,
-    index: usize,
+    stamp: u32,
     row: usize,
 ) -> Judged
-    requires { ⌜ Walkable (now table) n ⌝ }
-    ensures { λ r. ⌜ HeadJudged (now (table .entry)) n classes parent first index row r ⌝ }
+    requires { ⌜ Walkable (now table) n × Indexed (now table) n (now index) × (2048 ≤ length (now marks)) ⌝ }
+    ensures { λ r. ⌜ HeadJudged (now (table .entry)) n classes parent stamp row (now (marks .entry)) (now (marks .exit)) r ⌝ }
 {
-    let o = opening(table, n, first, index, row);
+    let o = opening(table, marks, n, stamp, row);
     match o {
-        Judged::Fine(_) => rest(table, n, classes, parent, row),
+        Judged::Fine(_) => rest(table, index, n, classes, parent, row),
         Judged::Refused(number, at) => Judged::Refused(number, at),
     }
 }
 
-// The heads of a class from a row on; `parent` is the number of the name of the class above.
+// The heads of a class from a row on; `parent` is the number of the name of the class above. The methods before `row` have the stamp.
 pub fn heads(
     table: &[u32],
+    index: &[u32],
+    marks: &mut [u32],
     n: usize,
     classes: usize,
     left: usize,
     parent: usize,
-    first: usize,
-    index: usize,
+    stamp: u32,
     row: usize,
 ) -> Judged
-    requires { ⌜ Walkable (now table) n × (index + left ≤ 4096) ⌝ }
-    ensures { λ r. ⌜ HeadsJudged (now (table .entry)) n classes left parent first index row r ⌝ }
+    requires { ⌜ Walkable (now table) n × Indexed (now table) n (now index) × (2048 ≤ length (now marks)) ⌝ }
+    ensures { λ r. ⌜ HeadsJudged (now (table .entry)) n classes left parent stamp row (now (marks .entry)) (now (marks .exit)) r ⌝ }
 {
     if left == 0 {
         return Judged::Fine(0);
@@ -133,16 +144,17 @@ pub fn heads(
     if ABSENT <= row {
         return Judged::Fine(0);
     }
-    let h = head(table, n, classes, parent, first, index, row);
+    let h = head(table, index, marks, n, classes, parent, stamp, row);
     match h {
         Judged::Fine(_) => heads(
             table,
+            index,
+            marks,
             n,
             classes,
             left - 1,
             parent,
-            first,
-            index + 1,
+            stamp,
             word(table, 6, row),
         ),
         Judged::Refused(number, at) => Judged::Refused(number, at),

@@ -1,4 +1,6 @@
-// Fields, parameters and locals: each has a known type and a new name. `first` is where the list begins and `index` how many members stand before `row`.
+// Fields, parameters and locals: each has a known type and a new name. A list of parameters or locals begins at `first`, and `index` of its members stand
+// before `row`.
+use crate::marks::mark;
 use lookup::answer::Judged;
 use lookup::member::repeated;
 use lookup::rows::ABSENT;
@@ -6,6 +8,7 @@ use lookup::rows::word;
 use lookup::types::known;
 use lookup::types::type_of;
 ghost use Prim.Native.Nat.{_+_, _≤_, _<_};
+ghost use lib.ListN.{length};
 ghost use Rattle.reader.specs.WalkPost.{Walkable};
 ghost use Rattle.declarations.specs.Judgements.{KnownAt, FieldsJudged, VariableJudged, VariablesJudged};
 
@@ -20,17 +23,17 @@ pub fn is_known(table: &[u32], n: usize, row: usize) -> bool
     known(table, n, type_of(table, n, row))
 }
 
-// The fields of a class: 24, 23.
+// The fields of a class: 24, 23. Those before `row` have the stamp.
 pub fn fields(
     table: &[u32],
+    marks: &mut [u32],
     n: usize,
     left: usize,
-    first: usize,
-    index: usize,
+    stamp: u32,
     row: usize,
 ) -> Judged
-    requires { ⌜ Walkable (now table) n × (index + left ≤ 4096) ⌝ }
-    ensures { λ r. ⌜ FieldsJudged (now (table .entry)) n left first index row r ⌝ }
+    requires { ⌜ Walkable (now table) n × (2048 ≤ length (now marks)) ⌝ }
+    ensures { λ r. ⌜ FieldsJudged (now (table .entry)) n left stamp row (now (marks .entry)) (now (marks .exit)) r ⌝ }
 {
     if left == 0 {
         return Judged::Fine(0);
@@ -40,10 +43,10 @@ pub fn fields(
     }
     let t = word(table, 3, row);
     if is_known(table, n, t) {
-        if repeated(table, index, first, word(table, 2, row)) {
+        if mark(marks, word(table, 2, row), stamp) {
             return Judged::Refused(23, word(table, 1, row));
         }
-        return fields(table, n, left - 1, first, index + 1, word(table, 6, row));
+        return fields(table, marks, n, left - 1, stamp, word(table, 6, row));
     }
     Judged::Refused(24, word(table, 1, t))
 }

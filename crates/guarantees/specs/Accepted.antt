@@ -1,7 +1,7 @@
 -- A source is accepted exactly when document 01's grammar, bounds and typing rules allow it: the stages of Check, taken apart and put together again.
 use Prim.Native.Nat.{ℕ, _≤_}
 use mathlib.Core.Path.{_≡_, refl, sym, ap, _∙_, subst}
-use mathlib.Core.List.{List, [], _∷_}
+use mathlib.Core.List.{List}
 use mathlib.Core.Logic.{_↔_}
 use mathlib.Core.Bool.{true≢false}
 use mathlib.Core.Option.{Option, none, some}
@@ -13,7 +13,7 @@ use borrow.Author.Tests.{lt-ltb}
 use Rattle.base.specs.Choice.{option}
 use Rattle.base.specs.Codes.{sourceMost, tooDeep}
 use Rattle.base.specs.Lists.{get-getD}
-use Rattle.base.specs.Outcome.{Outcome, accepted, refused, _>>=_}
+use Rattle.base.specs.Outcome.{Outcome, accepted, refused}
 use Rattle.lexer.specs.Tokens.{Token, tokens}
 use Rattle.lexer.specs.RowLaws.{token-of}
 use Rattle.parser.specs.Tree.{Program}
@@ -23,7 +23,7 @@ use Rattle.parser.specs.Grammar.{DerivesProgram}
 use Rattle.parser.specs.Measure.{programDeep}
 use Rattle.parser.specs.Read.{Reading, grammatical, shallow, reading}
 use Rattle.grammar.specs.Agreement.{sound, complete}
-use Rattle.checker.specs.Check.{Verdict, accept, refuse, refuseEndless, unlessRefused, judged, checking}
+use Rattle.checker.specs.Check.{accept, checking}
 use Rattle.checker.specs.Typing.{ProgramTyped}
 use Rattle.reader.specs.ReadingLaws.{proper, read-well}
 use Rattle.typing.specs.Agreement.{program-agrees}

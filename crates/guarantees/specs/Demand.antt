@@ -17,7 +17,7 @@ use Rattle.soundness.specs.Reachable.{Reach}
 use Rattle.soundness.specs.Space.{tasksOf, valuesOf}
 use Rattle.soundness.specs.Demand as Machine
 use Rattle.guarantees.specs.Literals.{literals-fit}
-use Rattle.guarantees.specs.Accepted.{Allowed, allowed, small}
+use Rattle.guarantees.specs.Accepted.{allowed, small}
 
 module _ (s : List ℕ) (p : Program) (a : checking s ≡ accept p) where
   -- its literals are words

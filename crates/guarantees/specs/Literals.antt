@@ -1,7 +1,7 @@
 -- The literals of a derived tree are words: each is the value of a literal token, which the lexer bounds.
-use Prim.Native.Nat.{ℕ, _+_, _≤_}
+use Prim.Native.Nat.{ℕ, _≤_}
 use mathlib.Core.Path.{_≡_}
-use mathlib.Core.List.{List, []}
+use mathlib.Core.List.{List}
 use native.Mathlib.Omega.{arith}
 use Rattle.base.specs.Codes.{literalMost}
 use Rattle.base.specs.Lists.{All, all-nil, all-cons}

@@ -2,11 +2,10 @@
 use Prim.Native.Nat.{ℕ, _-_, _≤_, _<_}
 use mathlib.Core.Path.{_≡_, refl, sym, ap, _∙_}
 use mathlib.Core.List.{List}
-use mathlib.Core.Bool.{Bool, true, false, _||_}
+use mathlib.Core.Bool.{Bool, true, false}
 use lib.ListN.{getD}
 use lib.Dec.{eqb, leb}
 use borrow.Author.Tests.{eq-eqb, ne-eqb, le-leb, lt-leb}
-use Rattle.base.specs.Choice.{if_then_else_}
 use Rattle.parser.specs.Post.{kindIn}
 use Rattle.lookup.specs.Standing.{absent, wordAt}
 use Rattle.interpreter.specs.declared.pending.Task.{Task}

@@ -1,14 +1,13 @@
 -- What the dispatch of a task returns is the post of its kind: the tests of the code are those of the definition.
-use Prim.Native.Nat.{ℕ, _-_, _≤_, _<_}
+use Prim.Native.Nat.{ℕ, _-_, _≤_}
 use native.Mathlib.Omega.{arith}
-use mathlib.Core.Path.{_≡_, refl, sym, ap, _∙_, subst}
+use mathlib.Core.Path.{_≡_, refl, sym, _∙_, subst}
 use mathlib.Core.List.{List}
-use mathlib.Core.Bool.{Bool, true, false, _&&_, _||_}
+use mathlib.Core.Bool.{Bool, true, false}
 use lib.ListN.{length}
 use lib.Dec.{eqb, leb}
 use lib.IntN.{ℤ}
-use borrow.Author.Tests.{eq-eqb, ne-eqb, le-leb, lt-leb}
-use Rattle.base.specs.Choice.{if_then_else_}
+use borrow.Author.Tests.{eq-eqb, ne-eqb}
 use Rattle.lookup.specs.Standing.{absent}
 use Rattle.interpreter.specs.declared.pending.Task.{Task}
 use Rattle.interpreter.specs.declared.state.Machine.{Machine}

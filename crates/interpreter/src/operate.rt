@@ -7,7 +7,6 @@ use crate::state::Machine;
 use base::word;
 use parser::kinds;
 use parser::table::kind;
-ghost use mathlib.Core.Path.{_≡_};
 ghost use Prim.Native.Nat.{_≤_};
 ghost use lib.ListN.{length};
 ghost use Rattle.interpreter.specs.OperatePost.{ResultPost, CombinePost, OperatePost, NegatePost};

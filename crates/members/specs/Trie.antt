@@ -1,6 +1,6 @@
 -- A map from keys to words, as a tree of nodes of two words in a list of words. The lowest bit of a key picks one of the node's two words, which is the node for the
 -- other bits of the key or, after the last bit, the key's word.
-use Prim.Native.Nat.{ℕ, zero, suc, _+_, _-_, _*_, _/_, _%_, _≤_, _<_}
+use Prim.Native.Nat.{ℕ, zero, suc, _+_, _-_, _/_, _%_, _≤_, _<_}
 use mathlib.Core.Path.{_≡_}
 use mathlib.Core.List.{List}
 use mathlib.Core.Bool.{Bool, true, _&&_}

@@ -10,7 +10,7 @@ use lookup::rows::ABSENT;
 use lookup::rows::word;
 use lookup::types::NOTHING;
 use lookup::types::type_of;
-ghost use Prim.Native.Nat.{_≤_, _<_};
+ghost use Prim.Native.Nat.{_<_};
 ghost use Rattle.reader.specs.WalkPost.{Walkable};
 ghost use Rattle.lookup.specs.Lookups.{FieldTyped, FindsMethod};
 ghost use Rattle.members.specs.Growth.{Indexed, HasPost, EntryPost};

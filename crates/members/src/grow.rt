@@ -65,7 +65,8 @@ fn add(
     }
 }
 
-// The members of the class in a row, whose name has the number c, over those from above, under `root`, where the chain above has height h. Answers the first word that is free.
+// The members of the class in a row, whose name has the number c, over those from above, under `root`, where the chain above has height h. Answers the first
+// word that is free.
 fn own(
     table: &[u32],
     index: &mut [u32],

@@ -1,5 +1,6 @@
-// A map from keys of twelve bits to words, as a tree of nodes of two words: the lowest bit of a key picks one of the two, which leads on to the node for the other
-// bits, or is the key's word after the last one. No word is written twice: a key that is entered gets new nodes along its way, and under the old root all is as it was.
+// A map from keys of twelve bits to words, as a tree of nodes of two words: the lowest bit of a key picks one of the two, which leads on to the node for the
+// other bits, or is the key's word after the last one. No word is written twice: a key that is entered gets new nodes along its way, and under the old root
+// all is as it was.
 ghost use mathlib.Core.Path.{_≡_};
 ghost use Prim.Native.Nat.{_+_, _-_, _*_, _≤_, _<_};
 ghost use lib.ListN.{length, getD, set};

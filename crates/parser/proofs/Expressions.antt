@@ -3,24 +3,21 @@ use Prim.Native.Nat.{ℕ, zero, suc, _+_, _*_, _-_, _≤_, _<_}
 use mathlib.Core.Path.{_≡_, refl, sym, ap, _∙_, subst}
 use mathlib.Core.List.{List}
 use mathlib.Core.Logic.{_≢_}
-use mathlib.Core.Bool.{Bool, true, false, _&&_}
+use mathlib.Core.Bool.{Bool, true, false}
 use mathlib.Core.Option.{Option, none, some}
 use native.Mathlib.Omega.{arith}
-use lib.Dec.{eqb}
-use borrow.Author.Tests.{eq-eqb, ne-eqb}
-use Rattle.base.specs.Choice.{if_then_else_, option}
-use Rattle.base.specs.Table.{col, put}
-use Rattle.lexer.specs.Kinds.{isName}
-use Rattle.lexer.specs.Tokens.{Token, decimal}
+use Rattle.base.specs.Choice.{option}
+use Rattle.base.specs.Table.{col}
+use Rattle.lexer.specs.Tokens.{Token}
 use Rattle.parser.specs.declared.answer.Answer.{Answer}
 use Rattle.parser.specs.declared.answer.Answer.the-variants.{At, Bad}
-use Rattle.parser.specs.Tree.{Place, Operator, Sort, Sort.expression, Sort.arguments, Part, Expression}
-use Rattle.parser.specs.Tree.{Part.literal, Part.truth, Part.variable, Part.this, Part.newArray, Part.newObject, Part.negation, Part.binary, Part.element, Part.arrayLength, Part.call, Part.noArguments, Part.argument}
-use Rattle.parser.specs.Stream.{tokenAt, kindAt, startAt, placeAt, nameAt, Level, Level.conjunction, Level.comparison, Level.sum, Level.product, operatorOf}
-use Rattle.parser.specs.Parse.{Parsed, ok, bad, out, bind, Mode, operation, operations, operand, unary, postfix, primary, suffixes, argumentList, someArguments, anExpression, step, run}
+use Rattle.parser.specs.Tree.{Place, Operator, Sort, Sort.expression, Part, Expression}
+use Rattle.parser.specs.Tree.{Part.negation, Part.binary}
+use Rattle.parser.specs.Stream.{startAt, placeAt, Level, Level.conjunction, Level.comparison, Level.sum, Level.product, operatorOf}
+use Rattle.parser.specs.Parse.{Parsed, bind, Mode, operation, operations, operand, unary, postfix, primary, suffixes, step}
 use Rattle.parser.specs.Layout.{absent, rowOf, node, given, store}
-use Rattle.parser.specs.Post.{kindIn, TokensIn, part, Met, met-ok, met-bad, Within, ModePost, RestPost, LevelsPost, Rest, restMode, moreOperations, moreSuffixes, levelAt, isOperator, isAtom, startsArray, rank, fuel}
-use Rattle.parser.proofs.Laws.{there, there-by, same-kind, tokens-kept, given-put, given-node, kind-of, is, is-not, passes, at-result, bind-ok, bind-bad, stepped, within-ok, within-more}
+use Rattle.parser.specs.Post.{kindIn, TokensIn, met-ok, ModePost, RestPost, LevelsPost, Rest, restMode, moreOperations, moreSuffixes, levelAt, isOperator, startsArray, rank, fuel}
+use Rattle.parser.proofs.Laws.{there, there-by, tokens-kept, given-node, kind-of, is, is-not, at-result, bind-ok, bind-bad, stepped, within-ok, within-more}
 
 -- a node as the code writes it
 pub made : {T : List ℕ} {n : ℕ} {ts : List Token} (T₂ : List ℕ) (i first l r : ℕ) → TokensIn T n ts → first < n → T₂ ≡ node T i (col T 1 first) l r → T₂ ≡ node T i (startAt ts first) l r

@@ -1,26 +1,23 @@
 -- What each return of the functions on methods, classes and the program shows: from what the callees ensure and the kinds of the tokens read, what the
 -- function ensures.
-use Prim.Native.Nat.{ℕ, zero, suc, _+_, _*_, _-_, _≤_, _<_}
+use Prim.Native.Nat.{ℕ, _+_, _-_, _≤_, _<_}
 use mathlib.Core.Path.{_≡_, refl, sym, ap, _∙_, subst}
 use mathlib.Core.List.{List, [], _∷_}
 use mathlib.Core.Logic.{_≢_}
 use mathlib.Core.Bool.{Bool, true, false}
-use mathlib.Core.Option.{Option, none, some}
 use native.Mathlib.Omega.{arith}
-use native.Mathlib.Decide.{decLt}
-use lib.Dec.{eqb}
 use Rattle.base.specs.Table.{put}
 use Rattle.lexer.specs.Kinds.{isName}
 use Rattle.lexer.specs.Tokens.{Token}
 use Rattle.parser.specs.declared.answer.Answer.{Answer}
 use Rattle.parser.specs.declared.answer.Answer.the-variants.{At, Bad}
-use Rattle.parser.specs.Tree.{Name, Sort.statements, Part, Expression, Variable, Method, Class, Program}
-use Rattle.parser.specs.Stream.{kindAt, nameAt}
-use Rattle.parser.specs.Parse.{Parsed, ok, bad, bind, expectAll, Mode, operation, aStatement, run, methodEnd, methodFrom, methodsFrom, parentFrom, classFrom, classesFrom, mainHead, mainEnd, programFrom}
+use Rattle.parser.specs.Tree.{Sort.statements, Part, Expression, Variable, Method, Class, Program}
+use Rattle.parser.specs.Stream.{nameAt}
+use Rattle.parser.specs.Parse.{Parsed, ok, bad, bind, expectAll, operation, aStatement, run, methodEnd, methodFrom, methodsFrom, parentFrom, classFrom, classesFrom, mainHead, mainEnd, programFrom}
 use Rattle.parser.specs.Layout.{given, rowOf, store, headOf, rowVariables, storeVariable, storeVariables, methodRow, storeMethod, rowMethods, storeMethods, rowParent, classRow, storeClass, rowClasses, storeClasses, storeProgram}
-use Rattle.parser.specs.Post.{kindIn, TokensIn, Met, met-ok, met-bad, Within, ModePost, ListPost, levelAt, matchedIn}
-use Rattle.parser.specs.DeclarationPost.{aVariable, variableList, formals, aMethod, methodList, aParent, aClass, classList, stored, DeclPost, LocalsPost, BodyPost, ReturnedPost, MembersPost, ClassMethodsPost, wholeProgram, ProgramPost, EndsThere}
-use Rattle.parser.proofs.Laws.{there, kind-past, tokens-kept, given-put, kind-of, is, is-not, passes, at-result, bind-ok, bind-bad, at-suc, within-ok, within-more, plus-two}
+use Rattle.parser.specs.Post.{kindIn, met-ok, met-bad, ModePost, ListPost, levelAt, matchedIn}
+use Rattle.parser.specs.DeclarationPost.{aVariable, variableList, formals, aMethod, methodList, aParent, aClass, classList, DeclPost, LocalsPost, BodyPost, ReturnedPost, MembersPost, ClassMethodsPost, ProgramPost, EndsThere}
+use Rattle.parser.proofs.Laws.{there, tokens-kept, given-put, is, is-not, passes, at-result, bind-ok, bind-bad, at-suc, within-ok, within-more, plus-two}
 use Rattle.parser.proofs.Postfix.{name-there}
 use Rattle.parser.proofs.Matched.{matched-there, all-matched, not-matched}
 

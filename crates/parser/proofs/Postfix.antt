@@ -1,25 +1,24 @@
 -- What each return of the functions on postfix forms, primaries and arguments shows: from what the callees ensure and the kinds of the tokens read, what the
 -- function ensures.
-use Prim.Native.Nat.{ℕ, zero, suc, _+_, _*_, _-_, _≤_, _<_}
+use Prim.Native.Nat.{ℕ, _+_, _*_, _-_, _≤_, _<_}
 use mathlib.Core.Path.{_≡_, refl, sym, ap, _∙_, subst}
 use mathlib.Core.List.{List}
 use mathlib.Core.Logic.{_≢_}
 use mathlib.Core.Bool.{Bool, true, false, _&&_, _||_}
 use native.Mathlib.Omega.{arith}
 use lib.Dec.{eqb, eqb→eq, leb, leb→le, T}
-use borrow.Author.Tests.{eq-eqb, ne-eqb}
-use Rattle.base.specs.Choice.{if_then_else_}
+use borrow.Author.Tests.{ne-eqb}
 use Rattle.base.specs.Table.{col, put}
 use Rattle.lexer.specs.Kinds.{isName}
 use Rattle.lexer.specs.Tokens.{Token, decimal}
 use Rattle.parser.specs.declared.answer.Answer.{Answer}
 use Rattle.parser.specs.declared.answer.Answer.the-variants.{At, Bad}
-use Rattle.parser.specs.Tree.{Place, Name, Sort, Sort.expression, Sort.arguments, Part, Expression}
+use Rattle.parser.specs.Tree.{Place, Name, Sort, Sort.arguments, Part, Expression}
 use Rattle.parser.specs.Tree.{Part.literal, Part.truth, Part.variable, Part.this, Part.newArray, Part.newObject, Part.element, Part.arrayLength, Part.call, Part.noArguments, Part.argument}
 use Rattle.parser.specs.Stream.{tokenAt, kindAt, startAt, placeAt, nameAt}
-use Rattle.parser.specs.Parse.{Parsed, ok, bad, bind, Mode, operation, postfix, primary, suffixes, argumentList, someArguments, step, run}
+use Rattle.parser.specs.Parse.{Parsed, ok, Mode, operation, postfix, primary, suffixes, argumentList, someArguments, step, run}
 use Rattle.parser.specs.Layout.{absent, rowOf, node, given, store}
-use Rattle.parser.specs.Post.{kindIn, TokensIn, part, Met, met-ok, met-bad, Within, ModePost, RestPost, moreOperations, moreSuffixes, levelAt, isAtom, startsArray, fuel}
+use Rattle.parser.specs.Post.{kindIn, TokensIn, met-ok, met-bad, ModePost, RestPost, moreSuffixes, levelAt, isAtom, startsArray, fuel}
 use Rattle.parser.proofs.Laws.{plus-two, plus-three, plus-four, there, there-by, tokens-kept, given-put, given-node, kind-of, is, is-not, passes, at-result, bind-ok, bind-bad, stepped, within-ok, within-more}
 use Rattle.parser.proofs.Expressions.{made}
 

@@ -1,12 +1,12 @@
 -- What each return of the functions on statements shows: from what the callees ensure and the kinds of the tokens read, what the function ensures.
-use Prim.Native.Nat.{ℕ, zero, suc, _+_, _*_, _-_, _≤_, _<_}
-use mathlib.Core.Path.{_≡_, refl, sym, ap, _∙_, subst}
-use mathlib.Core.List.{List, [], _∷_}
+use Prim.Native.Nat.{ℕ, _+_, _*_, _-_, _≤_, _<_}
+use mathlib.Core.Path.{_≡_, refl, sym, ap, _∙_}
+use mathlib.Core.List.{List}
 use mathlib.Core.Logic.{_≢_}
-use mathlib.Core.Bool.{Bool, true, false, _&&_, _||_}
+use mathlib.Core.Bool.{Bool, true, false}
 use native.Mathlib.Omega.{arith}
 use lib.Dec.{eqb}
-use borrow.Author.Tests.{eq-eqb, ne-eqb}
+use borrow.Author.Tests.{ne-eqb}
 use Rattle.base.specs.Table.{col, put}
 use Rattle.lexer.specs.Kinds.{isName}
 use Rattle.lexer.specs.Tokens.{Token}
@@ -14,14 +14,14 @@ use Rattle.parser.specs.declared.answer.Answer.{Answer}
 use Rattle.parser.specs.declared.answer.Answer.the-variants.{At, Bad}
 use Rattle.parser.specs.Tree.{Place, Sort, Sort.expression, Sort.statement, Sort.statements, Part, Expression, Statement}
 use Rattle.parser.specs.Tree.{Part.block, Part.conditional, Part.loop, Part.print, Part.assign, Part.assignElement, Part.noStatements, Part.sequence}
-use Rattle.parser.specs.Stream.{tokenAt, kindAt, startAt, placeAt}
+use Rattle.parser.specs.Stream.{tokenAt, kindAt, placeAt}
 use Rattle.parser.specs.Parse.{Parsed, ok, bad, bind, expect, Mode, operation, aStatement, statementList, anExpression, beginsStatement, printHead, printEnd, elementEnd, expectAll, assignFrom, assignElementFrom, step, run}
 use Rattle.parser.specs.Layout.{absent, rowOf, node, given, store}
-use Rattle.parser.specs.Post.{kindIn, TokensIn, part, Met, met-ok, met-bad, Within, ModePost, ListPost, Tail, branching, repeating, tailKind, tailFrom, TailPost, levelAt, matchedIn, fuel}
-use Rattle.parser.proofs.Laws.{plus-two, there, there-by, tokens-kept, given-put, given-node, kind-of, is, is-not, passes, at-result, bind-ok, bind-bad, stepped, within-ok, within-more}
+use Rattle.parser.specs.Post.{kindIn, TokensIn, part, Met, met-ok, met-bad, ModePost, ListPost, Tail, branching, repeating, tailKind, tailFrom, TailPost, levelAt, matchedIn, fuel}
+use Rattle.parser.proofs.Laws.{plus-two, there, tokens-kept, given-put, given-node, is, is-not, passes, at-result, bind-ok, bind-bad, stepped, within-ok, within-more}
 use Rattle.parser.proofs.Expressions.{made}
-use Rattle.parser.proofs.Postfix.{neither, small-name}
-use Rattle.parser.proofs.Matched.{Kinds, matched-there, all-matched, not-matched}
+use Rattle.parser.proofs.Postfix.{small-name}
+use Rattle.parser.proofs.Matched.{matched-there, all-matched, not-matched}
 
 -- LISTS
 is-sequence : (s : Statement) (ss : Part statements) (t : List ℕ) → store (sequence s ss) t ≡ put (store ss (store s t)) 6 (rowOf s) (rowOf ss)

@@ -1,26 +1,25 @@
 -- What each return of the functions on types, variables and lists of variables shows: from what the callees ensure and the kinds of the tokens read, what
 -- the function ensures.
-use Prim.Native.Nat.{ℕ, zero, suc, _+_, _*_, _-_, _≤_, _<_}
-use mathlib.Core.Path.{_≡_, refl, sym, ap, _∙_, subst}
+use Prim.Native.Nat.{ℕ, suc, _+_, _-_, _≤_}
+use mathlib.Core.Path.{_≡_, refl, sym, ap, _∙_}
 use mathlib.Core.List.{List, [], _∷_}
 use mathlib.Core.Logic.{_≢_}
-use mathlib.Core.Bool.{Bool, true, false, _&&_, _||_}
+use mathlib.Core.Bool.{Bool, true, false}
 use native.Mathlib.Omega.{arith}
-use lib.Dec.{eqb}
-use borrow.Author.Tests.{eq-eqb, ne-eqb}
+use borrow.Author.Tests.{ne-eqb}
 use Rattle.base.specs.Table.{put}
 use Rattle.lexer.specs.Kinds.{isName}
 use Rattle.lexer.specs.Tokens.{Token}
 use Rattle.parser.specs.declared.answer.Answer.{Answer}
 use Rattle.parser.specs.declared.answer.Answer.the-variants.{At, Bad}
-use Rattle.parser.specs.Tree.{Ty.int, Ty.boolean, Ty.intArray, Ty.class, TypeUse, Variable}
-use Rattle.parser.specs.Stream.{tokenAt, kindAt, nameAt}
-use Rattle.parser.specs.Parse.{Parsed, ok, bad, bind, typeAt, typeFrom, variableFrom, beginsVariable, variablesFrom, someParameters, parametersFrom}
+use Rattle.parser.specs.Tree.{Variable}
+use Rattle.parser.specs.Stream.{nameAt}
+use Rattle.parser.specs.Parse.{typeFrom, variableFrom, beginsVariable, variablesFrom, someParameters, parametersFrom}
 use Rattle.parser.specs.Layout.{given, rowVariables, storeVariable, storeVariables}
-use Rattle.parser.specs.Post.{kindIn, TokensIn, Met, met-ok, met-bad, Within}
-use Rattle.parser.specs.DeclarationPost.{aType, aVariable, variableList, parameterList, formals, stored, DeclPost, startsVariable}
-use Rattle.parser.proofs.Laws.{there, tokens-kept, given-put, kind-of, is, is-not, passes, at-result, bind-ok, bind-bad, at-suc, within-ok, within-more, plus-three}
-use Rattle.parser.proofs.Postfix.{name-there, small-name}
+use Rattle.parser.specs.Post.{kindIn, TokensIn, met-ok, met-bad}
+use Rattle.parser.specs.DeclarationPost.{aType, aVariable, variableList, parameterList, formals, DeclPost, startsVariable}
+use Rattle.parser.proofs.Laws.{there, tokens-kept, given-put, is, is-not, passes, bind-ok, bind-bad, at-suc, within-ok, plus-three}
+use Rattle.parser.proofs.Postfix.{name-there}
 
 -- TYPES
 module _ {n i k : ℕ} {T : List ℕ} (ek : k ≡ kindIn T n i) where

@@ -1,5 +1,5 @@
 -- What each return of the functions of Read shows, from what the lexer, the parser and the walk ensure.
-use Prim.Native.Nat.{ℕ, _+_, _≤_, _<_}
+use Prim.Native.Nat.{ℕ, _≤_, _<_}
 use mathlib.Core.Path.{_≡_, refl, sym, ap, _∙_, subst}
 use mathlib.Core.List.{List}
 use mathlib.Core.Option.{Option, none, some}
@@ -7,27 +7,24 @@ use native.Mathlib.Omega.{arith}
 use native.Mathlib.Decide.{decLt}
 use lib.ListN.{length, getD, replicate}
 use lib.Seq.{getD-take}
-use lib.Dec.{ltb}
 use borrow.Author.Tests.{lt-ltb, le-ltb}
-use Rattle.base.specs.Choice.{if_then_else_, option}
-use Rattle.base.specs.Codes.{sourceMost, sourceTooLong, notInGrammar, tooDeep}
-use Rattle.base.specs.Lists.{get-below, getD-get, get-getD}
+use Rattle.base.specs.Choice.{option}
+use Rattle.base.specs.Codes.{sourceMost, tooDeep}
+use Rattle.base.specs.Lists.{get-below, get-getD}
 use Rattle.base.specs.Outcome.{Outcome, accepted, refused}
 use Rattle.base.specs.Table.{cell, col}
-use Rattle.lexer.specs.Kinds.{isName}
 use Rattle.lexer.specs.Tokens.{Token, tokens}
 use Rattle.lexer.specs.declared.Lexed.{Lexed}
 use Rattle.lexer.specs.declared.Lexed.the-variants.{Tokens}
-use Rattle.lexer.specs.Rows.{Rows, RowOf, Answers as Lexes}
+use Rattle.lexer.specs.Rows.{Rows, Answers as Lexes}
 use Rattle.lexer.specs.RowLaws.{starts-increase, accepted-of-answer, refused-of-answer}
 use Rattle.parser.specs.declared.answer.Answer.{Answer}
 use Rattle.parser.specs.declared.answer.Answer.the-variants.{At, Bad}
 use Rattle.parser.specs.Tree.{Program}
 use Rattle.parser.specs.Stream.{startAt, tokenAt, noMore}
-use Rattle.parser.specs.Grammar.{DerivesProgram}
-use Rattle.parser.specs.Layout.{given, storeProgram}
+use Rattle.parser.specs.Layout.{given}
 use Rattle.parser.specs.Measure.{programNodes, programDeep}
-use Rattle.parser.specs.Parse.{bad, ok, parse}
+use Rattle.parser.specs.Parse.{ok, parse}
 use Rattle.parser.specs.Post.{TokensIn}
 use Rattle.parser.specs.DeclarationPost.{ProgramPost}
 use Rattle.parser.specs.Read.{Reading, positionOf, reading, readAnswer, read, tableAfter, Reads}
@@ -36,10 +33,9 @@ use Rattle.reader.specs.declared.read.Filled.{Filled}
 use Rattle.reader.specs.declared.read.Filled.the-variants.{Tree, Refused}
 use Rattle.reader.specs.declared.walk.Walked.{Walked}
 use Rattle.reader.specs.Holds.{HoldsProgram}
-use Rattle.reader.specs.Matches.{ProgramMatches}
 use Rattle.reader.specs.Filled.{matches, holds as holds-stored}
 use Rattle.reader.specs.Order.{Rising, program-order}
-use Rattle.reader.specs.ReadingLaws.{too-long, not-lexed, not-parsed, not-shallow, read-well, proper, tokens-in, ParsedTo, parsed-at, refused-at}
+use Rattle.reader.specs.ReadingLaws.{too-long, not-lexed, not-parsed, not-shallow, read-well, proper, tokens-in, parsed-at, refused-at}
 use Rattle.reader.specs.ReadPost.{Filling, Fills, GrowPost, MeasurePost, placeIn}
 use Rattle.reader.specs.WalkPost.{Found, WalksProgram, nowhere}
 

@@ -17,14 +17,14 @@ use Rattle.parser.specs.Tree.{Part.literal, Part.truth, Part.variable, Part.thi
 use Rattle.parser.specs.Tree.{Part.block, Part.conditional, Part.loop, Part.print, Part.assign, Part.assignElement, Part.noStatements, Part.sequence}
 use Rattle.parser.specs.Layout.{rowMethods, rowClasses}
 use Rattle.checker.specs.ClassTable.{Context, mainContext, contextOf, meaning, classNamed, nearestField}
-use Rattle.lookup.specs.Standing.{absent, wordAt, Lexemes, no-variables, MethodStands, MethodsStand, ClassStands, ClassesStand, rowClass, chainFrom}
+use Rattle.lookup.specs.Standing.{absent, wordAt, Lexemes, no-variables, MethodStands, MethodsStand, ClassStands, ClassesStand, rowClass, chainFrom, ListedAt}
 use Rattle.lookup.specs.Standing as Standing
 use Rattle.lookup.specs.StandingLaws.{word-in, row-there}
 use Rattle.resolver.specs.Uses.{Uses}
 use Rattle.resolver.specs.Resolving.{slotOf}
 use Rattle.resolver.specs.Changes.{uses, endOf, Changed, Within, Filled, Led, Headed, Linked}
 use Rattle.resolver.specs.Places.{held, FillPost, FieldsHeld}
-use Rattle.resolver.specs.Scoping.{ListedAt, meaningAt, NamesPost}
+use Rattle.resolver.specs.Scoping.{meaningAt, NamesPost}
 use Rattle.resolver.specs.Bodies.{LiesIn, MethodsLie, no-methods, more-methods, ClassesLie, more-classes, Means, BodyMeans, BodyPost, MethodsDone, MethodsPost, ClassPost, ClassesDone, ClassesPost, BodiesDone, BodiesPost}
 use Rattle.resolver.proofs.ChangeLaws.{unchanged, then-changed, lexemes-few, methods-kept, classes-kept, used-named, linked-used, led-used}
 

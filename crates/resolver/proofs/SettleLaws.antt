@@ -5,13 +5,12 @@ use mathlib.Core.Path.{_≡_, sym, _∙_, subst}
 use mathlib.Core.List.{List}
 use lib.ListN.{length}
 use Rattle.base.specs.Tests.{apart}
-use Rattle.parser.specs.Tree.{Program}
 use Rattle.checker.specs.Check.{Verdict, accept, refuse, refuseEndless, checking}
-use Rattle.resolver.specs.Resolving.{Prepared, Resolved, ResolvePost}
+use Rattle.resolver.specs.Resolving.{ResolvePost}
 use Rattle.typecheck.specs.declared.check.Found.{Found}
 use Rattle.typecheck.specs.declared.check.Found.the-variants.{Program as found, Refused as unfit}
-use Rattle.typecheck.specs.CheckPost.{Holding, Leaves}
-use Rattle.resolver.specs.Settling.{Accepted, Settles}
+use Rattle.typecheck.specs.CheckPost.{Leaves}
+use Rattle.resolver.specs.Settling.{Settles}
 
 module _ (s : List ℕ) (f : Found) (middle : List ℕ) (l : Leaves (checking s) f middle) where
   -- the bounds that the resolver asks for

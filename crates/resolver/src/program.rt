@@ -1,5 +1,5 @@
-// The bodies of a program. The names of a body stand between the row of its method and that of the next method or class. While the bodies of a class are resolved,
-// `slots` holds what its fields mean to them.
+// The bodies of a program. The names of a body stand between the row of its method and that of the next method or class. While the bodies of a class are
+// resolved, `slots` holds what its fields mean to them.
 use crate::fields::fill;
 use crate::names::names;
 use crate::scope::Scope;

@@ -1,6 +1,6 @@
 -- How a source ends under Run's definition, as a value that a table can list.
 use Prim.Native.Nat.{ℕ}
-use mathlib.Core.List.{List, [], _∷_, _++_, map}
+use mathlib.Core.List.{List, _++_, map}
 use lib.IntN.{ℤ}
 use Rattle.base.specs.Bytes.{bytes}
 use Rattle.lexer.specs.Bytes as Bytes

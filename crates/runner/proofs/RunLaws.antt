@@ -2,10 +2,8 @@
 use Prim.Native.Nat.{ℕ, _≤_, _<_}
 use mathlib.Core.Path.{_≡_, refl, sym, ap, _∙_, subst}
 use mathlib.Core.List.{List, List·Memᴰ}
-use mathlib.Core.Option.{none, some}
 use lib.ListN.{length, drop, replicate}
 use lib.IntN.{ℤ, pos}
-use lib.Dec.{eqb, ltb}
 use borrow.Author.Tests.{eq-eqb, ne-eqb, lt-ltb, le-ltb}
 use Rattle.base.specs.Lists.{drop-none}
 use Rattle.base.specs.Tests.{apart}
@@ -14,7 +12,6 @@ use Rattle.checker.specs.Check.{Verdict, accept, refuse, refuseEndless, checkin
 use Rattle.typecheck.specs.declared.check.Found.{Found}
 use Rattle.typecheck.specs.declared.check.Found.the-variants.{Program as found, Refused as unfit}
 use Rattle.resolver.specs.Settling.{Accepted, Settles}
-use Rattle.semantics.specs.Limits.{run}
 use Rattle.semantics.specs.Run.{Strips, Refusal, RunMeets, Runs}
 use Rattle.semantics.specs.Run as Run
 use Rattle.guarantees.specs.Accepted.{allowed}

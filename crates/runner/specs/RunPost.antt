@@ -5,11 +5,11 @@ use mathlib.Core.List.{List, _++_}
 use lib.ListN.{length, drop}
 use lib.IntN.{ℤ}
 use Rattle.checker.specs.Check.{Verdict, accept, refuse, refuseEndless, Refuses}
-use Rattle.semantics.specs.Limits.{Limits, run}
+use Rattle.semantics.specs.Limits.{run}
 use Rattle.semantics.specs.Run.{Strips, Refusal, Reports}
 use Rattle.semantics.specs.Run as Run
 use Rattle.interpreter.specs.declared.state.Bounds.{Bounds}
-use Rattle.interpreter.specs.Running.{limitsOf}
+use Rattle.interpreter.specs.Running.{limitsUnder}
 use Rattle.runner.specs.declared.run.RunAnswer.{RunAnswer}
 
 -- the code's answer as document 01 counts it
@@ -26,7 +26,7 @@ refused n p = record { number = n; position = p; steps = 0; words = 0; printed =
 -- the answers and the output strip that are right for a verdict of Check's
 abbrev pub Performs : Verdict → Bounds → (heap output : List ℤ) → Run.RunAnswer → (output′ : List ℤ) → Type 0
 Performs (accept p) b heap output a output′ =
-    Reports (run p (limitsOf b heap output)) a
-    × (output′ ≡ run p (limitsOf b heap output) .printed ++ drop (length (run p (limitsOf b heap output) .printed)) output)
+    Reports (run p (limitsUnder b heap output)) a
+    × (output′ ≡ run p (limitsUnder b heap output) .printed ++ drop (length (run p (limitsUnder b heap output) .printed)) output)
 Performs (refuse n p) b heap output a output′ = Refuses (refuse n p) (a .number) (a .position) × Refusal (a .number) (a .position) a × (output′ ≡ output)
 Performs (refuseEndless ps) b heap output a output′ = Refuses (refuseEndless ps) (a .number) (a .position) × Refusal (a .number) (a .position) a × (output′ ≡ output)

@@ -1,17 +1,16 @@
 -- Document 01, "What each operation refuses", Run: the whole operation as a definition.
 use Prim.Native.Nat.{ℕ}
 use mathlib.Core.Path.{_≡_}
-use mathlib.Core.List.{List, [], _∷_, _++_}
-use mathlib.Core.Bool.{Bool, _||_}
+use mathlib.Core.List.{List, [], _++_}
+use mathlib.Core.Bool.{_||_}
 use mathlib.Core.Option.{Option, none, some}
 use lib.ListN.{length, drop, replicate}
 use lib.Dec.{eqb, ltb}
 use lib.IntN.{ℤ, pos}
 use Rattle.base.specs.Choice.{if_then_else_, option}
 use Rattle.base.specs.Codes.{tableTooShort, tableLeast, callLimitOutOfRange, callsMost, heapTooLong, heapMost}
-use Rattle.parser.specs.Tree.{Program}
 use Rattle.checker.specs.Check.{Verdict, accept, refuse, refuseEndless, Refuses, checking}
-use Rattle.semantics.specs.Limits.{Limits, Ending, ended, Report, run}
+use Rattle.semantics.specs.Limits.{Limits, ended, Report, run}
 
 pub record RunAnswer : Type 0 where
   pub number : ℕ

@@ -14,14 +14,14 @@ use Rattle.checker.specs.Declarations.{textOf, variables}
 use Rattle.checker.specs.Check.{body, bodies, classBodies, allBodies}
 use Rattle.lookup.specs.declared.answer.Judged.{Judged}
 use Rattle.lookup.specs.declared.answer.Judged.the-variants.{Fine, Refused}
-use Rattle.lookup.specs.Standing.{absent, wordAt, Lexemes, Spells, no-name, a-name, VariablesStand, no-variables, more-variables, MethodStands, MethodsStand, more-methods, ClassStands, ClassesStand, more-classes, World}
+use Rattle.lookup.specs.Standing.{absent, wordAt, Lexemes, Spells, no-name, a-name, VariablesStand, no-variables, more-variables, MethodStands, MethodsStand, more-methods, ClassStands, ClassesStand, more-classes, World, ListedAt}
 use Rattle.lookup.specs.StandingLaws.{word-in, row-there, name-word}
 use Rattle.lookup.specs.Lookups.{TypeOf, Many, many-none, many-more, Counts}
 use Rattle.lookup.specs.Answers.{settled, goes-on, stops}
 use Rattle.declarations.specs.Judgements.{VariablesJudged}
 use Rattle.declarations.specs.Indexing.{Ready}
 use Rattle.bodies.specs.declared.scope.Scope.{Scope}
-use Rattle.bodies.specs.Scoping.{ListedAt, InScope}
+use Rattle.bodies.specs.Scoping.{InScope}
 use Rattle.bodies.specs.ExpressionPost.{OperandPost}
 use Rattle.bodies.specs.StatementPost.{StatementPost, ListPost}
 use Rattle.typecheck.specs.MethodPost.{CarriedJudged, BodyJudged, MethodsJudged, ClassesJudged, BodiesJudged}

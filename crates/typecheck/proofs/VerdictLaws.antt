@@ -6,6 +6,7 @@ use mathlib.Core.List.{List, [], _∷_, List·Memᴰ, List·Memᴰ·head}
 use lib.ListN.{length, replicate}
 use borrow.Author.Tests.{lt-ltb, le-ltb}
 use Rattle.base.specs.Codes.{tableLeast, chainEndless}
+use Rattle.base.specs.Lists.{getD-replicate-same}
 use Rattle.base.specs.Outcome.{Outcome, accepted, refused, _>>=_}
 use Rattle.base.specs.Tests.{apart}
 use Rattle.lexer.specs.Tokens.{Token}
@@ -24,6 +25,7 @@ use Rattle.lookup.specs.Standing.{absent, wordAt, Lexemes, ClassesStand, no-cla
 use Rattle.lookup.specs.StandingLaws.{word-in, row-there}
 use Rattle.lookup.specs.Lookups.{Many, many-none, many-more, Counts}
 use Rattle.lookup.specs.Answers.{settled, settled-fine, settled-refused, goes-on, stops}
+use Rattle.declarations.specs.Marking.{Below}
 use Rattle.declarations.specs.Judgements.{ClassesAt, ParentsJudged, endlessAnswer, ChainsJudged, DeclarationsJudged}
 use Rattle.declarations.specs.Indexing.{Ready, IndexMade}
 use Rattle.typecheck.specs.declared.check.Found.{Found}
@@ -31,6 +33,10 @@ use Rattle.typecheck.specs.declared.check.Found.the-variants.{Program as
 use Rattle.typecheck.specs.declared.check.CheckAnswer.{CheckAnswer}
 use Rattle.typecheck.specs.MethodPost.{BodiesJudged}
 use Rattle.typecheck.specs.CheckPost.{Holding, Leaves, ContentsJudged, Tells, chainsOn, ChainedJudged, IndexedJudged, TreeJudged, answerOf}
+
+-- before the first list of members no name has a stamp
+pub zeros-below : (m : ℕ) → Below 1 (replicate m 0)
+zeros-below m = record { words = λ i. omega (arith, getD-replicate-same {A = ℕ} m i 0) }
 
 -- the classes of a ready table, from the first on
 classes-at : {tab : List ℕ} {n : ℕ} {ts : List Token} {p : Program} → Ready tab n ts p → {first : ℕ} → rowClasses (p .classes) ≡ first → ClassesAt tab n ts (p .classes) n first

@@ -8,6 +8,7 @@ use declarations::index::index;
 use lookup::answer::Judged;
 use lookup::member::count;
 use lookup::rows::word;
+use members::grow::build;
 use reader::read::Filled;
 use reader::read::fill;
 ghost use Prim.Native.Nat.{_≤_, _<_};
@@ -29,24 +30,28 @@ pub struct CheckAnswer {
     pub classes: usize,
 }
 
-// Declarations and bodies.
+// Declarations and bodies, by an index of what the classes have.
 fn contents(table: &[u32], n: usize, classes: usize, first: usize) -> Judged
     requires { ⌜ Walkable (now table) n ⌝ }
     ensures { λ r. ⌜ ContentsJudged (now (table .entry)) n classes first r ⌝ }
 {
-    let d = declarations(table, n, classes, n, first);
+    let mut index = [0u32; 20480];
+    build(table, &mut index, n, classes);
+    let mut marks = [0u32; 2048];
+    let d = declarations(table, &index, &mut marks, n, classes, n, 1, first);
     match d {
-        Judged::Fine(_) => bodies(table, n, classes),
+        Judged::Fine(_) => bodies(table, &index, n, classes),
         Judged::Refused(number, at) => Judged::Refused(number, at),
     }
 }
 
 // Chains, then what the classes hold.
 fn chained(table: &[u32], n: usize, classes: usize, first: usize) -> Judged
-    requires { ⌜ Walkable (now table) n ⌝ }
+    requires { ⌜ Walkable (now table) n × (classes ≤ 2048) ⌝ }
     ensures { λ r. ⌜ ChainedJudged (now (table .entry)) n classes first r ⌝ }
 {
-    let c = chains(table, classes, n, first);
+    let mut heights = [0u32; 2048];
+    let c = chains(table, &mut heights, classes, n, first);
     match c {
         Judged::Fine(_) => contents(table, n, classes, first),
         Judged::Refused(number, at) => Judged::Refused(number, at),

@@ -8,8 +8,7 @@ use lookup::member::count;
 use lookup::rows::ABSENT;
 use lookup::rows::word;
 use lookup::types::type_of;
-use members::grow::build;
-ghost use Prim.Native.Nat.{_≤_, _<_};
+ghost use Prim.Native.Nat.{_<_};
 ghost use Rattle.reader.specs.WalkPost.{Walkable};
 ghost use Rattle.members.specs.Growth.{Indexed};
 ghost use Rattle.bodies.specs.Scoping.{Judgeable};
@@ -115,7 +114,7 @@ fn all(table: &[u32], index: &[u32], n: usize, classes: usize, left: usize, row:
 }
 
 // All bodies, main first: its statement stands in row 14.
-fn program(table: &[u32], index: &[u32], n: usize, classes: usize) -> Judged
+pub fn bodies(table: &[u32], index: &[u32], n: usize, classes: usize) -> Judged
     requires { ⌜ Walkable (now table) n × Indexed (now table) n (now index) ⌝ }
     ensures { λ r. ⌜ BodiesJudged (now (table .entry)) n classes r ⌝ }
 {
@@ -131,14 +130,4 @@ fn program(table: &[u32], index: &[u32], n: usize, classes: usize) -> Judged
         Judged::Fine(_) => all(table, index, n, classes, n, word(table, 6, 0)),
         Judged::Refused(number, at) => Judged::Refused(number, at),
     }
-}
-
-// All bodies, by an index of what the classes have.
-pub fn bodies(table: &[u32], n: usize, classes: usize) -> Judged
-    requires { ⌜ Walkable (now table) n ⌝ }
-    ensures { λ r. ⌜ BodiesJudged (now (table .entry)) n classes r ⌝ }
-{
-    let mut index = [0u32; 20480];
-    build(table, &mut index, n, classes);
-    program(table, &index, n, classes)
 }

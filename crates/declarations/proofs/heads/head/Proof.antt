@@ -16,12 +16,27 @@ rest-requires c κs = search needs
 enum-known-o : tie.Need-enum-known-o
 enum-known-o c = search needs
 
+same-length : tie.Need-same-length
+same-length c = search needs
+
 returns : tie.Need-returns
 returns c = search head-next
+
+same-length-2 : tie.Need-same-length-2
+same-length-2 c = search needs
 
 returns-2 : tie.Need-returns-2
 returns-2 c = search head-stop
 
 pub head-spec : {M : Type 1} → statement M
 head-spec =
-    tie.close (tie.spec opening-requires enum-told rest-requires enum-known-o returns returns-2)
+    tie.close
+    (tie.spec
+    opening-requires
+    enum-told
+    rest-requires
+    enum-known-o
+    same-length
+    returns
+    same-length-2
+    returns-2)

@@ -13,14 +13,20 @@ is-known-requires c κs = search needs
 word-requires-2 : tie.Need-word-requires-2
 word-requires-2 c κs = search needs
 
-repeated-requires : tie.Need-repeated-requires
-repeated-requires c κs = search needs
+mark-requires : tie.Need-mark-requires
+mark-requires c κs = search needs
 
 word-requires-3 : tie.Need-word-requires-3
 word-requires-3 c κs = search needs
 
+same-length : tie.Need-same-length
+same-length c = search needs
+
 returns : tie.Need-returns
 returns c = search opening-repeated
+
+same-length-2 : tie.Need-same-length-2
+same-length-2 c = search needs
 
 returns-2 : tie.Need-returns-2
 returns-2 c = search opening-fine
@@ -38,9 +44,11 @@ opening-spec =
     word-requires
     is-known-requires
     word-requires-2
-    repeated-requires
+    mark-requires
     word-requires-3
+    same-length
     returns
+    same-length-2
     returns-2
     word-requires-4
     returns-3)

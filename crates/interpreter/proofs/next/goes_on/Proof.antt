@@ -3,7 +3,6 @@ use Rattle.interpreter.proofs.next.goes_on.Statement.{statement}
 use Rattle.interpreter.proofs.next.goes_on.Tie as tie
 use Rattle.interpreter.proofs.next.goes_on.Reads as reads
 use Rattle.interpreter.proofs.next.goes_on.Lts as lts
-use borrow.Author.Needs.{needs}
 use Rattle.interpreter.proofs.NextLaws.{goes-index, goes-again, goes-element}
 
 returns : tie.Need-returns

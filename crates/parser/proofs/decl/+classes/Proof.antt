@@ -10,12 +10,10 @@ use Rattle.parser.proofs.table.kind.Reads as kind-reads
 use Rattle.parser.proofs.table.link.Reads as link-reads
 use Rattle.parser.proofs.decl.+classes.{statement}
 use Rattle.parser.proofs.decl.+classes.Tie.{close}
-use Prim.Native.Nat.{_+_, _*_, _-_}
-use mathlib.Core.Path.{refl, sym, _∙_}
+use Prim.Native.Nat.{_+_, _-_}
 use borrow.Author.Needs.{needs}
 use native.Mathlib.Omega.{arith}
-use lib.Dec.{lit<}
-use Rattle.parser.proofs.Laws.{there, within-ok}
+use Rattle.parser.proofs.Laws.{within-ok}
 use Rattle.parser.proofs.Methods.{classes-end, classes-bad, classes-more, classes-more-bad}
 
 abbrev μ-classes : Measures 1 classes-kinds.ps ℕ

@@ -10,8 +10,7 @@ use Rattle.parser.proofs.table.kind.Reads as kind-reads
 use Rattle.parser.proofs.table.link.Reads as link-reads
 use Rattle.parser.proofs.decl.+methods.{statement}
 use Rattle.parser.proofs.decl.+methods.Tie.{close}
-use Prim.Native.Nat.{_+_, _*_, _-_}
-use mathlib.Core.Path.{refl, sym, _∙_}
+use Prim.Native.Nat.{_+_, _-_}
 use borrow.Author.Needs.{needs}
 use native.Mathlib.Omega.{arith}
 use lib.Dec.{lit<}

@@ -15,7 +15,7 @@ use Rattle.parser.proofs.table.link.Reads as link-reads
 use Rattle.parser.proofs.decl.+some_variables+variables.{statement}
 use Rattle.parser.proofs.decl.+some_variables+variables.Tie.{close}
 use Prim.Native.Nat.{_+_, _*_, _-_}
-use mathlib.Core.Path.{refl, sym, _∙_}
+use mathlib.Core.Path.{sym, _∙_}
 use borrow.Author.Needs.{needs}
 use native.Mathlib.Omega.{arith}
 use lib.Dec.{lit<}

@@ -1,5 +1,4 @@
 -- `class_row` meets its contract: three words are written.
-use mathlib.Core.Path.{ap, _∙_}
 use Rattle.parser.specs.Layout.{classRow}
 use borrow.Author.Needs.{needs}
 use Rattle.parser.proofs.decl.class_row.Statement.{statement}

@@ -1,6 +1,5 @@
 -- `returned` meets its contract: each return is a law of `Methods`.
 use native.Mathlib.Omega.{arith}
-use Rattle.parser.specs.Parse.{methodEnd}
 use Rattle.parser.proofs.Laws.{within-ok}
 use Rattle.parser.proofs.Methods.{returned-bad, returned-end, returned-ok}
 use borrow.Author.Needs.{needs}

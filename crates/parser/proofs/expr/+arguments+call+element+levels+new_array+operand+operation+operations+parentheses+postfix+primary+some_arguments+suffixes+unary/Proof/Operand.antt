@@ -1,5 +1,5 @@
 -- The answers of `operand`.
-use Prim.Native.Nat.{ℕ, _<_}
+use Prim.Native.Nat.{ℕ}
 use Rattle.parser.proofs.expr.operand.Reads as operand
 use Rattle.parser.proofs.expr.+arguments+call+element+levels+new_array+operand+operation+operations+parentheses+postfix+primary+some_arguments+suffixes+unary.Lts-operand as operand-lts
 use borrow.Author.Needs.{needs}

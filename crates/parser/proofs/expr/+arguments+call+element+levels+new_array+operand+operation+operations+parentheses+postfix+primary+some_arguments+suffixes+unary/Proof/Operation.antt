@@ -1,5 +1,5 @@
 -- The answers of `operation`.
-use Prim.Native.Nat.{ℕ, _<_}
+use Prim.Native.Nat.{ℕ}
 use Rattle.parser.proofs.expr.operation.Reads as operation
 use Rattle.parser.proofs.expr.+arguments+call+element+levels+new_array+operand+operation+operations+parentheses+postfix+primary+some_arguments+suffixes+unary.Lts-operation as operation-lts
 use borrow.Author.Needs.{needs}

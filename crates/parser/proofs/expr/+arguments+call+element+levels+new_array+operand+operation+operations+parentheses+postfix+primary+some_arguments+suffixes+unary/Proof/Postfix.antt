@@ -1,5 +1,5 @@
 -- The answers of `postfix`.
-use Prim.Native.Nat.{ℕ, _<_}
+use Prim.Native.Nat.{ℕ}
 use Rattle.parser.proofs.expr.postfix.Reads as postfix
 use Rattle.parser.proofs.expr.+arguments+call+element+levels+new_array+operand+operation+operations+parentheses+postfix+primary+some_arguments+suffixes+unary.Lts-postfix as postfix-lts
 use mathlib.Core.Path.{sym, _∙_}

@@ -1,5 +1,5 @@
 -- The answers of `primary`.
-use Prim.Native.Nat.{ℕ, _<_}
+use Prim.Native.Nat.{ℕ}
 use Rattle.parser.proofs.expr.primary.Reads as primary
 use Rattle.parser.proofs.expr.+arguments+call+element+levels+new_array+operand+operation+operations+parentheses+postfix+primary+some_arguments+suffixes+unary.Lts-primary as primary-lts
 use borrow.Author.Needs.{needs}

@@ -1,5 +1,5 @@
 -- The answers of `list`.
-use Prim.Native.Nat.{ℕ, _<_}
+use Prim.Native.Nat.{ℕ}
 use Rattle.parser.proofs.stmt.list.Reads as list
 use Rattle.parser.proofs.stmt.+block+branches+conditional+list+repeated+single+while_loop.Lts-list as list-lts
 use borrow.Author.Needs.{needs}

@@ -1,5 +1,5 @@
 -- The answers of `repeated`.
-use Prim.Native.Nat.{ℕ, _<_}
+use Prim.Native.Nat.{ℕ}
 use Rattle.parser.proofs.stmt.repeated.Reads as repeated
 use Rattle.parser.proofs.stmt.+block+branches+conditional+list+repeated+single+while_loop.Lts-repeated as repeated-lts
 use borrow.Author.Needs.{needs}

@@ -1,7 +1,7 @@
 -- Each return is a law of `BodyLaws`.
 use borrow.Author.Needs.{needs}
-use Rattle.typecheck.proofs.method.program.Statement.{statement}
-use Rattle.typecheck.proofs.method.program.Tie as tie
+use Rattle.typecheck.proofs.method.bodies.Statement.{statement}
+use Rattle.typecheck.proofs.method.bodies.Tie as tie
 use Rattle.typecheck.proofs.BodyLaws.{bodies-classes, bodies-main}
 
 single-requires : tie.Need-single-requires
@@ -25,7 +25,7 @@ returns c = search bodies-classes
 returns-2 : tie.Need-returns-2
 returns-2 c = search bodies-main
 
-pub program-spec : {M : Type 1} → statement M
-program-spec =
+pub bodies-spec : {M : Type 1} → statement M
+bodies-spec =
     tie.close
     (tie.spec single-requires enum-told word-requires all-requires enum-known-m returns returns-2)

@@ -1,0 +1,42 @@
+// How many classes a chain has, in an array by the number of a class's name, so that a climb stops at the first class that was climbed before: 0 where that
+// is not known yet.
+use lookup::chain::above;
+use lookup::rows::ABSENT;
+use lookup::rows::word;
+ghost use Prim.Native.Nat.{_≤_};
+ghost use lib.ListN.{length};
+ghost use Rattle.declarations.specs.Climbs.{HeightsRight, Climbed};
+
+// How many classes the chain of c has, 0 where they are more than `left` or never end.
+pub fn height(table: &[u32], heights: &mut [u32], left: usize, c: usize) -> usize
+    requires { ⌜ (16384 ≤ length (now table)) × (2048 ≤ length (now heights)) × (left ≤ 2048) × HeightsRight (now table) (now heights) ⌝ }
+    ensures { λ r. ⌜ Climbed (now (table .entry)) left c (now (heights .exit)) r ⌝ }
+{
+    if left == 0 {
+        return 0;
+    }
+    if ABSENT <= c {
+        return 0;
+    }
+    let h = heights[c] as usize;
+    if left < h {
+        return 0;
+    }
+    if h != 0 {
+        return h;
+    }
+    let class = word(table, 7, c);
+    if ABSENT <= class {
+        return 1;
+    }
+    let p = above(table, class);
+    if ABSENT <= p {
+        return 1;
+    }
+    let q = height(table, heights, left - 1, p);
+    if q == 0 {
+        return 0;
+    }
+    heights[c] = (q + 1) as u32;
+    q + 1
+}
