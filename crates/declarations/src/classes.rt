@@ -9,7 +9,7 @@ use lookup::rows::word;
 ghost use Prim.Native.Nat.{_+_, _*_, _≤_};
 ghost use lib.ListN.{length};
 ghost use Rattle.reader.specs.WalkPost.{Walkable};
-ghost use Rattle.members.specs.Growth.{Indexed};
+ghost use Rattle.members.specs.Growth.{MembersIndexed};
 ghost use Rattle.declarations.specs.Marking.{Below};
 ghost use Rattle.declarations.specs.Climbs.{HeightsRight};
 ghost use Rattle.declarations.specs.Judgements.{OrphanAt, ParentsJudged, ChainsJudged, MembersJudged, DeclarationsJudged};
@@ -70,7 +70,7 @@ fn members(
     stamp: u32,
     class: usize,
 ) -> Judged
-    requires { ⌜ Walkable (now table) n × Indexed (now table) n (now index) × (2048 ≤ length (now marks)) × Below stamp (now marks) × (stamp ≤ 4096) ⌝ }
+    requires { ⌜ Walkable (now table) n × MembersIndexed (now table) n (now index) × (2048 ≤ length (now marks)) × Below stamp (now marks) × (stamp ≤ 4096) ⌝ }
     ensures { λ r. ⌜ MembersJudged (now (table .entry)) n classes stamp class (now (marks .exit)) r ⌝ }
 {
     let first = word(table, 4, class);
@@ -106,7 +106,7 @@ pub fn declarations(
     stamp: u32,
     row: usize,
 ) -> Judged
-    requires { ⌜ Walkable (now table) n × Indexed (now table) n (now index) × (2048 ≤ length (now marks)) × Below stamp (now marks)
+    requires { ⌜ Walkable (now table) n × MembersIndexed (now table) n (now index) × (2048 ≤ length (now marks)) × Below stamp (now marks)
         × (stamp + 2 * left ≤ 4098) ⌝ }
     ensures { λ r. ⌜ DeclarationsJudged (now (table .entry)) n classes left row r ⌝ }
 {

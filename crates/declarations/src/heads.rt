@@ -11,7 +11,7 @@ use members::find::method;
 ghost use Prim.Native.Nat.{_≤_};
 ghost use lib.ListN.{length};
 ghost use Rattle.reader.specs.WalkPost.{Walkable};
-ghost use Rattle.members.specs.Growth.{Indexed};
+ghost use Rattle.members.specs.Growth.{MembersIndexed};
 ghost use Rattle.declarations.specs.Judgements.{TypesCompared, RedeclaresAt, CompatibleAt, OpeningJudged, RestJudged, HeadJudged, HeadsJudged};
 
 // Whether two lists of parameters have equal types.
@@ -56,7 +56,7 @@ fn is_compatible(
     parent: usize,
     row: usize,
 ) -> bool
-    requires { ⌜ Walkable (now table) n × Indexed (now table) n (now index) ⌝ }
+    requires { ⌜ Walkable (now table) n × MembersIndexed (now table) n (now index) ⌝ }
     ensures { λ r. ⌜ CompatibleAt (now (table .entry)) n classes parent row r ⌝ }
 {
     if classes == 0 {
@@ -86,7 +86,7 @@ fn opening(table: &[u32], marks: &mut [u32], n: usize, stamp: u32, row: usize) -
 
 // The parameters, and last 26.
 fn rest(table: &[u32], index: &[u32], n: usize, classes: usize, parent: usize, row: usize) -> Judged
-    requires { ⌜ Walkable (now table) n × Indexed (now table) n (now index) ⌝ }
+    requires { ⌜ Walkable (now table) n × MembersIndexed (now table) n (now index) ⌝ }
     ensures { λ r. ⌜ RestJudged (now (table .entry)) n classes parent row r ⌝ }
 {
     let first = word(table, 4, row);
@@ -113,7 +113,7 @@ fn head(
     stamp: u32,
     row: usize,
 ) -> Judged
-    requires { ⌜ Walkable (now table) n × Indexed (now table) n (now index) × (2048 ≤ length (now marks)) ⌝ }
+    requires { ⌜ Walkable (now table) n × MembersIndexed (now table) n (now index) × (2048 ≤ length (now marks)) ⌝ }
     ensures { λ r. ⌜ HeadJudged (now (table .entry)) n classes parent stamp row (now (marks .entry)) (now (marks .exit)) r ⌝ }
 {
     let o = opening(table, marks, n, stamp, row);
@@ -135,7 +135,7 @@ pub fn heads(
     stamp: u32,
     row: usize,
 ) -> Judged
-    requires { ⌜ Walkable (now table) n × Indexed (now table) n (now index) × (2048 ≤ length (now marks)) ⌝ }
+    requires { ⌜ Walkable (now table) n × MembersIndexed (now table) n (now index) × (2048 ≤ length (now marks)) ⌝ }
     ensures { λ r. ⌜ HeadsJudged (now (table .entry)) n classes left parent stamp row (now (marks .entry)) (now (marks .exit)) r ⌝ }
 {
     if left == 0 {

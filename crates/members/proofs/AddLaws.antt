@@ -28,7 +28,7 @@ module _ (tab : List ℕ) (bit left row root top : ℕ) (ix : List ℕ) (small :
     small = small;
     before = λ i h. refl;
     after = λ i h. refl;
-    says = λ h c. record { closed = c; small = small; mine = λ x l. rw (f x) refl; others = λ b x l n m. refl };
+    says = λ h c. record { closed = c; mine = λ x l. rw (f x) refl; others = λ b x l n m. refl };
   }
 
   pub add-end : left ≡ 0 → AddPost tab bit left row root top ix (record { root = root; top = top }) ix
@@ -87,7 +87,6 @@ module _ (tab : List ℕ) (bit left row root top name next : ℕ) (ix ix′ ix�
   entered-says : (f : Grown) → f .root ≡ g .top → f .top ≡ g .top + 24 → Closed ix top 12 root → Added tab bit (left - 1) next root top ix g ix′ → Added tab bit left row root top ix f last
   entered-says f r t c d = record {
     closed = rw (r, t) (entered-closed ix′ 12 (g .root) (g .top) (2 * name + bit) (row + 1) (omega arith) long′ (d .closed));
-    small = omega (arith, r);
     mine = λ x l. rw r (mine (d .closed) x l (d .mine x l));
     others = λ b x l n m. rw r (kept (d .closed) (2 * x + b) (omega arith) (λ e. n (omega (arith, e))) ∙ d .others b x l n m);
   }

@@ -22,7 +22,7 @@ use Rattle.lookup.specs.StandingLaws.{word-in, word-out, name-word, row-there, 
 use Rattle.lookup.specs.ChainLaws.{chain-none-left, chain-none, chain-some}
 use Rattle.lookup.specs.Lookups.{TypeOf, Typed, untyped, typed, FieldTyped, rowFound, FindsMethod}
 use Rattle.members.specs.Trie.{get}
-use Rattle.members.specs.Growth.{firstOf, memberOf, upwards, heightOf, rootOf, Serves, Indexed, HasPost, EntryPost}
+use Rattle.members.specs.Growth.{firstOf, memberOf, upwards, heightOf, rootOf, Serves, MembersIndexed, HasPost, EntryPost}
 use Rattle.members.proofs.MemberLaws.{member-none, member-here, member-on, upwards-none, upwards-next}
 
 -- ALONG A LIST
@@ -166,7 +166,7 @@ module _ {ix : List ℕ} {left c x : ℕ} {b : Bool} (has : HasPost ix left c x 
   pub method-key : 2 * x + 1 < 18446744073709551616
   method-key = omega (arith, has .says taken .1)
 
-module _ {tab ix : List ℕ} {n left c x : ℕ} {b : Bool} (i : Indexed tab n ix) (has : HasPost ix left c x b) (taken : b ≡ true) where
+module _ {tab ix : List ℕ} {n left c x : ℕ} {b : Bool} (i : MembersIndexed tab n ix) (has : HasPost ix left c x b) (taken : b ≡ true) where
   served : Serves tab n left c (rootOf ix c) ix
   served = let h = has .says taken in i .serves c (h .0) (h .2) left (h .3)
 

@@ -11,7 +11,7 @@ use Rattle.base.specs.Lists.{getD-replicate-same}
 use Rattle.lookup.specs.Standing.{absent, wordAt}
 use Rattle.lookup.specs.StandingLaws.{word-out}
 use Rattle.members.specs.Trie.{Closed, Same}
-use Rattle.members.specs.Growth.{firstOf, memberOf, upwards, heightOf, rootOf, Serves, Entered, Growing, Indexed, Added, AddPost, OwnPost}
+use Rattle.members.specs.Growth.{firstOf, memberOf, upwards, heightOf, rootOf, Serves, Entered, Growing, MembersIndexed, Added, AddPost, OwnPost}
 use Rattle.members.specs.declared.grow.Grown.{Grown}
 use Rattle.members.proofs.MemberLaws.{upwards-none, upwards-next}
 use Rattle.members.proofs.TrieLaws.{closed-later, closed-same, get-same, empty-closed, empty-get}
@@ -191,7 +191,7 @@ module _ {tab : List ℕ} {n c row p q : ℕ} (is : row ≡ wordAt tab 7 c) (the
 
 -- ALL, BUILD
 
-pub growing-indexed : {tab : List ℕ} {n top : ℕ} {ix : List ℕ} → Growing tab n top ix → Indexed tab n ix
+pub growing-indexed : {tab : List ℕ} {n top : ℕ} {ix : List ℕ} → Growing tab n top ix → MembersIndexed tab n ix
 growing-indexed g = record { serves = λ c h t. g .entered c h t .serves }
 
 pub growing-none : {tab : List ℕ} {n : ℕ} {ix : List ℕ} → (k : ℕ) → k ≡ 20480 → ix ≡ replicate k 0 → Growing tab n 2 ix

@@ -62,7 +62,7 @@ pub record Growing (tab : List ℕ) (n top : ℕ) (ix : List ℕ) : Type 0 where
   pub second : getD ix 1 0 ≡ 0
   pub entered : (c : ℕ) → c < 2048 → 0 < heightOf ix c → Entered tab n top c ix
 
-pub record Indexed (tab : List ℕ) (n : ℕ) (ix : List ℕ) : Type 0 where
+pub record MembersIndexed (tab : List ℕ) (n : ℕ) (ix : List ℕ) : Type 0 where
   pub serves : (c : ℕ) → c < 2048 → 0 < heightOf ix c → (left : ℕ) → heightOf ix c ≤ left → Serves tab n left c (rootOf ix c) ix
 
 -- MAKING IT
@@ -70,7 +70,6 @@ pub record Indexed (tab : List ℕ) (n : ℕ) (ix : List ℕ) : Type 0 where
 -- members entered under 2 times their name and `bit`: keys of the other kind keep their words, and what was written before stays
 pub record Added (tab : List ℕ) (bit left row root top : ℕ) (ix : List ℕ) (r : Grown) (ix′ : List ℕ) : Type 0 where
   pub closed : Closed ix′ (r .top) 12 (r .root)
-  pub small : r .root < 4294967296
   pub mine : (x : ℕ) → x < 2048 → get ix′ 12 (r .root) (2 * x + bit) ≡ firstOf (memberOf tab left row x) (get ix 12 root (2 * x + bit))
   pub others : (b x : ℕ) → b < 2 → (b ≡ bit → ⊥) → x < 2048 → get ix′ 12 (r .root) (2 * x + b) ≡ get ix 12 root (2 * x + b)
 

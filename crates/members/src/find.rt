@@ -13,7 +13,7 @@ use lookup::types::type_of;
 ghost use Prim.Native.Nat.{_<_};
 ghost use Rattle.reader.specs.WalkPost.{Walkable};
 ghost use Rattle.lookup.specs.Lookups.{FieldTyped, FindsMethod};
-ghost use Rattle.members.specs.Growth.{Indexed, HasPost, EntryPost};
+ghost use Rattle.members.specs.Growth.{MembersIndexed, HasPost, EntryPost};
 
 // Whether the index has the class whose name has the number c, with no more than `left` classes upwards, for names by the number x.
 fn has(index: &[u32], left: usize, c: usize, x: usize) -> bool
@@ -42,7 +42,7 @@ fn entry(index: &[u32], c: usize, k: usize) -> usize
 
 // The type of the nearest field of a name upwards from c, `left` classes at most.
 pub fn field(table: &[u32], index: &[u32], n: usize, left: usize, c: usize, x: usize) -> usize
-    requires { ⌜ Walkable (now table) n × Indexed (now table) n (now index) ⌝ }
+    requires { ⌜ Walkable (now table) n × MembersIndexed (now table) n (now index) ⌝ }
     ensures { λ r. ⌜ FieldTyped (now (table .entry)) n left c x r ⌝ }
 {
     if has(index, left, c, x) {
@@ -57,7 +57,7 @@ pub fn field(table: &[u32], index: &[u32], n: usize, left: usize, c: usize, x: u
 
 // The row of the first method of a name in the nearest class upwards from c, `left` classes at most, that has one.
 pub fn method(table: &[u32], index: &[u32], n: usize, left: usize, c: usize, m: usize) -> usize
-    requires { ⌜ Walkable (now table) n × Indexed (now table) n (now index) ⌝ }
+    requires { ⌜ Walkable (now table) n × MembersIndexed (now table) n (now index) ⌝ }
     ensures { λ r. ⌜ FindsMethod (now (table .entry)) n left c m r ⌝ }
 {
     if has(index, left, c, m) {

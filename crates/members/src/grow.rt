@@ -10,7 +10,7 @@ ghost use mathlib.Core.Path.{_≡_};
 ghost use Prim.Native.Nat.{_≤_, _<_};
 ghost use lib.ListN.{length, replicate};
 ghost use Rattle.reader.specs.WalkPost.{Walkable};
-ghost use Rattle.members.specs.Growth.{Growing, AddPost, OwnPost, Indexed};
+ghost use Rattle.members.specs.Growth.{Growing, AddPost, OwnPost, MembersIndexed};
 
 // Words for nodes, of which every declaration with its three tokens or more takes 24; after them the heights and the roots, by the number of a class's name.
 pub const NODES: usize = 16384;
@@ -133,7 +133,7 @@ fn all(
     top: usize,
 )
     requires { ⌜ Walkable (now table) n × Growing (now table) n top (now index) ⌝ }
-    ensures { λ _. ⌜ Indexed (now (table .entry)) n (now (index .exit)) ⌝ }
+    ensures { λ _. ⌜ MembersIndexed (now (table .entry)) n (now (index .exit)) ⌝ }
 {
     if left == 0 {
         return;
@@ -148,7 +148,7 @@ fn all(
 // The index of all classes. The first node is empty: its words lead to itself, and its keys have word 0.
 pub fn build(table: &[u32], index: &mut [u32], n: usize, classes: usize)
     requires { ⌜ Walkable (now table) n × (now index ≡ replicate 20480 0) ⌝ }
-    ensures { λ _. ⌜ Indexed (now (table .entry)) n (now (index .exit)) ⌝ }
+    ensures { λ _. ⌜ MembersIndexed (now (table .entry)) n (now (index .exit)) ⌝ }
 {
     all(table, index, n, classes, n, word(table, 6, 0), 2);
 }

@@ -10,7 +10,7 @@ use lookup::rows::word;
 use lookup::types::type_of;
 ghost use Prim.Native.Nat.{_<_};
 ghost use Rattle.reader.specs.WalkPost.{Walkable};
-ghost use Rattle.members.specs.Growth.{Indexed};
+ghost use Rattle.members.specs.Growth.{MembersIndexed};
 ghost use Rattle.bodies.specs.Scoping.{Judgeable};
 ghost use Rattle.typecheck.specs.MethodPost.{CarriedJudged, BodyJudged, MethodsJudged, ClassesJudged, BodiesJudged};
 
@@ -31,7 +31,7 @@ fn carried(table: &[u32], index: &[u32], s: Scope, row: usize) -> Judged
 
 // The body of a method in the class whose name has the number `owner`.
 fn body(table: &[u32], index: &[u32], n: usize, classes: usize, owner: usize, row: usize) -> Judged
-    requires { ⌜ Walkable (now table) n × Indexed (now table) n (now index) × (row < 4294967296) ⌝ }
+    requires { ⌜ Walkable (now table) n × MembersIndexed (now table) n (now index) × (row < 4294967296) ⌝ }
     ensures { λ r. ⌜ BodyJudged (now (table .entry)) n classes owner row r ⌝ }
 {
     let parameters = word(table, 4, row);
@@ -63,7 +63,7 @@ fn methods(
     owner: usize,
     row: usize,
 ) -> Judged
-    requires { ⌜ Walkable (now table) n × Indexed (now table) n (now index) ⌝ }
+    requires { ⌜ Walkable (now table) n × MembersIndexed (now table) n (now index) ⌝ }
     ensures { λ r. ⌜ MethodsJudged (now (table .entry)) n classes left owner row r ⌝ }
 {
     if left == 0 {
@@ -89,7 +89,7 @@ fn methods(
 
 // The bodies of the classes from a row on.
 fn all(table: &[u32], index: &[u32], n: usize, classes: usize, left: usize, row: usize) -> Judged
-    requires { ⌜ Walkable (now table) n × Indexed (now table) n (now index) ⌝ }
+    requires { ⌜ Walkable (now table) n × MembersIndexed (now table) n (now index) ⌝ }
     ensures { λ r. ⌜ ClassesJudged (now (table .entry)) n classes left row r ⌝ }
 {
     if left == 0 {
@@ -115,7 +115,7 @@ fn all(table: &[u32], index: &[u32], n: usize, classes: usize, left: usize, row:
 
 // All bodies, main first: its statement stands in row 14.
 pub fn bodies(table: &[u32], index: &[u32], n: usize, classes: usize) -> Judged
-    requires { ⌜ Walkable (now table) n × Indexed (now table) n (now index) ⌝ }
+    requires { ⌜ Walkable (now table) n × MembersIndexed (now table) n (now index) ⌝ }
     ensures { λ r. ⌜ BodiesJudged (now (table .entry)) n classes r ⌝ }
 {
     let s = Scope {
