@@ -62,6 +62,7 @@ pub record Growing (tab : List ℕ) (n top : ℕ) (ix : List ℕ) : Type 0 where
   pub second : getD ix 1 0 ≡ 0
   pub entered : (c : ℕ) → c < 2048 → 0 < heightOf ix c → Entered tab n top c ix
 
+-- what the classes in the index have. Which classes are in it is not said: where one is not, the climb answers, so that is a matter of speed alone
 pub record MembersIndexed (tab : List ℕ) (n : ℕ) (ix : List ℕ) : Type 0 where
   pub serves : (c : ℕ) → c < 2048 → 0 < heightOf ix c → (left : ℕ) → heightOf ix c ≤ left → Serves tab n left c (rootOf ix c) ix
 
