@@ -13,7 +13,7 @@ use Rattle.typing.specs.Choices.{by-test}
 use Rattle.semantics.specs.Machine.{Value, Cell, Call, Core, Core.core, Request, Request.charge, Request.allocate, Request.enter, Request.output, Request.move, Request.fault, Request.done, Request.stuck}
 use Rattle.semantics.specs.Machine.{Task, Task.evaluate, Task.execute, Task.operand, Task.operate, Task.confirm, Task.negate, Task.index, Task.fetch, Task.measure, Task.makeArray, Task.makeObject, Task.invoke, Task.branch, Task.decide, Task.again, Task.show, Task.store, Task.newElement, Task.storeElement, Task.continue, Task.perform, Task.leave}
 use Rattle.semantics.specs.Machine.{isAnd, apply, begin, beginStatement, second, callMethod, nextArgument, nextStatement, nextOfBody, newArrayOf, newObjectOf, go, plan, start}
-use Rattle.semantics.specs.Limits.{Limits, Meters, meters, Outcome, next, stop, guard, runWith, run}
+use Rattle.semantics.specs.Limits.{sizeOf, Limits, Meters, meters, Outcome, next, stop, guard, runWith, run}
 use Rattle.soundness.specs.Results.{Over}
 use Rattle.soundness.specs.Continuations.{Closed, need-by, pop-by, popMany-by, number-by, flag-by, array-by, object-by, object-cell-by, array-cell-by, choice-by, innermost-by, cell-by, in-array-by, read-by, write-by, after-by}
 
@@ -50,7 +50,7 @@ abbrev pub loadOf : Core → ℕ
 loadOf (core ts vs cs h) = load ts
 
 -- a request that may be made where the tasks weigh w
-abbrev Pays : ℕ → Request → Type 0
+abbrev Pays : ℕ → Request Core → Type 0
 Pays w (charge p c) = loadOf c ≤ w + 3
 Pays w (allocate p n c) = loadOf (c tt) < w
 Pays w (enter p n c) = loadOf c < w
@@ -142,11 +142,11 @@ abbrev pub turnsLeft : Limits → Core → Meters → ℕ
 turnsLeft L c (meters s o) = (L .budget - s) * 4 + loadOf c
 
 -- an outcome after which fewer than n turns are left
-abbrev pub Less : Limits → ℕ → Outcome → Type 0
+abbrev pub Less : Limits → ℕ → Outcome Core → Type 0
 Less L n (next c m) = turnsLeft L c m < n
 Less L n (stop e) = Over e
 
-guard-less : (L : Limits) (n : ℕ) (m : Meters) (c : Core) (r : Request) → Pays (loadOf c) r → turnsLeft L c m ≤ n → Less L n (guard L m r)
+guard-less : (L : Limits) (n : ℕ) (m : Meters) (c : Core) (r : Request Core) → Pays (loadOf c) r → turnsLeft L c m ≤ n → Less L n (guard L m r)
 unfolding guard
 guard-less L n (meters s o) c (charge p d) h l =
     by-test (Less L n) (ltb s (L .budget)) _ _ (λ e. let q = ltb-true s (L .budget) e in omega arith) (λ _. tt)
@@ -162,11 +162,11 @@ guard-less L n (meters s o) c stuck h l = tt
 pub turn-less : (G : List Class) (L : Limits) (n : ℕ) (c : Core) (m : Meters) → turnsLeft L c m ≤ n → Less L n (guard L m (plan G c))
 turn-less G L n c m h = guard-less L n m c (plan G c) (plan-pays G c) h
 
-pub runs-end : (f : ℕ) (G : List Class) (L : Limits) (c : Core) (m : Meters) → turnsLeft L c m < f → Over (runWith f G L c m .ending)
+pub runs-end : (f : ℕ) (G : List Class) (L : Limits) (c : Core) (m : Meters) → turnsLeft L c m < f → Over (runWith (plan G) sizeOf L f c m .ending)
 unfolding runWith
 runs-end zero G L c m h = absurd (omega arith)
 runs-end (suc f) G L c m h =
-    after-by (Less L f) (λ r. Over (r .ending)) (λ d n. runWith f G L d n) c m (λ d n l. runs-end f G L d n l) (λ e l. l) (guard L m (plan G c)) (turn-less G L f c m (omega arith))
+    after-by (Less L f) (λ r. Over (r .ending)) (λ d n. runWith (plan G) sizeOf L f d n) c m (λ d n l. runs-end f G L d n l) (λ e l. l) (guard L m (plan G c)) (turn-less G L f c m (omega arith))
 
 pub run-ends : (p : Program) (L : Limits) → Over (run p L .ending)
 unfolding run

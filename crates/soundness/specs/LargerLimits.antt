@@ -13,7 +13,7 @@ use borrow.Author.Tests.{ltb-true, leb-true, lt-ltb, le-leb}
 use Rattle.parser.specs.Tree.{Class, Program}
 use Rattle.typing.specs.Choices.{by-test}
 use Rattle.semantics.specs.Machine.{Core, Request, Request.charge, Request.allocate, Request.enter, Request.output, Request.move, Request.fault, Request.done, Request.stuck, plan, start}
-use Rattle.semantics.specs.Limits.{Limits, Meters, meters, printedOf, ended, Outcome, next, stop, within, guard, Report, after, runWith, run}
+use Rattle.semantics.specs.Limits.{sizeOf, Limits, Meters, meters, printedOf, ended, Outcome, next, stop, within, guard, Report, after, runWith, run}
 use Rattle.soundness.specs.Results.{Finish, ByLimit, by-budget, by-heap, by-calls, by-output, finish-or-limit, Over}
 use Rattle.soundness.specs.Continuations.{after-by}
 use Rattle.soundness.specs.Ending.{run-ends}
@@ -39,11 +39,11 @@ begins-trans {a} p q =
 
 -- ---- the printed list only grows
 
-abbrev pub Grows : Meters → Outcome → Type 0
+abbrev pub Grows : Meters → Outcome Core → Type 0
 Grows m (next c n) = Begins (printedOf m) (printedOf n)
 Grows m (stop e) = Unit {0}
 
-pub guard-grows : (L : Limits) (m : Meters) (r : Request) → Grows m (guard L m r)
+pub guard-grows : (L : Limits) (m : Meters) (r : Request Core) → Grows m (guard L m r)
 unfolding guard
 guard-grows L (meters s o) (charge p c) = by-test (Grows (meters s o)) (ltb s (L .budget)) _ _ (λ _. begins-refl o) (λ _. tt)
 guard-grows L (meters s o) (allocate p n c) = by-test (Grows (meters s o)) (leb n (L .heap)) _ _ (λ _. begins-refl o) (λ _. tt)
@@ -54,26 +54,26 @@ guard-grows L (meters s o) (fault k p) = tt
 guard-grows L (meters s o) done = tt
 guard-grows L (meters s o) stuck = tt
 
-pub run-grows : (f : ℕ) (G : List Class) (L : Limits) (c : Core) (m : Meters) → Begins (printedOf m) (runWith f G L c m .printed)
+pub run-grows : (f : ℕ) (G : List Class) (L : Limits) (c : Core) (m : Meters) → Begins (printedOf m) (runWith (plan G) sizeOf L f c m .printed)
 unfolding runWith
 run-grows zero G L c m = begins-refl (printedOf m)
 run-grows (suc f) G L c m =
-    after-by (Grows m) (λ r. Begins (printedOf m) (r .printed)) (λ d n. runWith f G L d n) c m (λ d n g. begins-trans g (run-grows f G L d n))
+    after-by (Grows m) (λ r. Begins (printedOf m) (r .printed)) (λ d n. runWith (plan G) sizeOf L f d n) c m (λ d n g. begins-trans g (run-grows f G L d n))
     (λ e _. begins-refl (printedOf m)) (guard L m (plan G c)) (guard-grows L m (plan G c))
 
 -- ---- two runs in step
 
 -- the outcome of a request under limits and under larger ones: the same, or an end by a limit
-data Alike : Outcome → Outcome → Type 0 where
-  alike : {o : Outcome} → Alike o o
-  stopped : {k p : ℕ} {o : Outcome} → ByLimit k → Alike (stop (ended k p)) o
+data Alike : Outcome Core → Outcome Core → Type 0 where
+  alike : {o : Outcome Core} → Alike o o
+  stopped : {k p : ℕ} {o : Outcome Core} → ByLimit k → Alike (stop (ended k p)) o
 
-within-alike : (a b : Bool) {k : ℕ} (p : ℕ) (o : Unit {0} → Outcome) → ByLimit k → (a ≡ true → b ≡ true) → Alike (within a k p o) (within b k p o)
+within-alike : (a b : Bool) {k : ℕ} (p : ℕ) (o : Unit {0} → Outcome Core) → ByLimit k → (a ≡ true → b ≡ true) → Alike (within a k p o) (within b k p o)
 within-alike true true p o l h = alike
 within-alike true false p o l h = absurd (let e = h refl in let z : _≡_ {A = ℕ} 0 1 = cc in omega arith)
 within-alike false b p o l h = stopped l
 
-guard-alike : (L M : Limits) → L ⊑ M → (m : Meters) (r : Request) → Alike (guard L m r) (guard M m r)
+guard-alike : (L M : Limits) → L ⊑ M → (m : Meters) (r : Request Core) → Alike (guard L m r) (guard M m r)
 unfolding guard
 guard-alike L M h (meters s o) (charge p c) =
     within-alike _ _ p _ by-budget (λ e. lt-ltb s (M .budget) (omega (arith, h .budget, ltb-true s (L .budget) e)))
@@ -91,33 +91,33 @@ pub data Agree : Report → Report → Type 0 where
   agree : {r : Report} → Agree r r
   cut : {k p : ℕ} {r s : Report} → ByLimit k → r .ending ≡ ended k p → Begins (r .printed) (s .printed) → Agree r s
 
-after-agree : (j k : Core → Meters → Report) (c : Core) (m : Meters) {o q : Outcome} → Alike o q
-    → ((d : Core) (n : Meters) → Agree (j d n) (k d n)) → Begins (printedOf m) (after k c m q .printed) → Agree (after j c m o) (after k c m q)
+after-agree : (j k : Core → Meters → Report) (c : Core) (m : Meters) {o q : Outcome Core} → Alike o q
+    → ((d : Core) (n : Meters) → Agree (j d n) (k d n)) → Begins (printedOf m) (after sizeOf k c m q .printed) → Agree (after sizeOf j c m o) (after sizeOf k c m q)
 after-agree j k c m (alike {o = next d n}) h b = h d n
 after-agree j k c m (alike {o = stop e}) h b = agree
 after-agree j k c m (stopped l) h b = cut l refl b
 
-pub runs-agree : (f : ℕ) (G : List Class) (L M : Limits) → L ⊑ M → (c : Core) (m : Meters) → Agree (runWith f G L c m) (runWith f G M c m)
+pub runs-agree : (f : ℕ) (G : List Class) (L M : Limits) → L ⊑ M → (c : Core) (m : Meters) → Agree (runWith (plan G) sizeOf L f c m) (runWith (plan G) sizeOf M f c m)
 unfolding runWith
 runs-agree zero G L M h c m = agree
 runs-agree (suc f) G L M h c m =
-    after-agree (λ d n. runWith f G L d n) (λ d n. runWith f G M d n) c m (guard-alike L M h m (plan G c)) (λ d n. runs-agree f G L M h d n)
+    after-agree (λ d n. runWith (plan G) sizeOf L f d n) (λ d n. runWith (plan G) sizeOf M f d n) c m (guard-alike L M h m (plan G c)) (λ d n. runs-agree f G L M h d n)
     (run-grows (suc f) G M c m)
 
 -- ---- more fuel
 
-after-fuel : (j k : Core → Meters → Report) (c : Core) (m : Meters) (o : Outcome)
-    → ((d : Core) (n : Meters) → Over (j d n .ending) → k d n ≡ j d n) → Over (after j c m o .ending) → after k c m o ≡ after j c m o
+after-fuel : (j k : Core → Meters → Report) (c : Core) (m : Meters) (o : Outcome Core)
+    → ((d : Core) (n : Meters) → Over (j d n .ending) → k d n ≡ j d n) → Over (after sizeOf j c m o .ending) → after sizeOf k c m o ≡ after sizeOf j c m o
 after-fuel j k c m (next d n) h e = h d n e
 after-fuel j k c m (stop x) h e = refl
 
-pub more-fuel : (f g : ℕ) → f ≤ g → (G : List Class) (L : Limits) (c : Core) (m : Meters) → Over (runWith f G L c m .ending)
-    → runWith g G L c m ≡ runWith f G L c m
+pub more-fuel : (f g : ℕ) → f ≤ g → (G : List Class) (L : Limits) (c : Core) (m : Meters) → Over (runWith (plan G) sizeOf L f c m .ending)
+    → runWith (plan G) sizeOf L g c m ≡ runWith (plan G) sizeOf L f c m
 unfolding runWith
 more-fuel zero g h G L c m e = absurd e
 more-fuel (suc f) zero h G L c m e = absurd (not-suc-le-zero h)
 more-fuel (suc f) (suc g) h G L c m e =
-    after-fuel (λ d n. runWith f G L d n) (λ d n. runWith g G L d n) c m (guard L m (plan G c))
+    after-fuel (λ d n. runWith (plan G) sizeOf L f d n) (λ d n. runWith (plan G) sizeOf L g d n) c m (guard L m (plan G c))
     (λ d n x. more-fuel f g (le-of-suc-le-suc h) G L d n x) e
 
 -- ---- runs on their own fuel

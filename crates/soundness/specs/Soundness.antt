@@ -29,7 +29,7 @@ use Rattle.semantics.specs.Machine.{Value, Value.objectAt, Cell, Cell.slot, Cal
 use Rattle.semantics.specs.Machine.{Request, Request.charge, Request.allocate, Request.enter, Request.output, Request.move, Request.fault, Request.done, Request.stuck}
 use Rattle.semantics.specs.Machine.{Task, Task.fetch, Task.measure, Task.makeArray, Task.makeObject, Task.storeElement, Task.leave}
 use Rattle.semantics.specs.Machine.{need, pop, popMany, innermost, asSlot, asObjectCell, asArrayCell, inArray, readMeaning, readName, writeMeaning, writeName, isAnd, apply, begin, beginStatement, second, callMethod, nextArgument, nextStatement, nextOfBody, newArrayOf, newObjectOf, opened, go, plan, start}
-use Rattle.semantics.specs.Limits.{Limits, Meters, meters, Ending, ended, wentWrong, unfinished, Outcome, next, stop, guard, runWith, run}
+use Rattle.semantics.specs.Limits.{sizeOf, Limits, Meters, meters, Ending, ended, wentWrong, unfinished, Outcome, next, stop, guard, runWith, run}
 use Rattle.soundness.specs.Results.{by-null, by-index, by-size, Finish, by-success, by-fault, ByLimit, by-budget, by-heap, by-calls, by-output, Over}
 use Rattle.soundness.specs.Continuations.{after-by}
 use Rattle.soundness.specs.Ending.{run-ends}
@@ -66,37 +66,37 @@ no-name (of-field e o h) = none-some refl o
 module _ {G : List Class} (T : All (ClassTyped G) G) (L : All (λ k. All MethodFits (k .methods)) G) where
   -- ---- taking apart, where the types say that it goes well
 
-  need-ok : {A : Type 0} (k : A → Request) {o : Option A} {a : A} → o ≡ some a → Asks G (k a) → Asks G (need o k)
+  need-ok : {A : Type 0} (k : A → Request Core) {o : Option A} {a : A} → o ≡ some a → Asks G (k a) → Asks G (need o k)
   need-ok k e h = subst (λ x. Asks G (need x k)) (sym e) h
 
-  slot-ok : {σ : List CellType} {h : List Cell} {i : ℕ} {t : Ty} (k : Value → Request) → Related (CellTyped G σ) h i (slotType t)
+  slot-ok : {σ : List CellType} {h : List Cell} {i : ℕ} {t : Ty} (k : Value → Request Core) → Related (CellTyped G σ) h i (slotType t)
       → ((v : Value) → ValueTyped G σ v t → Asks G (k v)) → Asks G (need (getElem? h i) λ x. asSlot x k)
   slot-ok {σ} {t} k w f = need-ok (λ x. asSlot x k) (w .at) (by-cell (w .holds))
     where
       by-cell : {x : Cell} → CellTyped G σ x (slotType t) → Asks G (asSlot x k)
       by-cell (c-slot {v = v} q) = f v q
 
-  array-cell-ok : {σ : List CellType} {h : List Cell} {a n : ℕ} (k : ℕ → Request) → Related (CellTyped G σ) h a (arrayType n) → (n < 2 ^ 31 → Asks G (k n))
+  array-cell-ok : {σ : List CellType} {h : List Cell} {a n : ℕ} (k : ℕ → Request Core) → Related (CellTyped G σ) h a (arrayType n) → (n < 2 ^ 31 → Asks G (k n))
       → Asks G (need (getElem? h a) λ x. asArrayCell x k)
   array-cell-ok {σ} {n} k w f = need-ok (λ x. asArrayCell x k) (w .at) (by-cell (w .holds))
     where
       by-cell : {x : Cell} → CellTyped G σ x (arrayType n) → Asks G (asArrayCell x k)
       by-cell (c-array l) = f l
 
-  object-cell-ok : {σ : List CellType} {h : List Cell} {a : ℕ} {c : List ℕ} (k : List ℕ → Request) → Related (CellTyped G σ) h a (objectType c) → Asks G (k c)
+  object-cell-ok : {σ : List CellType} {h : List Cell} {a : ℕ} {c : List ℕ} (k : List ℕ → Request Core) → Related (CellTyped G σ) h a (objectType c) → Asks G (k c)
       → Asks G (need (getElem? h a) λ x. asObjectCell x k)
   object-cell-ok {σ} {c} k w f = need-ok (λ x. asObjectCell x k) (w .at) (by-cell (w .holds))
     where
       by-cell : {x : Cell} → CellTyped G σ x (objectType c) → Asks G (asObjectCell x k)
       by-cell (c-object e) = f
 
-  in-array-ok : {σ : List CellType} {h : List Cell} (p : Place) (a : ℕ) {n : ℕ} (i : ℕ) (r : Request) → HeapTyped G σ h → getElem? σ a ≡ some (arrayType n)
+  in-array-ok : {σ : List CellType} {h : List Cell} (p : Place) (a : ℕ) {n : ℕ} (i : ℕ) (r : Request Core) → HeapTyped G σ h → getElem? σ a ≡ some (arrayType n)
       → (getElem? σ (a + 1 + i) ≡ some (slotType int) → Asks G r) → Asks G (inArray p h a i r)
   in-array-ok p a {n} i r H e f =
       array-cell-ok _ (all2-at a (H .cells) e) (λ _. by-test (Asks G) (ltb i n) _ _ (λ q. f (H .laid .arrays a n i e (ltb-true i n q))) (λ _. by-index))
 
   -- the arguments off the stack
-  pop-typed : {σ : List CellType} (qs : List Ty) {us ws : List Ty} {vs got : List Value} (k : List Value → List Value → Request)
+  pop-typed : {σ : List CellType} (qs : List Ty) {us ws : List Ty} {vs got : List Value} (k : List Value → List Value → Request Core)
       → All2 (ValueTyped G σ) vs (qs ++ us) → All2 (ValueTyped G σ) got ws
       → ((xs rest : List Value) → All2 (ValueTyped G σ) xs (reverseAux qs ws) → All2 (ValueTyped G σ) rest us → Asks G (k xs rest))
       → Asks G (popMany (length qs) got vs k)
@@ -117,7 +117,7 @@ module _ {G : List Class} (T : All (ClassTyped G) G) (L : All (λ k. All MethodF
       let v = stands-up (table-acyclic T) (owner-up F o) w in
       H .laid .objects a (F .made) (s .place) (v .item) (F .receiver) (v .at) ∙ ap (λ (u : Ty). some (slotType u)) (v .has ∙ q)
 
-  read-ok : {σ : List CellType} {Γs : List Context} {cs : List Call} {h : List Cell} {x : List ℕ} {t : Ty} (k : Value → Request)
+  read-ok : {σ : List CellType} {Γs : List Context} {cs : List Call} {h : List Cell} {x : List ℕ} {t : Ty} (k : Value → Request Core)
       → HeapTyped G σ h → All2 (CallTyped G σ) cs Γs → HasName G (now Γs) x t → ((v : Value) → ValueTyped G σ v t → Asks G (k v)) → Asks G (readName G cs h x k)
   unfolding readName
   read-ok k H all2-nil n f = absurd (no-name n)
@@ -127,7 +127,7 @@ module _ {G : List Class} (T : All (ClassTyped G) G) (L : All (λ k. All MethodF
       by-place (in-row s e w q) = need-ok _ e (let y = all2-at (s .place) (F .row) (row-type Γ w q) in need-ok k (y .at) (f (y .item) (y .holds)))
       by-place (in-object c s o e w q) = need-ok _ e (slot-ok k (all2-at (a + 1 + s .place) (H .cells) (field-type H F o w q)) f)
 
-  write-ok : {σ : List CellType} {Γs : List Context} {cs : List Call} {h : List Cell} {x : List ℕ} {t : Ty} {v : Value} (k : List Call → List Cell → Request)
+  write-ok : {σ : List CellType} {Γs : List Context} {cs : List Call} {h : List Cell} {x : List ℕ} {t : Ty} {v : Value} (k : List Call → List Cell → Request Core)
       → HeapTyped G σ h → All2 (CallTyped G σ) cs Γs → HasName G (now Γs) x t → ValueTyped G σ v t
       → ((ds : List Call) (g : List Cell) → HeapTyped G σ g → All2 (CallTyped G σ) ds Γs → Asks G (k ds g)) → Asks G (writeName G cs h x v k)
   unfolding writeName
@@ -156,7 +156,7 @@ module _ {G : List Class} (T : All (ClassTyped G) G) (L : All (λ k. All MethodF
           (slot-ok (λ _. k (frame a Γ xs ∷ cs) (set h (a + 1 + s .place) (slot y))) (all2-at (a + 1 + s .place) (H .cells) i)
           (λ _ _. f _ _ (stored H (a + 1 + s .place) i v) (all2-cons (c-frame F) C)))
 
-  this-ok : {σ : List CellType} {Γs : List Context} {cs : List Call} {c : List ℕ} (k : ℕ → Request) → All2 (CallTyped G σ) cs Γs → now Γs .owner ≡ some c
+  this-ok : {σ : List CellType} {Γs : List Context} {cs : List Call} {c : List ℕ} (k : ℕ → Request Core) → All2 (CallTyped G σ) cs Γs → now Γs .owner ≡ some c
       → ((a : ℕ) → ValueTyped G σ (objectAt a) (class c) → Asks G (k a)) → Asks G (innermost cs λ a Γ xs _. k a)
   this-ok k all2-nil o f = absurd (none-some refl o)
   this-ok k (all2-cons (c-frame {a = a} F) C) o f = f a (v-object (F .receiver) (owner-up F o))
@@ -357,11 +357,11 @@ Right (ended k p) = Finish k ⊎ ByLimit k
 Right wentWrong = ⊥
 Right unfinished = Unit {0}
 
-abbrev pub Safe : List Class → Outcome → Type 0
+abbrev pub Safe : List Class → Outcome Core → Type 0
 Safe G (next c m) = Typed G c
 Safe G (stop e) = Right e
 
-pub guard-safe : (G : List Class) (L : Limits) (m : Meters) (r : Request) → Asks G r → Safe G (guard L m r)
+pub guard-safe : (G : List Class) (L : Limits) (m : Meters) (r : Request Core) → Asks G r → Safe G (guard L m r)
 unfolding guard
 guard-safe G L (meters s o) (charge p c) h = by-test (Safe G) (ltb s (L .budget)) _ _ (λ _. h) (λ _. inr by-budget)
 guard-safe G L (meters s o) (allocate p n c) h = by-test (Safe G) (leb n (L .heap)) _ _ (λ _. h) (λ _. inr by-heap)
@@ -385,11 +385,11 @@ module _ {G : List Class} (T : All (ClassTyped G) G) (F : All (λ k. All MethodF
   pub turn-safe : (c : Core) (m : Meters) → Typed G c → Safe G (guard L m (plan G c))
   turn-safe c m h = guard-safe G L m (plan G c) (sound T F h)
 
-  pub runs-right : (f : ℕ) (c : Core) (m : Meters) → Typed G c → Right (runWith f G L c m .ending)
+  pub runs-right : (f : ℕ) (c : Core) (m : Meters) → Typed G c → Right (runWith (plan G) sizeOf L f c m .ending)
   unfolding runWith
   runs-right zero c m h = tt
   runs-right (suc f) c m h =
-      after-by (Safe G) (λ r. Right (r .ending)) (λ d n. runWith f G L d n) c m (λ d n s. runs-right f d n s) (λ e s. s) (guard L m (plan G c)) (turn-safe c m h)
+      after-by (Safe G) (λ r. Right (r .ending)) (λ d n. runWith (plan G) sizeOf L f d n) c m (λ d n s. runs-right f d n s) (λ e s. s) (guard L m (plan G c)) (turn-safe c m h)
 
 pub run-right : (p : Program) (L : Limits) → ProgramTyped p → LiteralsFit p → Right (run p L .ending)
 unfolding run

@@ -201,7 +201,7 @@ Fits n (t ∷ ts) = (extra t + length ts < depthMost * suc n) × Fits (calls t n
 abbrev FitsC : (n w : ℕ) → Core → Type 0
 FitsC n w (core ts vs cs h) = (length cs ≤ n) × (length h ≤ w) × Fits (length cs) ts
 
-abbrev FitsR : (n w : ℕ) → Request → Type 0
+abbrev FitsR : (n w : ℕ) → Request Core → Type 0
 FitsR n w (charge p c) = FitsC n w c
 FitsR n w (allocate p k c) = FitsC n k (c tt)
 FitsR n w (enter p k c) = FitsC k w c
@@ -359,11 +359,11 @@ pub record Bounded (L : Limits) (c : Core) (m : Meters) : Type 0 where
 abbrev FitsM : Limits → Core → Meters → Type 0
 FitsM L c (meters s o) = FitsC (L .calls) (L .heap) c × (s ≤ L .budget) × (length o ≤ L .printed)
 
-abbrev FitsO : Limits → Outcome → Type 0
+abbrev FitsO : Limits → Outcome Core → Type 0
 FitsO L (next c m) = FitsM L c m
 FitsO L (stop e) = Unit {0}
 
-guard-fits : (L : Limits) (m : Meters) (r : Request) → stepsOf m ≤ L .budget → length (printedOf m) ≤ L .printed → FitsR (L .calls) (L .heap) r → FitsO L (guard L m r)
+guard-fits : (L : Limits) (m : Meters) (r : Request Core) → stepsOf m ≤ L .budget → length (printedOf m) ≤ L .printed → FitsR (L .calls) (L .heap) r → FitsO L (guard L m r)
 unfolding guard
 guard-fits L (meters s o) (charge p (core ts vs cs h)) i j f =
     by-test (FitsO L) (ltb s (L .budget)) _ _ (λ e. (f, omega (arith, ltb-true s (L .budget) e), j)) (λ _. tt)

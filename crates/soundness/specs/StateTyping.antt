@@ -163,7 +163,7 @@ pub data Typed (G : List Class) : Core → Type 0 where
       → HeapTyped G σ h → All2 (CallTyped G σ) cs Γs → All2 (ValueTyped G σ) vs us → Runs G Γs us ts → Typed G (core ts vs cs h)
 
 -- a request whose next state is typed, and no other
-abbrev pub Asks : List Class → Request → Type 0
+abbrev pub Asks : List Class → Request Core → Type 0
 Asks G (charge p c) = Typed G c
 Asks G (allocate p n c) = Typed G (c tt)
 Asks G (enter p n c) = Typed G c
