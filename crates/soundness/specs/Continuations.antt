@@ -14,7 +14,7 @@ use Rattle.checker.specs.ClassTable.{Context, Meaning, Meaning.ofRow, Meaning.o
 use Rattle.typing.specs.Choices.{by-test}
 use Rattle.semantics.specs.Machine.{Value, Value.number, Value.flag, Value.null, Value.arrayAt, Value.objectAt, Cell, Cell.object, Cell.array, Cell.slot, Call, Call.frame, Core, Request, Request.fault, Request.stuck}
 use Rattle.semantics.specs.Machine.{need, pop, popMany, asNumber, asFlag, asArray, asObject, asSlot, asObjectCell, asArrayCell, innermost, cellAt, inArray, readMeaning, readName, writeMeaning, writeName}
-use Rattle.semantics.specs.Limits.{sizeOf, Meters, Ending, Outcome, next, stop, Report, report, after}
+use Rattle.semantics.specs.Limits.{Meters, Ending, Outcome, next, stop, Report, sizeOf, report, after}
 
 pub record Closed (Q : Request Core → Type 0) : Type 0 where
   pub at-stuck : Q stuck

@@ -13,7 +13,7 @@ use Rattle.typing.specs.Choices.{by-test}
 use Rattle.semantics.specs.Machine.{Value, Cell, Call, Core, Core.core, Request, Request.charge, Request.allocate, Request.enter, Request.output, Request.move, Request.fault, Request.done, Request.stuck}
 use Rattle.semantics.specs.Machine.{Task, Task.evaluate, Task.execute, Task.operand, Task.operate, Task.confirm, Task.negate, Task.index, Task.fetch, Task.measure, Task.makeArray, Task.makeObject, Task.invoke, Task.branch, Task.decide, Task.again, Task.show, Task.store, Task.newElement, Task.storeElement, Task.continue, Task.perform, Task.leave}
 use Rattle.semantics.specs.Machine.{isAnd, apply, begin, beginStatement, second, callMethod, nextArgument, nextStatement, nextOfBody, newArrayOf, newObjectOf, go, plan, start}
-use Rattle.semantics.specs.Limits.{sizeOf, Limits, Meters, meters, Outcome, next, stop, guard, runWith, run}
+use Rattle.semantics.specs.Limits.{Limits, Meters, meters, Outcome, next, stop, guard, sizeOf, runWith, run}
 use Rattle.soundness.specs.Results.{Over}
 use Rattle.soundness.specs.Continuations.{Closed, need-by, pop-by, popMany-by, number-by, flag-by, array-by, object-by, object-cell-by, array-cell-by, choice-by, innermost-by, cell-by, in-array-by, read-by, write-by, after-by}
 

@@ -13,7 +13,7 @@ use borrow.Author.Tests.{ltb-true, leb-true, lt-ltb, le-leb}
 use Rattle.parser.specs.Tree.{Class, Program}
 use Rattle.typing.specs.Choices.{by-test}
 use Rattle.semantics.specs.Machine.{Core, Request, Request.charge, Request.allocate, Request.enter, Request.output, Request.move, Request.fault, Request.done, Request.stuck, plan, start}
-use Rattle.semantics.specs.Limits.{sizeOf, Limits, Meters, meters, printedOf, ended, Outcome, next, stop, within, guard, Report, after, runWith, run}
+use Rattle.semantics.specs.Limits.{Limits, Meters, meters, printedOf, ended, Outcome, next, stop, within, guard, Report, sizeOf, after, runWith, run}
 use Rattle.soundness.specs.Results.{Finish, ByLimit, by-budget, by-heap, by-calls, by-output, finish-or-limit, Over}
 use Rattle.soundness.specs.Continuations.{after-by}
 use Rattle.soundness.specs.Ending.{run-ends}
@@ -104,21 +104,19 @@ runs-agree (suc f) G L M h c m =
     after-agree (λ d n. runWith (plan G) sizeOf L f d n) (λ d n. runWith (plan G) sizeOf M f d n) c m (guard-alike L M h m (plan G c)) (λ d n. runs-agree f G L M h d n)
     (run-grows (suc f) G M c m)
 
--- ---- more fuel
+-- ---- more fuel, of any machine
 
-after-fuel : (j k : Core → Meters → Report) (c : Core) (m : Meters) (o : Outcome Core)
-    → ((d : Core) (n : Meters) → Over (j d n .ending) → k d n ≡ j d n) → Over (after sizeOf j c m o .ending) → after sizeOf k c m o ≡ after sizeOf j c m o
-after-fuel j k c m (next d n) h e = h d n e
-after-fuel j k c m (stop x) h e = refl
+after-fuel : {C : Type 0} (size : C → ℕ) (j k : C → Meters → Report) (c : C) (m : Meters) (o : Outcome C)
+    → ((d : C) (n : Meters) → Over (j d n .ending) → k d n ≡ j d n) → Over (after size j c m o .ending) → after size k c m o ≡ after size j c m o
+after-fuel size j k c m (next d n) h e = h d n e
+after-fuel size j k c m (stop x) h e = refl
 
-pub more-fuel : (f g : ℕ) → f ≤ g → (G : List Class) (L : Limits) (c : Core) (m : Meters) → Over (runWith (plan G) sizeOf L f c m .ending)
-    → runWith (plan G) sizeOf L g c m ≡ runWith (plan G) sizeOf L f c m
-unfolding runWith
-more-fuel zero g h G L c m e = absurd e
-more-fuel (suc f) zero h G L c m e = absurd (not-suc-le-zero h)
-more-fuel (suc f) (suc g) h G L c m e =
-    after-fuel (λ d n. runWith (plan G) sizeOf L f d n) (λ d n. runWith (plan G) sizeOf L g d n) c m (guard L m (plan G c))
-    (λ d n x. more-fuel f g (le-of-suc-le-suc h) G L d n x) e
+module _ {C : Type 0} (ask : C → Request C) (size : C → ℕ) (L : Limits) where
+  pub more-fuel : (f g : ℕ) → f ≤ g → (c : C) (m : Meters) → Over (runWith ask size L f c m .ending) → runWith ask size L g c m ≡ runWith ask size L f c m
+  unfolding runWith
+  more-fuel zero g h c m e = absurd e
+  more-fuel (suc f) zero h c m e = absurd (not-suc-le-zero h)
+  more-fuel (suc f) (suc g) h c m e = after-fuel size _ _ c m (guard L m (ask c)) (λ d n x. more-fuel f g (le-of-suc-le-suc h) d n x) e
 
 -- ---- runs on their own fuel
 
@@ -126,7 +124,7 @@ pub run-agrees : (p : Program) (L M : Limits) → L ⊑ M → Agree (run p L) (r
 unfolding run
 run-agrees p L M h =
     subst (λ (r : Report). Agree r (run p M))
-    (more-fuel (4 * L .budget + 4) (4 * M .budget + 4) (omega (arith, h .budget)) (p .classes) L (start p) (meters 0 []) (run-ends p L))
+    (more-fuel (plan (p .classes)) sizeOf L (4 * L .budget + 4) (4 * M .budget + 4) (omega (arith, h .budget)) (start p) (meters 0 []) (run-ends p L))
     (runs-agree (4 * M .budget + 4) (p .classes) L M h (start p) (meters 0 []))
 
 pub agree-same : {k q : ℕ} {r s : Report} → Finish k → r .ending ≡ ended k q → Agree r s → s ≡ r

@@ -29,7 +29,7 @@ use Rattle.semantics.specs.Machine.{Value, Value.objectAt, Cell, Cell.slot, Cal
 use Rattle.semantics.specs.Machine.{Request, Request.charge, Request.allocate, Request.enter, Request.output, Request.move, Request.fault, Request.done, Request.stuck}
 use Rattle.semantics.specs.Machine.{Task, Task.fetch, Task.measure, Task.makeArray, Task.makeObject, Task.storeElement, Task.leave}
 use Rattle.semantics.specs.Machine.{need, pop, popMany, innermost, asSlot, asObjectCell, asArrayCell, inArray, readMeaning, readName, writeMeaning, writeName, isAnd, apply, begin, beginStatement, second, callMethod, nextArgument, nextStatement, nextOfBody, newArrayOf, newObjectOf, opened, go, plan, start}
-use Rattle.semantics.specs.Limits.{sizeOf, Limits, Meters, meters, Ending, ended, wentWrong, unfinished, Outcome, next, stop, guard, runWith, run}
+use Rattle.semantics.specs.Limits.{Limits, Meters, meters, Ending, ended, wentWrong, unfinished, Outcome, next, stop, guard, sizeOf, runWith, run}
 use Rattle.soundness.specs.Results.{by-null, by-index, by-size, Finish, by-success, by-fault, ByLimit, by-budget, by-heap, by-calls, by-output, Over}
 use Rattle.soundness.specs.Continuations.{after-by}
 use Rattle.soundness.specs.Ending.{run-ends}
