@@ -125,7 +125,7 @@ module _ (w : ℕ) where
   task-pays G (newElement p e) ts vs cs h l = begin-pays G e (storeElement p ∷ ts) vs cs h l
   task-pays G (storeElement p) ts vs cs h l =
       pop-by closed vs _ (λ v vs. pop-by closed vs _ (λ y vs. pop-by closed vs _ (λ x vs. number-by closed v _ (λ n. number-by closed y _ (λ i.
-      array-by closed p x _ (λ a. in-array-by closed p h a i _ (omega arith)))))))
+      array-by closed p x _ (λ a. in-array-by closed p h a i _ (cell-by closed h a i _ (λ _. omega arith))))))))
   task-pays G (continue noStatements) ts vs cs h l = omega arith
   task-pays G (continue (sequence s ss)) ts vs cs h l = begin-statement-pays G s (continue ss ∷ ts) vs cs h (omega arith)
   task-pays G (perform noStatements e) ts vs cs h l = begin-pays G e (leave ∷ ts) vs cs h l

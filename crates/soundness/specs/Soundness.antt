@@ -230,7 +230,7 @@ module _ {G : List Class} (T : All (ClassTyped G) G) (L : All (λ k. All MethodF
     unfolding go
     store-element-ok p (all2-cons (v-number k) (all2-cons (v-number i) (all2-cons v-no-array W))) R = by-null
     store-element-ok p (all2-cons (v-number m) (all2-cons (v-number {n = i} l) (all2-cons (v-array {a = a} e) W))) R =
-        in-array-ok p a i _ H e (λ q. typed (stored H (a + 1 + i) q (v-number m)) C W R)
+        in-array-ok p a i _ H e (λ q. slot-ok _ (all2-at (a + 1 + i) (H .cells) q) (λ _ _. typed (stored H (a + 1 + i) q (v-number m)) C W R))
 
     measure-ok : {us : List Ty} {ts : List Task} {vs : List Value} {t : Ty} (p : Place)
         → All2 (ValueTyped G σ) vs (intArray ∷ us) → Sub G int t → Runs G Γs (t ∷ us) ts → Asks G (go G (measure p) ts vs cs h)

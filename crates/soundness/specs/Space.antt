@@ -282,7 +282,7 @@ module _ (n w : ℕ) (G : List Class) where
   task-fits B (newElement p e) ts vs cs h l c d f = begin-fits e (storeElement p ∷ ts) vs cs h (omega arith) c d (omega arith, f)
   task-fits B (storeElement p) ts vs cs h l c d f =
       pop-by closed vs _ (λ v vs. pop-by closed vs _ (λ y vs. pop-by closed vs _ (λ x vs. number-by closed v _ (λ k. number-by closed y _ (λ i.
-      array-by closed p x _ (λ a. in-array-by closed p h a i _ (c, simp length-set (omega arith), f)))))))
+      array-by closed p x _ (λ a. in-array-by closed p h a i _ (cell-by closed h a i _ (λ _. (c, simp length-set (omega arith), f)))))))))
   task-fits B (continue noStatements) ts vs cs h l c d f = (c, d, f)
   task-fits B (continue (sequence s ss)) ts vs cs h l c d f = begin-statement-fits s (continue ss ∷ ts) vs cs h (omega arith) c d (omega arith, f)
   task-fits B (perform noStatements e) ts vs cs h l c d f = begin-fits e (leave ∷ ts) vs cs h (omega arith) c d (omega arith, f)
