@@ -1,0 +1,108 @@
+-- What writing classes returns meets its contract: the fields of a class are in the array while its methods are written, and the sizes behind them stay.
+use Prim.Native.Nat.{ℕ, _-_, _≤_, _<_}
+use native.Mathlib.Omega.{arith}
+use mathlib.Core.Path.{_≡_, refl, sym, ap, _∙_, subst}
+use mathlib.Core.List.{List, [], _∷_}
+use mathlib.Core.Option.{some}
+use lib.ListN.{length}
+use Rattle.lexer.specs.Tokens.{Token}
+use Rattle.lexer.specs.Rows.{firstNamed}
+use Rattle.parser.specs.Tree.{Method, Class}
+use Rattle.parser.specs.Layout.{rowMethods, rowClasses}
+use Rattle.checker.specs.ClassTable.{nearestField}
+use Rattle.lookup.specs.Standing.{absent, wordAt, Spells, a-name, MethodsStand, more-methods, ClassStands, ClassesStand, more-classes, World, chainFrom}
+use Rattle.lookup.specs.StandingLaws.{word-in, name-word, row-there}
+use Rattle.codegen.specs.Compile.{endMethods, emitMethods, emitClasses}
+use Rattle.writer.specs.Words.{store}
+use Rattle.writer.specs.Emits.{nothing}
+use Rattle.writer.specs.Places.{KeptFrom, ClearPost, held, FillPost, FieldsHeld}
+use Rattle.writer.specs.Sizing.{SizesHeld}
+use Rattle.writer.specs.Posts.{room, Wrote}
+use Rattle.writer.specs.Methods.{entered, MethodsPost}
+use Rattle.writer.specs.Classes.{endClasses, enteredClasses, ClassPost, ClassesPost}
+use Rattle.writer.proofs.MethodLaws.{grows-methods}
+
+-- ONE CLASS
+
+-- the sizes stand behind what stays
+sizes-kept : {names names′ : List ℕ} → KeptFrom absent names names′ → {ts : List Token} {G : List Class} → SizesHeld ts G names → SizesHeld ts G names′
+sizes-kept keep h = record { says = λ c x sp. keep _ (omega arith) ∙ h .says c x sp }
+
+first-method : {tab : List ℕ} {n row first : ℕ} → first ≡ wordAt tab 5 row → {ts : List Token} {G : List Class} → World tab n ts G → (k : Class) → k .name .row ≡ row
+    → ClassStands tab n ts k → rowMethods (k .methods) ≡ first
+first-method {tab} e₅ w k is s =
+    sym (word-in tab 5 (k .name .row) (row-there (w .tokens) (k .name .row) (s .named .token .there)) (s .second)) ∙ ap (wordAt tab 5) is ∙ sym e₅
+
+module _ {tab : List ℕ} {n classes row at first : ℕ} {names c E : List ℕ} (e₅ : first ≡ wordAt tab 5 row) where
+  pub class-empty : absent ≤ first → at ≤ room → ClassPost tab n classes row at names names c c E E at
+  unfolding emitMethods endMethods entered
+  class-empty far low = record { within = low; stays = λ j h. refl; says = λ ts G w l z k is s lim. go ts G w (k .name .text) (k .methods) (first-method e₅ w k is s) (s .methods) }
+    where
+      go : (ts : List Token) (G : List Class) → World tab n ts G → (d : List ℕ) (M : List Method) → rowMethods M ≡ first → MethodsStand tab n ts M
+          → Wrote (firstNamed ts) (emitMethods G d M at) (endMethods M at) at c c at × (E ≡ entered M at E)
+      go ts G w d [] is h = (record { ends = refl; code = nothing }, refl)
+      go ts G w d (F ∷ M) is (more-methods h e hs) = absurd (omega (arith, is, row-there (w .tokens) (F .name .row) (h .head .name .token .there)))
+
+  pub class-wrote : {mid : List ℕ} → ClearPost 2048 names mid → {x : ℕ} → x ≡ wordAt tab 2 row → {names′ : List ℕ} {v : ℕ} → FillPost tab n classes x mid names′ v
+      → {c′ E′ : List ℕ} {r : ℕ} → MethodsPost tab names′ n n first at c c′ E E′ r → ClassPost tab n classes row at names names′ c c′ E E′ r
+  class-wrote {mid} z {x} e₂ {names′} {v} f {c′} {E′} {r} m = record { within = m .within; stays = keep; says = go }
+    where
+      keep : KeptFrom absent names names′
+      keep j le = f .stays j le ∙ z .stays j le
+
+      fields : {ts : List Token} {G : List Class} → World tab n ts G → length G ≡ classes → (d : List ℕ) → Spells ts d x → FieldsHeld ts G (some d) names′
+      fields {ts} {G} w l d own = record {
+        says = λ text y sp.
+            f .says ts G w (some d) (a-name own) text y sp
+            ∙ ap (λ (v : ℕ). held v (nearestField (chainFrom classes G (some d)) text)) (z .zeros y (row-there (w .tokens) y (sp .there)))
+            ∙ ap (λ (i : ℕ). held 0 (nearestField (chainFrom i G (some d)) text)) (sym l);
+      }
+
+      go : (ts : List Token) (G : List Class) → World tab n ts G → length G ≡ classes → SizesHeld ts G names → (k : Class) → k .name .row ≡ row → ClassStands tab n ts k
+          → endMethods (k .methods) at ≤ room
+          → Wrote (firstNamed ts) (emitMethods G (k .name .text) (k .methods) at) (endMethods (k .methods) at) at c c′ r × (E′ ≡ entered (k .methods) at E)
+      go ts G w l sizes k is s lim =
+          let own : Spells ts (k .name .text) x = subst (Spells ts (k .name .text)) (ap (wordAt tab 2) is ∙ sym e₂) (name-word (w .tokens) (k .name .row) (s .named .token)) in
+          m .says ts G (k .name .text) (record { world = w; fields = fields w l (k .name .text) own; sizes = sizes-kept keep sizes }) (k .methods) (first-method e₅ w k is s) (s .methods) (s .few-methods) lim
+
+-- THE CLASSES FROM A ROW ON
+
+pub grows-classes : (ks : List Class) (i : ℕ) → i ≤ endClasses ks i
+unfolding endClasses
+grows-classes [] i = omega arith
+grows-classes (k ∷ ks) i = omega (arith, grows-methods (k .methods) i, grows-classes ks (endMethods (k .methods) i))
+
+module _ {tab : List ℕ} {n classes left row at : ℕ} {names c E : List ℕ} where
+  pub classes-none : left ≡ 0 → ClassesPost tab n classes left row at names c c E E
+  unfolding emitClasses enteredClasses store
+  classes-none z = record { says = λ ts G w l s ks h lim. go ts G ks (h .few) }
+    where
+      go : (ts : List Token) (G ks : List Class) → length ks ≤ left → (c ≡ store (firstNamed ts) (emitClasses G ks at) at c) × (E ≡ enteredClasses ks at E)
+      go ts G [] few = (refl, refl)
+      go ts G (k ∷ ks) few = absurd (omega arith)
+
+  pub classes-end : absent ≤ row → ClassesPost tab n classes left row at names c c E E
+  unfolding emitClasses enteredClasses store
+  classes-end far = record { says = λ ts G w l s ks h lim. go ts G w ks (h .here) (h .stand) }
+    where
+      go : (ts : List Token) (G : List Class) → World tab n ts G → (ks : List Class) → rowClasses ks ≡ row → ClassesStand tab n ts ks
+          → (c ≡ store (firstNamed ts) (emitClasses G ks at) at c) × (E ≡ enteredClasses ks at E)
+      go ts G w [] is h = (refl, refl)
+      go ts G w (k ∷ ks) is (more-classes s e h) = absurd (omega (arith, is, row-there (w .tokens) (k .name .row) (s .named .token .there)))
+
+  pub classes-more : row < absent → {a : ℕ} {names′ c₁ E₁ : List ℕ} → ClassPost tab n classes row at names names′ c c₁ E E₁ a → {next : ℕ} → next ≡ wordAt tab 6 row
+      → {c₂ E₂ : List ℕ} → ClassesPost tab n classes (left - 1) next a names′ c₁ c₂ E₁ E₂ → ClassesPost tab n classes left row at names c c₂ E E₂
+  unfolding emitClasses endClasses enteredClasses
+  classes-more near {a} {names′} {c₁} {E₁} f {next} e₆ {c₂} {E₂} g = record { says = λ ts G w l s ks h lim. go ts G w l s ks (h .here) (h .stand) (h .few) lim }
+    where
+      go : (ts : List Token) (G : List Class) → World tab n ts G → length G ≡ classes → SizesHeld ts G names → (ks : List Class) → rowClasses ks ≡ row → ClassesStand tab n ts ks
+          → length ks ≤ left → endClasses ks at ≤ room → (c₂ ≡ store (firstNamed ts) (emitClasses G ks at) at c) × (E₂ ≡ enteredClasses ks at E)
+      go ts G w l s [] is h few lim = absurd (omega (arith, is))
+      go ts G w l s (k ∷ ks) is (more-classes st e h) few lim =
+          let stop = endMethods (k .methods) at in
+          let u = f .says ts G w l s k is st (omega (arith, grows-classes ks stop)) in
+          let here : rowClasses ks ≡ next = sym (word-in tab 6 (k .name .row) (omega (arith, is)) e) ∙ ap (wordAt tab 6) is ∙ sym e₆ in
+          let v = g .says ts G w l (sizes-kept (f .stays) s) ks (record { here = here; stand = h; few = omega arith }) (rw (u .0 .ends) lim) in (
+            v .0 ∙ ap (λ (i : ℕ). store (firstNamed ts) (emitClasses G ks i) a c₁) (u .0 .ends) ∙ sym (u .0 .code .is (emitClasses G ks stop)),
+            v .1 ∙ rw (u .0 .ends, u .1),
+          )

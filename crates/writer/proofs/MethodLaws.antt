@@ -1,0 +1,95 @@
+-- What writing methods returns meets its contract: the parameters and locals of a method make the scope in which its body and its value are written.
+use Prim.Native.Nat.{ℕ, suc, _+_, _-_, _≤_, _<_}
+use native.Mathlib.Omega.{arith}
+use mathlib.Core.Path.{_≡_, refl, sym, ap, _∙_}
+use mathlib.Core.List.{List, [], _∷_}
+use lib.ListN.{length, set}
+use Rattle.lexer.specs.Tokens.{Token}
+use Rattle.lexer.specs.Rows.{firstNamed}
+use Rattle.parser.specs.Tree.{Sort.expression, Sort.statements, Method, Class}
+use Rattle.parser.specs.Layout.{rowMethods}
+use Rattle.base.specs.Table.{col}
+use Rattle.checker.specs.ClassTable.{contextOf}
+use Rattle.lookup.specs.Standing.{absent, wordAt, MethodStands, MethodsStand, more-methods}
+use Rattle.lookup.specs.StandingLaws.{word-in, row-there}
+use Rattle.codegen.specs.Code.{return}
+use Rattle.codegen.specs.Compile.{end, emit, middle, last, endMethods, emitMethods}
+use Rattle.writer.specs.Emits.{nothing}
+use Rattle.writer.specs.Lengths.{grows}
+use Rattle.writer.specs.Shows.{PartAt, Sees}
+use Rattle.writer.specs.Posts.{room, PutPost, Wrote, WritePost}
+use Rattle.writer.specs.Methods.{SeesClass, entered, MethodPost, MethodsPost}
+use Rattle.writer.proofs.PieceLaws.{put-one, next-to}
+
+-- a word of a row of a declaration
+word : (tab : List ℕ) (k : ℕ) {row r v w : ℕ} → w ≡ wordAt tab k row → r ≡ row → r < absent → col tab k r ≡ v → w ≡ v
+word tab k {row} {r} e at low h = e ∙ ap (wordAt tab k) (sym at) ∙ word-in tab k r low h
+
+pub method-wrote : {tab names : List ℕ} {n row at p l first a second b r : ℕ} {c c₁ c₂ c₃ : List ℕ} → p ≡ wordAt tab 4 row → l ≡ wordAt tab 5 row → first ≡ wordAt tab 4 (row + 1)
+    → WritePost tab names (record { tokens = n; parameters = p; locals = l }) statements n first at c c₁ a → second ≡ wordAt tab 5 (row + 1)
+    → WritePost tab names (record { tokens = n; parameters = p; locals = l }) expression n second a c₁ c₂ b → PutPost b 6 0 0 0 c₂ c₃ r → MethodPost tab names n row at c c₃ r
+method-wrote {tab} {names} {n} {row} {at} {p} {l} {first} {a} {second} {b} {r} {c} {c₁} {c₂} {c₃} e₄ e₅ e₄′ f e₅′ g o = record { within = o .within; says = go }
+  where
+    go : (ts : List Token) (G : List Class) (d : List ℕ) → SeesClass tab names n ts G d → (F : Method) → F .name .row ≡ row → MethodStands tab n ts F → suc (last F at) ≤ room
+        → Wrote (firstNamed ts) (λ k. emit G (contextOf d F) (F .body) at (emit G (contextOf d F) (F .value) (middle F at) (return ∷ k))) (suc (last F at)) at c c₃ r
+    go ts G d w F is h low =
+        let lx = w .world .tokens in
+        let near = row-there lx (F .name .row) (h .head .name .token .there) in
+        let near′ = row-there lx (F .name .row + 1) (h .after .there) in
+        let is′ = ap (λ (j : ℕ). j + 1) is in
+        let sees : Sees tab names ts G (contextOf d F) (record { tokens = n; parameters = p; locals = l }) =
+        record {
+          scope =
+              record {
+                world = w .world;
+                fields = w .fields;
+                given = F .parameters;
+                own = F .locals;
+                seen = refl;
+                given-listed = record { at = sym (word tab 4 e₄ is near (h .first)); stand = h .parameters; few = h .few-parameters };
+                own-listed = record { at = sym (word tab 5 e₅ is near (h .second)); stand = h .locals; few = h .few-locals };
+              };
+          sizes = w .sizes;
+        } in
+        let x : PartAt tab ts first n (F .body) = record { at = sym (word tab 4 e₄′ is′ near′ (h .start)); holds = h .body; matches = h .body-matches; few = h .body-nodes } in
+        let y : PartAt tab ts second n (F .value) = record { at = sym (word tab 5 e₅′ is′ near′ (h .return)); holds = h .value; matches = h .value-matches; few = h .value-nodes } in
+        let u = f .says ts G (contextOf d F) sees (F .body) x (omega (arith, grows (F .value) (middle F at))) in
+        let v = g .says ts G (contextOf d F) sees (F .value) y (rw (u .ends) (omega arith)) in
+        next-to (λ j k. emit G (contextOf d F) (F .value) j (return ∷ k)) (λ j. suc (end (F .value) j)) u
+        (next-to (λ j k. return ∷ k) suc v (put-one return refl o (rw (v .ends, u .ends) low)))
+
+pub grows-methods : (M : List Method) (i : ℕ) → i ≤ endMethods M i
+unfolding endMethods
+grows-methods [] i = omega arith
+grows-methods (F ∷ M) i = omega (arith, grows (F .body) i, grows (F .value) (middle F i), grows-methods M (suc (last F i)))
+
+module _ {tab names : List ℕ} {n left row at : ℕ} {c E : List ℕ} where
+  pub methods-none : left ≡ 0 → at ≤ room → MethodsPost tab names n left row at c c E E at
+  unfolding emitMethods endMethods entered
+  methods-none z low = record { within = low; says = λ ts G d w M is h few l. go ts G d M few }
+    where
+      go : (ts : List Token) (G : List Class) (d : List ℕ) (M : List Method) → length M ≤ left → Wrote (firstNamed ts) (emitMethods G d M at) (endMethods M at) at c c at × (E ≡ entered M at E)
+      go ts G d [] few = (record { ends = refl; code = nothing }, refl)
+      go ts G d (F ∷ M) few = absurd (omega arith)
+
+  pub methods-end : absent ≤ row → at ≤ room → MethodsPost tab names n left row at c c E E at
+  unfolding emitMethods endMethods entered
+  methods-end far low = record { within = low; says = λ ts G d w M is h few l. go ts G d w M is h }
+    where
+      go : (ts : List Token) (G : List Class) (d : List ℕ) → SeesClass tab names n ts G d → (M : List Method) → rowMethods M ≡ row → MethodsStand tab n ts M
+          → Wrote (firstNamed ts) (emitMethods G d M at) (endMethods M at) at c c at × (E ≡ entered M at E)
+      go ts G d w [] is h = (record { ends = refl; code = nothing }, refl)
+      go ts G d w (F ∷ M) is (more-methods h e hs) = absurd (omega (arith, is, row-there (w .world .tokens) (F .name .row) (h .head .name .token .there)))
+
+  pub methods-more : (left ≡ 0 → ⊥) → row < absent → {a next r : ℕ} {c₁ c₂ E₁ E₂ : List ℕ} → E₁ ≡ set E row at → MethodPost tab names n row at c c₁ a → next ≡ wordAt tab 6 row
+      → MethodsPost tab names n (left - 1) next a c₁ c₂ E₁ E₂ r → MethodsPost tab names n left row at c c₂ E E₂ r
+  unfolding emitMethods endMethods entered
+  methods-more more near {a} {next} {r} {c₁} {c₂} {E₁} {E₂} new f e₆ g = record { within = g .within; says = go }
+    where
+      go : (ts : List Token) (G : List Class) (d : List ℕ) → SeesClass tab names n ts G d → (M : List Method) → rowMethods M ≡ row → MethodsStand tab n ts M → length M ≤ left
+          → endMethods M at ≤ room → Wrote (firstNamed ts) (emitMethods G d M at) (endMethods M at) at c c₂ r × (E₂ ≡ entered M at E)
+      go ts G d w [] is h few l = absurd (omega (arith, is))
+      go ts G d w (F ∷ M) is (more-methods h e hs) few l =
+          let u = f .says ts G d w F is h (omega (arith, grows-methods M (suc (last F at)))) in
+          let v = g .says ts G d w M (sym (word tab 6 e₆ is (omega (arith, is)) e)) hs (omega arith) (rw (u .ends) l) in
+          (next-to (emitMethods G d M) (endMethods M) u (v .0), v .1 ∙ rw (u .ends, new, is))

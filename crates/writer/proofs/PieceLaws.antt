@@ -1,0 +1,28 @@
+-- Pieces of code as the code writes them: one instruction, a piece behind another, and a piece behind a jump that is written last.
+use Prim.Native.Nat.{ℕ, suc, _≤_}
+use native.Mathlib.Omega.{arith}
+use mathlib.Core.Path.{_≡_, subst}
+use mathlib.Core.List.{List, _∷_}
+use Rattle.codegen.specs.Code.{Instruction}
+use Rattle.writer.specs.Words.{words, encode}
+use Rattle.writer.specs.Emits.{behind, before, one}
+use Rattle.writer.specs.Posts.{room, PutPost, NextPost, Wrote}
+
+abbrev pub Piece : Type 0
+Piece = List Instruction → List Instruction
+
+-- one instruction
+pub put-one : (x : Instruction) {ν : List ℕ → ℕ} {at op a b d r : ℕ} {c c′ : List ℕ} → words op a b d ≡ encode ν x → PutPost at op a b d c c′ r → suc at ≤ room → Wrote ν (λ k. x ∷ k) (suc at) at c c′ r
+put-one x {ν} {at} {op} {a} {b} {d} {r} {c} {c′} e f h = record { ends = f .next h; code = rw (f .next h, f .says h, e) (one x) }
+
+-- a piece behind another, which ends at m
+pub next-to : (g : ℕ → Piece) (stop : ℕ → ℕ) {ν : List ℕ → ℕ} {f : Piece} {m i a b : ℕ} {c c₁ c₂ : List ℕ} → Wrote ν f m i c c₁ a → Wrote ν (g a) (stop a) a c₁ c₂ b → Wrote ν (λ k. f (g m k)) (stop m) i c c₂ b
+next-to g stop {ν} {f} {m} {i} {a} {b} {c} {c₁} {c₂} u v =
+    subst (λ (n : ℕ). Wrote ν (λ k. f (g n k)) (stop n) i c c₂ b) (u .ends) (record { ends = v .ends; code = behind (u .code) (v .code) })
+
+-- a piece behind an instruction that is written after it
+pub over : (x : Instruction) (g : ℕ → Piece) (stop : ℕ → ℕ) {ν : List ℕ → ℕ} {at n op a b d r j : ℕ} {c c₁ c₂ : List ℕ} → NextPost at n → Wrote ν (g n) (stop n) n c c₁ j → words op a b d ≡ encode ν x
+    → PutPost at op a b d c₁ c₂ r → suc at ≤ room → suc at ≤ stop (suc at) → Wrote ν (λ k. x ∷ g (suc at) k) (stop (suc at)) at c c₂ j
+over x g stop {ν} {at} {n} {op} {a} {b} {d} {r} {j} {c} {c₁} {c₂} m v e p h l =
+    let w : Wrote ν (g (suc at)) (stop (suc at)) (suc at) c c₁ j = subst (λ (i : ℕ). Wrote ν (g i) (stop i) i c c₁ j) (m .next h) v in
+    record { ends = w .ends; code = rw (p .says h, e) (before x (omega (arith, w .ends)) (w .code)) }

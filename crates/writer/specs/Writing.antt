@@ -1,0 +1,29 @@
+-- What writing a program ensures: the code is that of the compiler, and each method's entry stands at the row of its name.
+use Prim.Native.Nat.{ℕ, suc, _≤_}
+use mathlib.Core.Path.{_≡_}
+use mathlib.Core.List.{List, _∷_}
+use mathlib.Core.Option.{none}
+use lib.ListN.{length}
+use Rattle.lexer.specs.Tokens.{Token}
+use Rattle.lexer.specs.Rows.{firstNamed}
+use Rattle.parser.specs.Tree.{Program}
+use Rattle.parser.specs.Grammar.{DerivesProgram}
+use Rattle.checker.specs.ClassTable.{mainContext}
+use Rattle.declarations.specs.Indexing.{Ready}
+use Rattle.codegen.specs.Code.{halt}
+use Rattle.codegen.specs.Compile.{end, emit, compile}
+use Rattle.writer.specs.Words.{store}
+use Rattle.writer.specs.Places.{FieldsHeld}
+use Rattle.writer.specs.Sizing.{SizesHeld}
+use Rattle.writer.specs.Posts.{room, Wrote}
+use Rattle.writer.specs.Classes.{enteredClasses}
+
+pub record MainPost (tab names : List ℕ) (n : ℕ) (c c′ : List ℕ) (r : ℕ) : Type 0 where
+  pub within : r ≤ room
+  pub says : (ts : List Token) (p : Program) → Ready tab n ts p → FieldsHeld ts (p .classes) none names → SizesHeld ts (p .classes) names → suc (end (p .statement) 0) ≤ room
+      → Wrote (firstNamed ts) (λ k. emit (p .classes) mainContext (p .statement) 0 (halt ∷ k)) (suc (end (p .statement) 0)) 0 c c′ r
+
+-- whatever the accepted program is that the table holds
+pub record Writes (tab : List ℕ) (n classes : ℕ) (c c′ E E′ : List ℕ) : Type 0 where
+  pub says : (ts : List Token) (p : Program) → Ready tab n ts p → DerivesProgram ts p → length (p .classes) ≡ classes
+      → (c′ ≡ store (firstNamed ts) (compile p .instructions) 0 c) × (E′ ≡ enteredClasses (p .classes) (suc (end (p .statement) 0)) E)

@@ -1,0 +1,68 @@
+// Classes: the methods of each, one class after another. While those of a class are written, `names` holds what its fields mean to them.
+use crate::fields::clear;
+use crate::fields::fill;
+use crate::method::methods;
+use lookup::rows::ABSENT;
+use lookup::rows::word;
+ghost use Prim.Native.Nat.{_≤_};
+ghost use lib.ListN.{length};
+ghost use Rattle.reader.specs.WalkPost.{Walkable};
+ghost use Rattle.writer.specs.Classes.{ClassPost, ClassesPost};
+
+// The class in a row.
+fn of_class(
+    table: &[u32],
+    names: &mut [u32],
+    code: &mut [u32],
+    entries: &mut [u32],
+    n: usize,
+    classes: usize,
+    row: usize,
+    at: usize,
+) -> usize
+    requires { ⌜ Walkable (now table) n × (4096 ≤ length (now names)) × (32768 ≤ length (now code)) × (2048 ≤ length (now entries)) × (classes ≤ 2048) × (at ≤ 8192) ⌝ }
+    ensures { λ r. ⌜ ClassPost (now (table .entry)) n classes row at (now (names .entry)) (now (names .exit)) (now (code .entry)) (now (code .exit)) (now (entries .entry)) (now (entries .exit)) r ⌝ }
+{
+    let first = word(table, 5, row);
+    if ABSENT <= first {
+        return at;
+    }
+    clear(names);
+    fill(table, names, n, classes, word(table, 2, row));
+    methods(table, names, code, entries, n, n, first, at)
+}
+
+// The classes from a row on, of which at most `left` may come.
+pub fn each(
+    table: &[u32],
+    names: &mut [u32],
+    code: &mut [u32],
+    entries: &mut [u32],
+    n: usize,
+    classes: usize,
+    left: usize,
+    row: usize,
+    at: usize,
+)
+    requires { ⌜ Walkable (now table) n × (4096 ≤ length (now names)) × (32768 ≤ length (now code)) × (2048 ≤ length (now entries)) × (classes ≤ 2048) × (at ≤ 8192) ⌝ }
+    ensures { λ _. ⌜ ClassesPost (now (table .entry)) n classes left row at (now (names .entry)) (now (code .entry)) (now (code .exit)) (now (entries .entry)) (now (entries .exit)) ⌝ }
+{
+    if left == 0 {
+        return;
+    }
+    if ABSENT <= row {
+        return;
+    }
+    let a = of_class(table, names, code, entries, n, classes, row, at);
+    each(
+        table,
+        names,
+        code,
+        entries,
+        n,
+        classes,
+        left - 1,
+        word(table, 6, row),
+        a,
+    );
+}

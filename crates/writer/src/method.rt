@@ -1,0 +1,72 @@
+// Methods: the body, the value, the return; and where each method's code begins, in an array by the row of its name.
+use crate::code::put;
+use crate::expr::expression;
+use crate::scope::Scope;
+use crate::stmt::list;
+use codegen::numbers;
+use lookup::rows::ABSENT;
+use lookup::rows::word;
+ghost use mathlib.Core.Path.{_≡_};
+ghost use Prim.Native.Nat.{_≤_, _<_};
+ghost use lib.ListN.{length, set};
+ghost use Rattle.reader.specs.WalkPost.{Walkable};
+ghost use Rattle.writer.specs.Methods.{MethodPost, MethodsPost};
+
+// The method whose name stands in this row.
+fn method(table: &[u32], names: &[u32], code: &mut [u32], n: usize, row: usize, at: usize) -> usize
+    requires { ⌜ Walkable (now table) n × (4096 ≤ length (now names)) × (32768 ≤ length (now code)) × (at ≤ 8192) × (row < 2048) ⌝ }
+    ensures { λ r. ⌜ MethodPost (now (table .entry)) (now (names .entry)) n row at (now (code .entry)) (now (code .exit)) r ⌝ }
+{
+    let parameters = word(table, 4, row);
+    let locals = word(table, 5, row);
+    let s = Scope {
+        tokens: n,
+        parameters,
+        locals,
+    };
+    let a = list(table, names, code, s, n, word(table, 4, row + 1), at);
+    let b = expression(table, names, code, s, n, word(table, 5, row + 1), a);
+    put(code, b, numbers::RETURN, 0, 0, 0)
+}
+
+// A method's code begins here.
+fn enter(entries: &mut [u32], row: usize, at: usize)
+    requires { ⌜ (2048 ≤ length (now entries)) × (row < 2048) × (at ≤ 8192) ⌝ }
+    ensures { λ _. ⌜ now (entries .exit) ≡ set (now (entries .entry)) row at ⌝ }
+{
+    entries[row] = at as u32;
+}
+
+// The methods of a class from a row on, of which at most `left` may come.
+pub fn methods(
+    table: &[u32],
+    names: &[u32],
+    code: &mut [u32],
+    entries: &mut [u32],
+    n: usize,
+    left: usize,
+    row: usize,
+    at: usize,
+) -> usize
+    requires { ⌜ Walkable (now table) n × (4096 ≤ length (now names)) × (32768 ≤ length (now code)) × (2048 ≤ length (now entries)) × (at ≤ 8192) ⌝ }
+    ensures { λ r. ⌜ MethodsPost (now (table .entry)) (now (names .entry)) n left row at (now (code .entry)) (now (code .exit)) (now (entries .entry)) (now (entries .exit)) r ⌝ }
+{
+    if left == 0 {
+        return at;
+    }
+    if ABSENT <= row {
+        return at;
+    }
+    enter(entries, row, at);
+    let a = method(table, names, code, n, row, at);
+    methods(
+        table,
+        names,
+        code,
+        entries,
+        n,
+        left - 1,
+        word(table, 6, row),
+        a,
+    )
+}

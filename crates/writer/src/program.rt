@@ -1,0 +1,47 @@
+// A program: main's statement, the end, and the classes.
+use crate::classes::each;
+use crate::code::put;
+use crate::scope::Scope;
+use crate::sizes::sizes;
+use crate::stmt::single;
+use base::fill::zero_words;
+use codegen::numbers;
+use lookup::rows::ABSENT;
+use lookup::rows::word;
+ghost use Prim.Native.Nat.{_≤_};
+ghost use lib.ListN.{length};
+ghost use Rattle.reader.specs.WalkPost.{Walkable};
+ghost use Rattle.writer.specs.Writing.{MainPost, Writes};
+
+// Main's statement, which stands in row 14 and sees no names, and the end.
+fn main_code(table: &[u32], names: &[u32], code: &mut [u32], n: usize) -> usize
+    requires { ⌜ Walkable (now table) n × (4096 ≤ length (now names)) × (32768 ≤ length (now code)) ⌝ }
+    ensures { λ r. ⌜ MainPost (now (table .entry)) (now (names .entry)) n (now (code .entry)) (now (code .exit)) r ⌝ }
+{
+    let s = Scope {
+        tokens: n,
+        parameters: ABSENT,
+        locals: ABSENT,
+    };
+    let a = single(table, names, code, s, n, 14, 0);
+    put(code, a, numbers::HALT, 0, 0, 0)
+}
+
+// The code of an accepted program of n tokens, whose class table has this many classes, and where each method's code begins, by the row of its name.
+pub fn write(
+    table: &[u32],
+    names: &mut [u32],
+    code: &mut [u32],
+    entries: &mut [u32],
+    n: usize,
+    classes: usize,
+)
+    requires { ⌜ Walkable (now table) n × (4096 ≤ length (now names)) × (32768 ≤ length (now code)) × (2048 ≤ length (now entries)) × (classes ≤ 2048) ⌝ }
+    ensures { λ _. ⌜ Writes (now (table .entry)) n classes (now (code .entry)) (now (code .exit)) (now (entries .entry)) (now (entries .exit)) ⌝ }
+{
+    let first = word(table, 6, 0);
+    zero_words(names);
+    sizes(table, names, n, classes, n, first);
+    let a = main_code(table, names, code, n);
+    each(table, names, code, entries, n, classes, n, first, a);
+}

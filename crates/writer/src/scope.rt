@@ -1,0 +1,38 @@
+// What a body sees: where its parameters and its locals begin, of which main has none; and the fields of the declaring class and those above it, in `slots`
+// (see `fields`).
+use crate::count::place;
+use lookup::member::count;
+use lookup::rows::ABSENT;
+ghost use Prim.Native.Nat.{_≤_, _<_};
+ghost use lib.ListN.{length};
+ghost use Rattle.reader.specs.WalkPost.{Walkable};
+ghost use Rattle.writer.specs.Scoping.{SlotPost};
+
+pub struct Scope {
+    pub tokens: usize,
+    pub parameters: usize,
+    pub locals: usize,
+}
+
+// What a name means: a parameter or local by its place among these, else the nearest field upwards from the declaring class.
+pub fn slot(table: &[u32], slots: &[u32], s: Scope, x: usize) -> usize
+    requires { ⌜ Walkable (now table) (s .tokens) × (2048 ≤ length (now slots)) ⌝ }
+    ensures { λ r. ⌜ SlotPost (now (table .entry)) (now (slots .entry)) s x r ⌝ }
+{
+    let i = place(table, s.tokens, s.parameters, x, 0);
+    if i < ABSENT {
+        return i;
+    }
+    let j = place(table, s.tokens, s.locals, x, 0);
+    if j < ABSENT {
+        return count(table, s.tokens, s.parameters) + j;
+    }
+    if ABSENT <= x {
+        return ABSENT;
+    }
+    let w = slots[x] as usize;
+    if w == 0 {
+        return ABSENT;
+    }
+    w
+}
