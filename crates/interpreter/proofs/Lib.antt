@@ -1,22 +1,3 @@
--- Laws that the proofs of the functions of a turn cite.
-pub mod StackLaws
-pub mod FrameLaws
-pub mod OperateLaws
-pub mod BeginLaws
-pub mod NextLaws
-pub mod HeapLaws
-pub mod BeginStates
-pub mod LayStates
-pub mod HeapStates
-pub mod NextStates
-pub mod AdvanceLaws
-pub mod AdvanceStates
-pub mod AdvanceTurns
-pub mod TaskTypes
-pub mod ValueTurns
-pub mod HeapTurns
-pub mod CallLaws
-pub mod CallStates
-pub mod TurnLaws
-pub mod TurnStates
-pub mod RunStates
+-- Laws that the proofs cite.
+pub mod ReportLaws
+pub mod ExecuteLaws

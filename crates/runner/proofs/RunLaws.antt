@@ -1,8 +1,9 @@
 -- What the functions of Run return meets their contracts: Check's promise makes the lesson runnable, and the run reports what the machine does.
 use Prim.Native.Nat.{ℕ, _≤_, _<_}
+use native.Mathlib.Omega.{arith}
 use mathlib.Core.Path.{_≡_, refl, sym, ap, _∙_, subst}
 use mathlib.Core.List.{List, List·Memᴰ}
-use lib.ListN.{length, drop, replicate}
+use lib.ListN.{length, drop, replicate, length-replicate}
 use lib.IntN.{ℤ, pos}
 use borrow.Author.Tests.{eq-eqb, ne-eqb, lt-ltb, le-ltb}
 use Rattle.base.specs.Lists.{drop-none}
@@ -11,55 +12,70 @@ use Rattle.parser.specs.Tree.{Program}
 use Rattle.checker.specs.Check.{Verdict, accept, refuse, refuseEndless, checking}
 use Rattle.typecheck.specs.declared.check.Found.{Found}
 use Rattle.typecheck.specs.declared.check.Found.the-variants.{Program as found, Refused as unfit}
-use Rattle.resolver.specs.Settling.{Accepted, Settles}
+use Rattle.writer.specs.Preparing.{Accepted, Prepares}
+use Rattle.reader.specs.WalkPost.{Walkable}
 use Rattle.semantics.specs.Run.{Strips, Refusal, RunMeets, Runs}
 use Rattle.semantics.specs.Run as Run
 use Rattle.guarantees.specs.Accepted.{allowed}
 use Rattle.guarantees.specs.Demand.{fits}
 use Rattle.interpreter.specs.declared.state.Bounds.{Bounds}
-use Rattle.interpreter.specs.declared.execute.Ended.{Ended}
-use Rattle.interpreter.specs.Running.{Runnable, Ready, Executed}
+use Rattle.interpreter.specs.declared.report.Ended.{Ended}
+use Rattle.interpreter.specs.Running.{Runnable, Executed}
 use Rattle.runner.specs.declared.run.RunAnswer.{RunAnswer}
 use Rattle.runner.specs.RunPost.{strips, refused, Performs}
 
 -- CHECK'S PROMISE
 
+-- the table can be walked over
+pub walkable : (s : List ℕ) (code code′ entries entries′ : List ℕ) {tokens classes : ℕ} {f : Found} {tab : List ℕ} → 16384 ≤ length tab → Prepares (checking s) f tab code code′ entries entries′
+    → f ≡ found tokens classes → Walkable tab tokens
+walkable s code code′ entries entries′ {tokens} {classes} {f} {tab} big h q = by (checking s) h
+  where
+    by : (v : Verdict) → Prepares v f tab code code′ entries entries′ → Walkable tab tokens
+    by (accept p) a =
+        let z = a .answer in
+        let t : tokens ≡ length (a .stream) = cc in
+        record { few = omega (arith, a .world .tokens .few); big = big }
+    by (refuse n i) a = apart (cc)
+    by (refuseEndless ps) a = let z = a .1 in apart (cc)
+
 -- an accepted lesson can be run
-runnable : (s : List ℕ) (p : Program) (tokens classes : ℕ) (tab : List ℕ) → checking s ≡ accept p → (a : Accepted p (found tokens classes) tab)
-    → Runnable tab (record { tokens = tokens; classes = classes }) (a .stream) p
-runnable s p tokens classes tab e a =
-    let t : tokens ≡ length (a .stream) = let z = a .answer in cc in
-    let c : classes ≡ length (p .classes) = let z = a .answer in cc in
+runnable : (s : List ℕ) (p : Program) (tokens classes : ℕ) (tab code code′ entries entries′ : List ℕ) → checking s ≡ accept p → Accepted p (found tokens classes) tab code code′ entries entries′
+    → 32768 ≤ length code → 2048 ≤ length entries → Runnable tab code′ entries′ (record { tokens = tokens; classes = classes }) p
+runnable s p tokens classes tab code code′ entries entries′ e a long many =
+    let z = a .answer in
+    let t : tokens ≡ length (a .stream) = cc in
+    let c : classes ≡ length (p .classes) = cc in
     record {
-      resolved = rw t (a .resolved);
-      classes = sym c;
+      answer = found tokens classes;
+      code₀ = code;
+      entries₀ = entries;
+      accepted = a;
+      room = long;
+      entries-room = many;
+      tokens = t;
+      classes = c;
       typed = allowed s p e .typed;
       fits = fits s p e;
       shallow = allowed s p e .shallow;
     }
 
-pub ready : (s : List ℕ) {tokens classes : ℕ} {f : Found} {tab : List ℕ} → Settles (checking s) f tab → f ≡ found tokens classes → Ready tab (record { tokens = tokens; classes = classes })
-ready s {tokens} {classes} {f} {tab} h q = by (checking s) refl h
-  where
-    by : (v : Verdict) → checking s ≡ v → Settles v f tab → Ready tab (record { tokens = tokens; classes = classes })
-    by (accept p) e a =
-        let b : Accepted p (found tokens classes) tab = subst (λ (x : Found). Accepted p x tab) q a in
-        record { toks = b .stream; program = p; runnable = runnable s p tokens classes tab e b }
-    by (refuse n i) e a = apart (cc)
-    by (refuseEndless ps) e a = let z = a .1 in apart (cc)
-
 -- WHAT IS PERFORMED
 
-pub performed : (s : List ℕ) (b : Bounds) (heap output : List ℤ) {tokens classes : ℕ} {f : Found} {tab : List ℕ} {x : Ended} {output′ : List ℤ} → Settles (checking s) f tab
-    → f ≡ found tokens classes → Executed tab (record { tokens = tokens; classes = classes }) b heap output x output′
+pub performed : (s : List ℕ) (b : Bounds) (heap output : List ℤ) {tokens classes : ℕ} {f : Found} {tab code′ entries′ : List ℕ} {x : Ended} {output′ : List ℤ}
+    → Prepares (checking s) f tab (replicate 32768 0) code′ (replicate 2048 0) entries′ → f ≡ found tokens classes
+    → Executed tab code′ entries′ (record { tokens = tokens; classes = classes }) b heap output x output′
     → Performs (checking s) b heap output (record { number = x .number; position = x .position; steps = x .steps; words = x .words; printed = x .printed }) output′
-performed s b heap output {tokens} {classes} {f} {tab} {x} {output′} h q E = by (checking s) refl h
+performed s b heap output {tokens} {classes} {f} {tab} {code′} {entries′} {x} {output′} h q E = by (checking s) refl h
   where
-    by : (v : Verdict) → checking s ≡ v → Settles v f tab
+    by : (v : Verdict) → checking s ≡ v → Prepares v f tab (replicate 32768 0) code′ (replicate 2048 0) entries′
         → Performs v b heap output (record { number = x .number; position = x .position; steps = x .steps; words = x .words; printed = x .printed }) output′
     by (accept p) e a =
-        let c : Accepted p (found tokens classes) tab = subst (λ (y : Found). Accepted p y tab) q a in
-        let r = E .says (c .stream) p (runnable s p tokens classes tab e c) in
+        let c : Accepted p (found tokens classes) tab (replicate 32768 0) code′ (replicate 2048 0) entries′ =
+        subst (λ (y : Found). Accepted p y tab (replicate 32768 0) code′ (replicate 2048 0) entries′) q a in
+        let long : length (replicate {A = ℕ} 32768 0) ≡ 32768 = length-replicate {A = ℕ} 32768 0 in
+        let many : length (replicate {A = ℕ} 2048 0) ≡ 2048 = length-replicate {A = ℕ} 2048 0 in
+        let r = E .says p (runnable s p tokens classes tab (replicate 32768 0) code′ (replicate 2048 0) entries′ e c (omega (arith, long)) (omega (arith, many))) in
         (record { ending = r .ending; steps = r .steps; words = r .words; printed = r .printed }, r .strip)
     by (refuse n i) e a = apart (cc)
     by (refuseEndless ps) e a = let z = a .1 in apart (cc)
@@ -67,11 +83,11 @@ performed s b heap output {tokens} {classes} {f} {tab} {x} {output′} h q E = b
 zero-counts : {n p : ℕ} {a : Run.RunAnswer} → a ≡ refused n p → Refusal (a .number) (a .position) a
 zero-counts e = rw e (record { numbered = refl; placed = refl; steps = refl; words = refl; printed = refl })
 
-pub unperformed : (s : List ℕ) (b : Bounds) (heap output : List ℤ) (tab : List ℕ) {n p : ℕ} {f : Found} {a : Run.RunAnswer} → Settles (checking s) f tab → f ≡ unfit n p → a ≡ refused n p
-    → Performs (checking s) b heap output a output
-unperformed s b heap output tab {n} {p} {f} {a} h q e = by (checking s) h
+pub unperformed : (s : List ℕ) (b : Bounds) (heap output : List ℤ) (tab code code′ entries entries′ : List ℕ) {n p : ℕ} {f : Found} {a : Run.RunAnswer}
+    → Prepares (checking s) f tab code code′ entries entries′ → f ≡ unfit n p → a ≡ refused n p → Performs (checking s) b heap output a output
+unperformed s b heap output tab code code′ entries entries′ {n} {p} {f} {a} h q e = by (checking s) h
   where
-    by : (v : Verdict) → Settles v f tab → Performs v b heap output a output
+    by : (v : Verdict) → Prepares v f tab code code′ entries entries′ → Performs v b heap output a output
     by (accept p) c = let z = c .answer in apart (cc)
     by (refuse k i) c =
         let x : n ≡ k = cc in

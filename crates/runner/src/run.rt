@@ -3,9 +3,9 @@ use base::fill::zero_numbers;
 use base::fill::zero_words;
 use interpreter::execute::execute;
 use interpreter::state::Bounds;
-use interpreter::state::Sizes;
-use resolver::settle::settle;
 use typecheck::check::Found;
+use vm::calls::Sizes;
+use writer::prepare::prepare;
 ghost use Prim.Native.Nat.{_≤_, _<_};
 ghost use mathlib.Core.Path.{_≡_};
 ghost use lib.ListN.{length};
@@ -46,10 +46,20 @@ fn perform(
     requires { ⌜ (16384 ≤ length (now table)) × (length (now heap) ≤ 16384) × (b .budget < 4294967296) × (b .calls ≤ 64) ⌝ }
     ensures { λ r. ⌜ Performs (checking (now (source .entry))) b (now (heap .entry)) (now (output .entry)) (answerOf r) (now (output .exit)) ⌝ }
 {
-    let f = settle(source, table);
+    let mut code = [0u32; 32768];
+    let mut entries = [0u32; 2048];
+    let f = prepare(source, table, &mut code, &mut entries);
     match f {
         Found::Program(tokens, classes) => {
-            let e = execute(table, heap, output, Sizes { tokens, classes }, b);
+            let e = execute(
+                table,
+                &entries,
+                &code,
+                heap,
+                output,
+                Sizes { tokens, classes },
+                b,
+            );
             RunAnswer {
                 number: e.number,
                 position: e.position,
