@@ -6,6 +6,7 @@ mod menu_case;
 mod numbers;
 mod operation;
 mod output;
+mod page;
 mod run_case;
 mod run_lent;
 mod source;

@@ -1,5 +1,4 @@
 // What the program writes: numbers and words of an answer, and the lines that say what is wrong with a case.
-use base::word::unsigned;
 use libc::STDOUT_FILENO;
 
 // What can be wrong with a case.
@@ -33,17 +32,6 @@ pub fn number(n: u64) {
 pub fn next_number(n: u64) {
     text(b" ");
     number(n);
-}
-
-// Writes a blank and a signed number.
-pub fn next_signed(n: i32) {
-    let w = unsigned(n);
-    if w < 2147483648 {
-        next_number(w as u64);
-        return;
-    }
-    text(b" -");
-    number(4294967296 - w as u64);
 }
 
 // Ends an answer, with a word where a strip does not hold what it should.

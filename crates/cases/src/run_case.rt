@@ -1,6 +1,7 @@
 // The operation run: `run TABLE BUDGET CALLS HEAP OUT HEX` is answered by `NUMBER POSITION STEPS WORDS`, and where numbers were printed by ` :` and these.
 use crate::numbers;
 use crate::output;
+use crate::page;
 use crate::strip;
 use runner::run::RunAnswer;
 use runner::run::run;
@@ -25,11 +26,8 @@ fn write_numbers(numbers: &[i32]) {
         return;
     }
     output::text(b" :");
-    let mut i: usize = 0;
-    while i < numbers.len() {
-        output::next_signed(numbers[i]);
-        i += 1;
-    }
+    let mut bytes = [0u8; page::BYTES];
+    page::write_signed(&mut bytes, numbers);
 }
 
 // Writes the first `n` numbers of the output strip, and answers whether there are as many and the rest is as it was beforehand.
