@@ -27,7 +27,7 @@ const SOURCE_MOST: usize = 20000;
 const TABLE_MOST: usize = 20000;
 
 // The longest strip: a word for each token, which is more than there can be classes, so the rest of it can be looked at too.
-// The line, the source, the table and all strips take less than an eighth of a stack of 2 MiB.
+// The line, the source, the table and all strips take less than a quarter of a stack of 1 MiB.
 const STRIP_MOST: usize = 2048;
 
 // What came of one read of the input: how many bytes of a line wait for the rest of it; or the input is over.

@@ -8,12 +8,16 @@ use lib.IntN.{ℤ, pos}
 use borrow.Author.Tests.{eq-eqb, ne-eqb, lt-ltb, le-ltb}
 use Rattle.base.specs.Lists.{drop-none}
 use Rattle.base.specs.Tests.{apart}
-use Rattle.parser.specs.Tree.{Program}
+use Rattle.parser.specs.Tree.{Program, Statement}
+use Rattle.parser.specs.Tree.{Part.block, Part.conditional, Part.loop, Part.print, Part.assign, Part.assignElement}
+use Rattle.parser.specs.Measure.{nodes, programNodes}
+use Rattle.reader.specs.Counting.{program-nodes}
 use Rattle.checker.specs.Check.{Verdict, accept, refuse, refuseEndless, checking}
 use Rattle.typecheck.specs.declared.check.Found.{Found}
 use Rattle.typecheck.specs.declared.check.Found.the-variants.{Program as found, Refused as unfit}
 use Rattle.writer.specs.Preparing.{Accepted, Prepares}
-use Rattle.reader.specs.WalkPost.{Walkable}
+use Rattle.typecheck.specs.CheckPost.{Leaves}
+use Rattle.vm.specs.declared.calls.Sizes.{Sizes}
 use Rattle.semantics.specs.Run.{Strips, Refusal, RunMeets, Runs}
 use Rattle.semantics.specs.Run as Run
 use Rattle.guarantees.specs.Accepted.{allowed}
@@ -22,22 +26,47 @@ use Rattle.interpreter.specs.declared.state.Bounds.{Bounds}
 use Rattle.interpreter.specs.declared.report.Ended.{Ended}
 use Rattle.interpreter.specs.Running.{Runnable, Executed}
 use Rattle.runner.specs.declared.run.RunAnswer.{RunAnswer}
-use Rattle.runner.specs.RunPost.{strips, refused, Performs}
+use Rattle.runner.specs.RunPost.{strips, refused, Completes, Performs, Known, Performed}
 
 -- CHECK'S PROMISE
 
--- the table can be walked over
-pub walkable : (s : List ℕ) (code code′ entries entries′ : List ℕ) {tokens classes : ℕ} {f : Found} {tab : List ℕ} → 16384 ≤ length tab → Prepares (checking s) f tab code code′ entries entries′
-    → f ≡ found tokens classes → Walkable tab tokens
-walkable s code code′ entries entries′ {tokens} {classes} {f} {tab} big h q = by (checking s) h
+-- it is within its bounds: the table can be walked over
+pub accepted-few : {s : List ℕ} {z : Sizes} {tab : List ℕ} → Known s z tab → 0 < z .tokens → (z .tokens ≤ 2048) × (z .classes ≤ 2048)
+accepted-few {s} {z} {tab} k l = by (checking s) (k .says l)
   where
-    by : (v : Verdict) → Prepares v f tab code code′ entries entries′ → Walkable tab tokens
+    by : (v : Verdict) → Leaves v (found (z .tokens) (z .classes)) tab → (z .tokens ≤ 2048) × (z .classes ≤ 2048)
     by (accept p) a =
-        let z = a .answer in
-        let t : tokens ≡ length (a .stream) = cc in
-        record { few = omega (arith, a .world .tokens .few); big = big }
-    by (refuse n i) a = apart (cc)
-    by (refuseEndless ps) a = let z = a .1 in apart (cc)
+        let e = a .answer in
+        let t : length (a .stream) ≡ z .tokens = cc in
+        let c : length (p .classes) ≡ z .classes = cc in
+        (omega (arith, t, a .ready .world .tokens .few), omega (arith, c, a .ready .world .few, a .ready .world .tokens .few))
+    by (refuse n i) a = let e = a in apart (cc)
+    by (refuseEndless ps) a = let e = a .1 in apart (cc)
+
+-- a program has a node
+statement-nodes : (p : Program) → 0 < programNodes p
+unfolding programNodes nodes
+statement-nodes p = omega (arith, some-nodes (p .statement))
+  where
+    some-nodes : (x : Statement) → 0 < nodes x
+    some-nodes (block q ss) = omega arith
+    some-nodes (conditional q e x y) = omega arith
+    some-nodes (loop q e x) = omega arith
+    some-nodes (print q e) = omega arith
+    some-nodes (assign q y e) = omega arith
+    some-nodes (assignElement q y i e) = omega arith
+
+-- it has a token
+pub accepted-some : (s tab : List ℕ) {tokens classes : ℕ} {f : Found} → Leaves (checking s) f tab → f ≡ found tokens classes → 0 < tokens
+accepted-some s tab {tokens} {classes} {f} h q = by (checking s) h
+  where
+    by : (v : Verdict) → Leaves v f tab → 0 < tokens
+    by (accept p) a =
+        let e = a .answer in
+        let t : length (a .stream) ≡ tokens = cc in
+        omega (arith, t, program-nodes (a .derived), statement-nodes p)
+    by (refuse n i) a = let e = a in apart (cc)
+    by (refuseEndless ps) a = let e = a .1 in apart (cc)
 
 -- an accepted lesson can be run
 runnable : (s : List ℕ) (p : Program) (tokens classes : ℕ) (tab code code′ entries entries′ : List ℕ) → checking s ≡ accept p → Accepted p (found tokens classes) tab code code′ entries entries′
@@ -62,34 +91,36 @@ runnable s p tokens classes tab code code′ entries entries′ e a long many =
 
 -- WHAT IS PERFORMED
 
-pub performed : (s : List ℕ) (b : Bounds) (heap output : List ℤ) {tokens classes : ℕ} {f : Found} {tab code′ entries′ : List ℕ} {x : Ended} {output′ : List ℤ}
-    → Prepares (checking s) f tab (replicate 32768 0) code′ (replicate 2048 0) entries′ → f ≡ found tokens classes
-    → Executed tab code′ entries′ (record { tokens = tokens; classes = classes }) b heap output x output′
-    → Performs (checking s) b heap output (record { number = x .number; position = x .position; steps = x .steps; words = x .words; printed = x .printed }) output′
-performed s b heap output {tokens} {classes} {f} {tab} {code′} {entries′} {x} {output′} h q E = by (checking s) refl h
+pub completed : (tab : List ℕ) (sz : Sizes) (b : Bounds) (heap output : List ℤ) {code′ entries′ : List ℕ} {x : Ended} {output′ : List ℤ}
+    → Prepares (sz .tokens) (sz .classes) tab (replicate 32768 0) code′ (replicate 2048 0) entries′ → Executed tab code′ entries′ sz b heap output x output′
+    → Completes tab sz b heap output (record { number = x .number; position = x .position; steps = x .steps; words = x .words; printed = x .printed }) output′
+completed tab sz b heap output {code′} {entries′} {x} {output′} w E = record { says = λ s h. by s (checking s) refl h }
   where
-    by : (v : Verdict) → checking s ≡ v → Prepares v f tab (replicate 32768 0) code′ (replicate 2048 0) entries′
+    by : (s : List ℕ) (v : Verdict) → checking s ≡ v → Leaves v (found (sz .tokens) (sz .classes)) tab
         → Performs v b heap output (record { number = x .number; position = x .position; steps = x .steps; words = x .words; printed = x .printed }) output′
-    by (accept p) e a =
-        let c : Accepted p (found tokens classes) tab (replicate 32768 0) code′ (replicate 2048 0) entries′ =
-        subst (λ (y : Found). Accepted p y tab (replicate 32768 0) code′ (replicate 2048 0) entries′) q a in
+    by s (accept p) e h =
         let long : length (replicate {A = ℕ} 32768 0) ≡ 32768 = length-replicate {A = ℕ} 32768 0 in
         let many : length (replicate {A = ℕ} 2048 0) ≡ 2048 = length-replicate {A = ℕ} 2048 0 in
-        let r = E .says p (runnable s p tokens classes tab (replicate 32768 0) code′ (replicate 2048 0) entries′ e c (omega (arith, long)) (omega (arith, many))) in
+        let r = E .says p (runnable s p (sz .tokens) (sz .classes) tab (replicate 32768 0) code′ (replicate 2048 0) entries′ e (w .says p h) (omega (arith, long)) (omega (arith, many))) in
         (record { ending = r .ending; steps = r .steps; words = r .words; printed = r .printed }, r .strip)
-    by (refuse n i) e a = apart (cc)
-    by (refuseEndless ps) e a = let z = a .1 in apart (cc)
+    by s (refuse n i) e h = let z = h in apart (cc)
+    by s (refuseEndless ps) e h = let z = h .1 in apart (cc)
+
+pub performed : {s : List ℕ} {z : Sizes} {b : Bounds} {heap output : List ℤ} {tab table′ : List ℕ} {heap′ output′ : List ℤ} {a : Run.RunAnswer} → Known s z tab → 0 < z .tokens
+    → Completes tab z b heap output a output′ → Performed s z b tab heap output a table′ heap′ output′
+performed {s} k l C = record { performs = C .says s (k .says l); clears = λ e. absurd (omega (arith, l, e)) }
 
 zero-counts : {n p : ℕ} {a : Run.RunAnswer} → a ≡ refused n p → Refusal (a .number) (a .position) a
 zero-counts e = rw e (record { numbered = refl; placed = refl; steps = refl; words = refl; printed = refl })
 
-pub unperformed : (s : List ℕ) (b : Bounds) (heap output : List ℤ) (tab code code′ entries entries′ : List ℕ) {n p : ℕ} {f : Found} {a : Run.RunAnswer}
-    → Prepares (checking s) f tab code code′ entries entries′ → f ≡ unfit n p → a ≡ refused n p → Performs (checking s) b heap output a output
-unperformed s b heap output tab code code′ entries entries′ {n} {p} {f} {a} h q e = by (checking s) h
+refuses-so : (s : List ℕ) (b : Bounds) (heap output : List ℤ) (tab : List ℕ) {n p : ℕ} {f : Found} {a : Run.RunAnswer}
+    → Leaves (checking s) f tab → f ≡ unfit n p → a ≡ refused n p → Performs (checking s) b heap output a output
+refuses-so s b heap output tab {n} {p} {f} {a} h q e = by (checking s) h
   where
-    by : (v : Verdict) → Prepares v f tab code code′ entries entries′ → Performs v b heap output a output
+    by : (v : Verdict) → Leaves v f tab → Performs v b heap output a output
     by (accept p) c = let z = c .answer in apart (cc)
     by (refuse k i) c =
+        let z = c in
         let x : n ≡ k = cc in
         let y : p ≡ i = cc in
         ((ap (λ (r : Run.RunAnswer). r .number) e ∙ x, ap (λ (r : Run.RunAnswer). r .position) e ∙ y), zero-counts e, refl)
@@ -97,6 +128,30 @@ unperformed s b heap output tab code code′ entries entries′ {n} {p} {f} {a} 
         let x : n ≡ 22 = cc in
         let y : p ≡ k = cc in
         ((ap (λ (r : Run.RunAnswer). r .number) e ∙ x, subst (λ (i : ℕ). List·Memᴰ i ps) (sym (ap (λ (r : Run.RunAnswer). r .position) e ∙ y)) w), zero-counts e, refl)
+
+-- zeros as long as the strips were
+cleared : (table table₁ : List ℕ) (heap heap₁ : List ℤ) {table₂ : List ℕ} {heap₂ : List ℤ} → length table₁ ≡ length table → length heap₁ ≡ length heap
+    → table₂ ≡ replicate (length table₁) 0 → heap₂ ≡ replicate (length heap₁) (pos 0) → (table₂ ≡ replicate (length table) 0) × (heap₂ ≡ replicate (length heap) (pos 0))
+cleared table table₁ heap heap₁ lt lh et eh = (et ∙ ap (λ (n : ℕ). replicate n 0) lt, eh ∙ ap (λ (n : ℕ). replicate n (pos 0)) lh)
+
+pub unperformed : (s : List ℕ) (z : Sizes) (b : Bounds) (table table₁ : List ℕ) (heap output : List ℤ) {table₂ : List ℕ} {heap₂ : List ℤ} {n p : ℕ} {f : Found} {a : Run.RunAnswer}
+    → Leaves (checking s) f table₁ → f ≡ unfit n p → length table₁ ≡ length table → table₂ ≡ replicate (length table₁) 0 → heap₂ ≡ replicate (length heap) (pos 0) → a ≡ refused n p
+    → Performed s z b table heap output a table₂ heap₂ output
+unperformed s z b table table₁ heap output h q lt et eh e =
+    record { performs = refuses-so s b heap output table₁ h q e; clears = λ _. cleared table table₁ heap heap lt refl et eh }
+
+pub checked : {s : List ℕ} {z y : Sizes} {b : Bounds} (table table₁ table₂ : List ℕ) {heap heap₁ output : List ℤ} {table₃ : List ℕ} {heap₂ output′ : List ℤ} {a : Run.RunAnswer}
+    → Performed s y b table₁ heap output a table₂ heap₁ output′ → length table₂ ≡ length table → length heap₁ ≡ length heap
+    → table₃ ≡ replicate (length table₂) 0 → heap₂ ≡ replicate (length heap₁) (pos 0) → Performed s z b table heap output a table₃ heap₂ output′
+checked table table₁ table₂ {heap} {heap₁} h lt lh et eh = record { performs = h .performs; clears = λ _. cleared table table₂ heap heap₁ lt lh et eh }
+
+-- what Check found is known of the lesson
+pub now-known : (s tab : List ℕ) {tokens classes : ℕ} {f : Found} → Leaves (checking s) f tab → f ≡ found tokens classes → Known s (record { tokens = tokens; classes = classes }) tab
+now-known s tab h q = record { says = λ _. subst (λ (y : Found). Leaves (checking s) y tab) q h }
+
+-- of no tokens nothing is known
+pub nothing-known : (s tab : List ℕ) (classes : ℕ) → Known s (record { tokens = 0; classes = classes }) tab
+nothing-known s tab classes = record { says = λ l. absurd (omega (arith, l)) }
 
 -- RUN
 
@@ -127,17 +182,18 @@ module _ (s : List ℕ) (budget calls : ℕ) (table : List ℕ) (heap output : L
         long-heap m e =
             rw (le-ltb (length table) 16384 long, ne-eqb calls 0 some-calls, le-ltb 64 calls few-calls, lt-ltb 16384 (length heap) m) (refuses 3 e)
 
-        pub runs : (a : Run.RunAnswer) (heap₁ : List ℤ) (table₁ : List ℕ) {table₂ : List ℕ} {heap₂ : List ℤ} (output₂ : List ℤ) → length heap ≤ 16384
-            → Performs (checking s) (record { budget = budget; calls = calls }) heap output a output₂ → length table₁ ≡ length table → length heap₁ ≡ length heap
-            → table₂ ≡ replicate (length table₁) 0 → heap₂ ≡ replicate (length heap₁) (pos 0) → Runs s budget calls Before a (strips table₂ heap₂ output₂)
+        pub runs : (a : Run.RunAnswer) {table₂ : List ℕ} {heap₂ : List ℤ} (output₂ : List ℤ) → length heap ≤ 16384
+            → Performed s (record { tokens = 0; classes = 0 }) (record { budget = budget; calls = calls }) table heap output a table₂ heap₂ output₂
+            → Runs s budget calls Before a (strips table₂ heap₂ output₂)
         unfolding Runs
-        runs a heap₁ table₁ {table₂} {heap₂} output₂ short h lt lh et eh =
-            rw (le-ltb (length table) 16384 long, ne-eqb calls 0 some-calls, le-ltb 64 calls few-calls, le-ltb 16384 (length heap) short) (by (checking s) h)
+        runs a {table₂} {heap₂} output₂ short h =
+            rw (le-ltb (length table) 16384 long, ne-eqb calls 0 some-calls, le-ltb 64 calls few-calls, le-ltb 16384 (length heap) short) (by (checking s) (h .performs))
           where
             same : (o : List ℤ) → output₂ ≡ o → strips table₂ heap₂ output₂ ≡ strips (replicate (length table) 0) (replicate (length heap) (pos 0)) o
             same o e =
-                ap (λ (t : List ℕ). strips t heap₂ output₂) (et ∙ ap (λ (n : ℕ). replicate n 0) lt)
-                ∙ ap (λ (z : List ℤ). strips (replicate (length table) 0) z output₂) (eh ∙ ap (λ (n : ℕ). replicate n (pos 0)) lh)
+                let z = h .clears refl in
+                ap (λ (t : List ℕ). strips t heap₂ output₂) (z .0)
+                ∙ ap (λ (k : List ℤ). strips (replicate (length table) 0) k output₂) (z .1)
                 ∙ ap (strips (replicate (length table) 0) (replicate (length heap) (pos 0))) e
 
             by : (v : Verdict) → Performs v (record { budget = budget; calls = calls }) heap output a output₂ → RunMeets v budget calls Before a (strips table₂ heap₂ output₂)

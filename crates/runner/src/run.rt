@@ -4,14 +4,15 @@ use base::fill::zero_words;
 use interpreter::execute::execute;
 use interpreter::state::Bounds;
 use typecheck::check::Found;
+use typecheck::check::find;
 use vm::calls::Sizes;
 use writer::prepare::prepare;
 ghost use Prim.Native.Nat.{_≤_, _<_};
 ghost use mathlib.Core.Path.{_≡_};
 ghost use lib.ListN.{length};
-ghost use Rattle.checker.specs.Check.{checking};
+ghost use Rattle.reader.specs.WalkPost.{Walkable};
 ghost use Rattle.semantics.specs.Run.{Runs};
-ghost use Rattle.runner.specs.RunPost.{answerOf, strips, Performs, refused};
+ghost use Rattle.runner.specs.RunPost.{answerOf, strips, Known, Completes, Performed, refused};
 
 // What Run answers: a result number and a position, the steps, the heap words and how many numbers were printed.
 pub struct RunAnswer {
@@ -35,40 +36,55 @@ fn refusal(number: u32, position: usize) -> RunAnswer
     }
 }
 
-// Checks the lesson and runs it; the table and the heap strip are left as they are then.
+// Writes the code of the accepted lesson that the table holds, and runs it.
+fn compiled(table: &[u32], s: Sizes, b: Bounds, heap: &mut [i32], output: &mut [i32]) -> RunAnswer
+    requires { ⌜ Walkable (now table) (s .tokens) × (s .classes ≤ 2048) × (length (now heap) ≤ 16384) × (b .budget < 4294967296) × (b .calls ≤ 64) ⌝ }
+    ensures { λ r. ⌜ Completes (now (table .entry)) s b (now (heap .entry)) (now (output .entry)) (answerOf r) (now (output .exit)) ⌝ }
+{
+    let mut code = [0u32; 32768];
+    let mut entries = [0u32; 2048];
+    prepare(table, &mut code, &mut entries, s.tokens, s.classes);
+    let e = execute(table, &entries, &code, heap, output, s, b);
+    RunAnswer {
+        number: e.number,
+        position: e.position,
+        steps: e.steps,
+        words: e.words,
+        printed: e.printed,
+    }
+}
+
+// Checks the lesson where no tokens are known of it, and then goes on with those of an accepted one: it is run. The call that checks clears the table and the heap strip.
+// It calls itself for the sake of the stack: the compiler puts no function that calls itself into its caller, and none with large arrays into one that calls itself. So the
+// arrays of a run are not there yet while the lesson is read.
 fn perform(
     source: &[u8],
     table: &mut [u32],
     b: Bounds,
     heap: &mut [i32],
     output: &mut [i32],
+    s: Sizes,
 ) -> RunAnswer
-    requires { ⌜ (16384 ≤ length (now table)) × (length (now heap) ≤ 16384) × (b .budget < 4294967296) × (b .calls ≤ 64) ⌝ }
-    ensures { λ r. ⌜ Performs (checking (now (source .entry))) b (now (heap .entry)) (now (output .entry)) (answerOf r) (now (output .exit)) ⌝ }
+    requires { ⌜ (16384 ≤ length (now table)) × (length (now heap) ≤ 16384) × (b .budget < 4294967296) × (b .calls ≤ 64) × Known (now source) s (now table) ⌝ }
+    ensures { λ r. ⌜ Performed (now (source .entry)) s b (now (table .entry)) (now (heap .entry)) (now (output .entry)) (answerOf r)
+        (now (table .exit)) (now (heap .exit)) (now (output .exit)) ⌝ }
 {
-    let mut code = [0u32; 32768];
-    let mut entries = [0u32; 2048];
-    let f = prepare(source, table, &mut code, &mut entries);
+    if 0 < s.tokens {
+        return compiled(table, s, b, heap, output);
+    }
+    let f = find(source, table);
     match f {
         Found::Program(tokens, classes) => {
-            let e = execute(
-                table,
-                &entries,
-                &code,
-                heap,
-                output,
-                Sizes { tokens, classes },
-                b,
-            );
-            RunAnswer {
-                number: e.number,
-                position: e.position,
-                steps: e.steps,
-                words: e.words,
-                printed: e.printed,
-            }
+            let r = perform(source, table, b, heap, output, Sizes { tokens, classes });
+            zero_words(table);
+            zero_numbers(heap);
+            r
         }
-        Found::Refused(number, at) => refusal(number, at),
+        Found::Refused(number, at) => {
+            zero_words(table);
+            zero_numbers(heap);
+            refusal(number, at)
+        }
     }
 }
 
@@ -100,8 +116,9 @@ pub fn run(
         budget: budget as usize,
         calls,
     };
-    let r = perform(source, table, b, heap, output);
-    zero_words(table);
-    zero_numbers(heap);
-    r
+    let unknown = Sizes {
+        tokens: 0,
+        classes: 0,
+    };
+    perform(source, table, b, heap, output, unknown)
 }

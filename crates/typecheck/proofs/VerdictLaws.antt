@@ -32,7 +32,7 @@ use Rattle.typecheck.specs.declared.check.Found.{Found}
 use Rattle.typecheck.specs.declared.check.Found.the-variants.{Program as found, Refused as unfit}
 use Rattle.typecheck.specs.declared.check.CheckAnswer.{CheckAnswer}
 use Rattle.typecheck.specs.MethodPost.{BodiesJudged}
-use Rattle.typecheck.specs.CheckPost.{Holding, Leaves, ContentsJudged, Tells, chainsOn, ChainedJudged, IndexedJudged, TreeJudged, answerOf}
+use Rattle.typecheck.specs.CheckPost.{Holding, Leaves, ContentsJudged, Tells, chainsOn, ChainedJudged, IndexedJudged, TreeJudged, answerOf, Told}
 
 -- before the first list of members no name has a stamp
 pub zeros-below : (m : ℕ) → Below 1 (replicate m 0)
@@ -206,6 +206,13 @@ module _ (s : List ℕ) (a : Filled) (middle : List ℕ) (f : Fills (reading s) 
       go (accepted d) h = let z = h .0 in let l : length (d .stream) ≡ n = cc in omega (arith, l, h .1 .few)
       go (refused k p) h = let z = h in apart (cc)
 
+  -- what is told of it
+  pub answer-refused : {n q : ℕ} → a ≡ notRead n q → {x : CheckAnswer} → Told (unfit n q) (answerOf x) → CheckMeets (checking s) (answerOf x)
+  answer-refused is t = t .says (checking s) [] (find-refused [] is)
+
+  pub answer-tree : {after : List ℕ} {n m : ℕ} → a ≡ Tree n m → {r : Found} → TreeJudged n middle r after → {x : CheckAnswer} → Told r (answerOf x) → CheckMeets (checking s) (answerOf x)
+  answer-tree {after} is g t = t .says (checking s) after (find-tree is g)
+
 -- THE OPERATION
 
 module _ (s table : List ℕ) where
@@ -213,27 +220,30 @@ module _ (s table : List ℕ) where
   unfolding CheckAnswers tableAfter
   check-short h e₁ e₂ e₃ = record { answer = rw (lt-ltb (length table) tableLeast h, e₁, e₂, e₃); table = rw (lt-ltb (length table) tableLeast h) }
 
-  module _ (long : 16384 ≤ length table) (f : Found) (middle : List ℕ) {after : List ℕ} (l : Leaves (checking s) f middle) (same : length middle ≡ length table) (zero : after ≡ replicate (length middle) 0) where
-    checks : (r : CheckAnswer) → CheckMeets (checking s) (answerOf r) → Checks s table (answerOf r) after
-    unfolding CheckAnswers tableAfter
-    checks r m = record { answer = rw (le-ltb (length table) tableLeast long) m; table = rw (le-ltb (length table) tableLeast long) (zero ∙ ap (λ (k : ℕ). replicate k 0) same) }
+  pub check-done : (r : CheckAnswer) (middle : List ℕ) {after : List ℕ} → 16384 ≤ length table → length middle ≡ length table → after ≡ replicate (length middle) 0
+      → CheckMeets (checking s) (answerOf r) → Checks s table (answerOf r) after
+  unfolding CheckAnswers tableAfter
+  check-done r middle long same zero m =
+      record { answer = rw (le-ltb (length table) tableLeast long) m; table = rw (le-ltb (length table) tableLeast long) (zero ∙ ap (λ (k : ℕ). replicate k 0) same) }
 
-    pub check-found : {n k : ℕ} → f ≡ found n k → {r : CheckAnswer} → r .number ≡ 0 → r .position ≡ 0 → r .classes ≡ k → Checks s table (answerOf r) after
-    check-found {n} {k} is {r} e₁ e₂ e₃ = checks r (go (checking s) l)
-      where
-        go : (w : Verdict) → Leaves w f middle → CheckMeets w (answerOf r)
-        go (accept p) h = let z = h .answer in let c : length (p .classes) ≡ k = cc in rw (e₁, e₂, e₃, c)
-        go (refuse m q) h = let z = h in apart (cc)
-        go (refuseEndless ps) h = let z = h .1 in apart (cc)
+-- THE ANSWER
 
-    pub check-unfit : {n q : ℕ} → f ≡ unfit n q → {r : CheckAnswer} → r .number ≡ n → r .position ≡ q → r .classes ≡ 0 → Checks s table (answerOf r) after
-    check-unfit {n} {q} is {r} e₁ e₂ e₃ = checks r (go (checking s) l)
-      where
-        go : (w : Verdict) → Leaves w f middle → CheckMeets w (answerOf r)
-        go (accept p) h = let z = h .answer in apart (cc)
-        go (refuse m p) h = let z = h in let a : n ≡ m = cc in let b : q ≡ p = cc in ((e₁ ∙ a, e₂ ∙ b), e₃)
-        go (refuseEndless ps) h =
-            let z = h .1 in
-            let a : n ≡ chainEndless = cc in
-            let b : h .0 ≡ q = cc in
-            ((e₁ ∙ a, subst (λ (i : ℕ). List·Memᴰ i ps) (b ∙ sym e₂) (h .2)), e₃)
+pub told-found : {f : Found} {n k : ℕ} → f ≡ found n k → {r : CheckAnswer} → r .number ≡ 0 → r .position ≡ 0 → r .classes ≡ k → Told f (answerOf r)
+told-found {f} {n} {k} is {r} e₁ e₂ e₃ = record { says = go }
+  where
+    go : (w : Verdict) (tab : List ℕ) → Leaves w f tab → CheckMeets w (answerOf r)
+    go (accept p) tab h = let z = h .answer in let c : length (p .classes) ≡ k = cc in rw (e₁, e₂, e₃, c)
+    go (refuse m q) tab h = let z = h in apart (cc)
+    go (refuseEndless ps) tab h = let z = h .1 in apart (cc)
+
+pub told-unfit : {f : Found} {n q : ℕ} → f ≡ unfit n q → {r : CheckAnswer} → r .number ≡ n → r .position ≡ q → r .classes ≡ 0 → Told f (answerOf r)
+told-unfit {f} {n} {q} is {r} e₁ e₂ e₃ = record { says = go }
+  where
+    go : (w : Verdict) (tab : List ℕ) → Leaves w f tab → CheckMeets w (answerOf r)
+    go (accept p) tab h = let z = h .answer in apart (cc)
+    go (refuse m p) tab h = let z = h in let a : n ≡ m = cc in let b : q ≡ p = cc in ((e₁ ∙ a, e₂ ∙ b), e₃)
+    go (refuseEndless ps) tab h =
+        let z = h .1 in
+        let a : n ≡ chainEndless = cc in
+        let b : h .0 ≡ q = cc in
+        ((e₁ ∙ a, subst (λ (i : ℕ). List·Memᴰ i ps) (b ∙ sym e₂) (h .2)), e₃)

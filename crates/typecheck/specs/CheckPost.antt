@@ -12,7 +12,7 @@ use Rattle.parser.specs.Layout.{rowClasses}
 use Rattle.parser.specs.Read.{Reading}
 use Rattle.reader.specs.ReadPost.{Filling}
 use Rattle.checker.specs.Declarations.{knownParents, endless, declarations}
-use Rattle.checker.specs.Check.{Verdict, accept, refuse, refuseEndless, allBodies, unlessRefused, unlessEndless, judged, CheckAnswer as SpecAnswer}
+use Rattle.checker.specs.Check.{Verdict, accept, refuse, refuseEndless, allBodies, unlessRefused, unlessEndless, judged, CheckAnswer as SpecAnswer, CheckMeets}
 use Rattle.lookup.specs.declared.answer.Judged.{Judged}
 use Rattle.lookup.specs.declared.answer.Judged.the-variants.{Fine, Refused}
 use Rattle.lookup.specs.Answers.{settled}
@@ -63,3 +63,7 @@ pub record TreeJudged (n : ℕ) (before : List ℕ) (r : Found) (after : List �
 -- the code's answer as document 01 counts it
 abbrev pub answerOf : CheckAnswer → SpecAnswer
 answerOf a = record { number = a .number; position = a .position; classes = a .classes }
+
+-- an answer that is right where Check finds this
+pub record Told (f : Found) (a : SpecAnswer) : Type 0 where
+  pub says : (v : Verdict) (tab : List ℕ) → Leaves v f tab → CheckMeets v a

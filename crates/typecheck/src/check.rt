@@ -14,8 +14,8 @@ use reader::read::fill;
 ghost use Prim.Native.Nat.{_≤_, _<_};
 ghost use lib.ListN.{length};
 ghost use Rattle.reader.specs.WalkPost.{Walkable};
-ghost use Rattle.checker.specs.Check.{checking, Checks};
-ghost use Rattle.typecheck.specs.CheckPost.{ContentsJudged, ChainedJudged, IndexedJudged, TreeJudged, Leaves, answerOf};
+ghost use Rattle.checker.specs.Check.{checking, CheckMeets, Checks};
+ghost use Rattle.typecheck.specs.CheckPost.{ContentsJudged, ChainedJudged, IndexedJudged, TreeJudged, Leaves, Told, answerOf};
 
 // The tokens and the classes of an accepted source; or a refusal and its position.
 pub enum Found {
@@ -102,19 +102,10 @@ pub fn find(source: &[u8], table: &mut [u32]) -> Found
     }
 }
 
-// The operation Check of document 01.
-pub fn check(source: &[u8], table: &mut [u32]) -> CheckAnswer
-    ensures { λ r. ⌜ Checks (now (source .entry)) (now (table .entry)) (answerOf r) (now (table .exit)) ⌝ }
+// What Check answers of what was found.
+fn told(f: Found) -> CheckAnswer
+    ensures { λ r. ⌜ Told f (answerOf r) ⌝ }
 {
-    if table.len() < 16384 {
-        return CheckAnswer {
-            number: 1,
-            position: 0,
-            classes: 0,
-        };
-    }
-    let f = find(source, table);
-    zero_words(table);
     match f {
         Found::Program(_tokens, classes) => CheckAnswer {
             number: 0,
@@ -127,4 +118,32 @@ pub fn check(source: &[u8], table: &mut [u32]) -> CheckAnswer
             classes: 0,
         },
     }
+}
+
+// What Check answers, with the table left filled. It calls `tree` itself, as `find` does: the compiler leaves a function that is called in two places as it is, so the arrays of `tree` do not lie below the parser's calls.
+fn answer(source: &[u8], table: &mut [u32]) -> CheckAnswer
+    requires { ⌜ 16384 ≤ length (now table) ⌝ }
+    ensures { λ r. ⌜ CheckMeets (checking (now (source .entry))) (answerOf r) ⌝ }
+{
+    let f = fill(source, table);
+    match f {
+        Filled::Tree(tokens, _nodes) => told(tree(table, tokens)),
+        Filled::Refused(number, at) => told(Found::Refused(number, at)),
+    }
+}
+
+// The operation Check of document 01.
+pub fn check(source: &[u8], table: &mut [u32]) -> CheckAnswer
+    ensures { λ r. ⌜ Checks (now (source .entry)) (now (table .entry)) (answerOf r) (now (table .exit)) ⌝ }
+{
+    if table.len() < 16384 {
+        return CheckAnswer {
+            number: 1,
+            position: 0,
+            classes: 0,
+        };
+    }
+    let a = answer(source, table);
+    zero_words(table);
+    a
 }

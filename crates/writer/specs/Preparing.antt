@@ -1,18 +1,17 @@
--- What a run begins with: the verdict of Check, and of an accepted source the tokens and the class table in the table, and its code. Running rests on this and on nothing else of
--- checking.
+-- What a run begins with: of an accepted source the tokens and the class table in the table, and its code. Running rests on this and on nothing else of checking.
 use Prim.Native.Nat.{ℕ, suc, _≤_}
 use mathlib.Core.Path.{_≡_}
-use mathlib.Core.List.{List, List·Memᴰ}
+use mathlib.Core.List.{List}
 use lib.ListN.{length}
-use Rattle.base.specs.Codes.{chainEndless}
 use Rattle.lexer.specs.Tokens.{Token}
 use Rattle.lexer.specs.Rows.{firstNamed}
 use Rattle.parser.specs.Tree.{Program}
 use Rattle.parser.specs.Grammar.{DerivesProgram}
-use Rattle.checker.specs.Check.{Verdict, accept, refuse, refuseEndless}
+use Rattle.checker.specs.Check.{accept}
 use Rattle.lookup.specs.Standing.{World}
 use Rattle.typecheck.specs.declared.check.Found.{Found}
-use Rattle.typecheck.specs.declared.check.Found.the-variants.{Program as found, Refused as unfit}
+use Rattle.typecheck.specs.declared.check.Found.the-variants.{Program as found}
+use Rattle.typecheck.specs.CheckPost.{Leaves}
 use Rattle.codegen.specs.Compile.{end, compile}
 use Rattle.writer.specs.Words.{store}
 use Rattle.writer.specs.Classes.{enteredClasses}
@@ -26,8 +25,6 @@ pub record Accepted (p : Program) (r : Found) (tab code code′ entries entries�
   pub room : length (compile p .instructions) ≤ 8192
   pub entries-are : entries′ ≡ enteredClasses (p .classes) (suc (end (p .statement) 0)) entries
 
--- the answers, tables and codes that are right for a verdict
-abbrev pub Prepares : Verdict → Found → (tab code code′ entries entries′ : List ℕ) → Type 0
-Prepares (accept p) r tab code code′ entries entries′ = Accepted p r tab code code′ entries entries′
-Prepares (refuse n q) r tab code code′ entries entries′ = r ≡ unfit n q
-Prepares (refuseEndless ps) r tab code code′ entries entries′ = (q : ℕ) × (r ≡ unfit chainEndless q) × List·Memᴰ q ps
+-- what is written of the program that Check left in the table
+pub record Prepares (n k : ℕ) (tab code code′ entries entries′ : List ℕ) : Type 0 where
+  pub says : (p : Program) → Leaves (accept p) (found n k) tab → Accepted p (found n k) tab code code′ entries entries′

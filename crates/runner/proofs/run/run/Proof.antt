@@ -1,14 +1,8 @@
 -- The tests are those of the definition, in its order; then what was performed, and zeros.
+use Rattle.runner.proofs.RunLaws.{too-short, no-calls, many-calls, long-heap, nothing-known, runs}
 use borrow.Author.Needs.{needs}
 use Rattle.runner.proofs.run.run.Statement.{statement}
 use Rattle.runner.proofs.run.run.Tie as tie
-use Rattle.runner.proofs.run.run.Reads as reads
-use Rattle.runner.proofs.run.run.Lts as lts
-use Rattle.base.proofs.fill.zero_numbers.Reads as zero-numbers-reads
-use Rattle.base.proofs.fill.zero_words.Reads as zero-words-reads
-use Rattle.runner.proofs.run.perform.Reads as perform-reads
-use Rattle.runner.proofs.run.refusal.Reads as refusal-reads
-use Rattle.runner.proofs.RunLaws.{too-short, no-calls, many-calls, long-heap, runs}
 
 refusal-requires : tie.Need-refusal-requires
 refusal-requires c κs = search needs
@@ -35,13 +29,7 @@ returns-4 : tie.Need-returns-4
 returns-4 c = search long-heap
 
 perform-requires : tie.Need-perform-requires
-perform-requires c κs = search needs
-
-zero-words-requires : tie.Need-zero-words-requires
-zero-words-requires c κs = search needs
-
-zero-numbers-requires : tie.Need-zero-numbers-requires
-zero-numbers-requires c κs = search needs
+perform-requires c κs = search (needs, nothing-known)
 
 same-length : tie.Need-same-length
 same-length c = search needs
@@ -68,8 +56,6 @@ run-spec =
     refusal-requires-4
     returns-4
     perform-requires
-    zero-words-requires
-    zero-numbers-requires
     same-length
     same-length-2
     same-length-3
