@@ -7,17 +7,13 @@ use lib.ListN.{length, getD, drop}
 use borrow.Author.Tests.{lt-ltb, le-ltb}
 use Rattle.base.specs.Codes.{literalMost}
 use Rattle.lexer.specs.Tokens.{decimal}
+use Rattle.lexer.specs.LiteralLaws.{decimal-grows}
 use Rattle.lexer.specs.Chains.{bucketFrom}
 use Rattle.lexer.specs.Verdicts.{literalOf}
 use Rattle.lexer.specs.declared.limits.Literal.the-variants.{Value, TooLarge}
 use Rattle.lexer.proofs.Runs.{rest, rest-none}
 
 -- ---- the value of a literal
-
-decimal-grows : (high : ℕ) (ds : List ℕ) → high ≤ decimal high ds
-unfolding decimal
-decimal-grows high [] = omega arith
-decimal-grows high (d ∷ ds) = omega (arith, decimal-grows (high * 10 + (d - 48)) ds)
 
 -- the digits before i make `high`
 pub record Summed (t : List ℕ) (high i : ℕ) : Type 0 where
