@@ -4,13 +4,13 @@ use native.Mathlib.Decide.{decLt}
 use native.Mathlib.Omega.{arith}
 use mathlib.Core.List.{List, [], _∷_}
 use mathlib.Core.Logic.{_≢_, _↔_}
-use mathlib.Core.Bool.{true, false, _&&_}
+use mathlib.Core.Bool.{true, false}
 use mathlib.Core.Option.{some}
-use mathlib.Core.Path.{_≡_, refl, sym, ap, _∙_}
+use mathlib.Core.Path.{_≡_, refl, ap}
 use lib.ListN.{length, getElem?}
 use lib.Dec.{eqb, ltb, leb}
 use borrow.Author.Tests.{leb-true, lt-ltb, eqb-false}
-use Rattle.base.specs.Lists.{all-nil, all-cons}
+use Rattle.base.specs.Lists.{all-cons}
 use Rattle.base.specs.Outcome.{accepted}
 use Rattle.base.specs.Tests.{and-true, and-right}
 use Rattle.lexer.specs.Bytes.{isDigit}
@@ -25,7 +25,7 @@ unfolding decimal
 decimal-grows high [] = omega arith
 decimal-grows high (d ∷ ds) = omega (arith, decimal-grows (high * 10 + (d - 48)) ds)
 
-digit-range : (d : ℕ) → isDigit d ≡ true → (48 ≤ d) × (d ≤ 57)
+pub digit-range : (d : ℕ) → isDigit d ≡ true → (48 ≤ d) × (d ≤ 57)
 unfolding isDigit
 digit-range d e = let q = and-true (leb 48 d) (leb d 57) e in (leb-true 48 d (q .0), leb-true d 57 (q .1))
 
