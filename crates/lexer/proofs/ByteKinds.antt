@@ -30,7 +30,10 @@ not-blank : (b : ℕ) → 48 ≤ b → isBlank b ≡ false
 unfolding isBlank
 not-blank b h =
     simp
-    (ne-eqb b 32 (λ e. omega arith), ne-eqb b 9 (λ e. omega arith), ne-eqb b 10 (λ e. omega arith), ne-eqb b 13 (λ e. omega arith), ne-eqb b 12 (λ e. omega arith))
+    (low 32 (omega arith), low 9 (omega arith), low 10 (omega arith), low 13 (omega arith), low 12 (omega arith))
+  where
+    low : (n : ℕ) → n < 48 → eqb b n ≡ false
+    low n l = ne-eqb b n (λ e. omega arith)
 
 -- ---- the tests by the kind
 

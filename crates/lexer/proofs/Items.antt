@@ -110,7 +110,8 @@ module _ (s : List ℕ) (i : ℕ) (h : i < length s) where
   not-slash y z n = opens 47 y z (ne-eqb 47 first (λ q. n (sym q))) refl
 
   -- the tests by the kind of the first byte
-  by-kind : {k : ℕ} → byteKind first ≡ k → (isLetter first ≡ eqb k bLetter) × (isDigit first ≡ eqb k bDigit) × (isBlank first ≡ eqb k bBlank)
+  by-kind : {k : ℕ} → byteKind first ≡ k
+      → (isLetter first ≡ eqb k bLetter) × (isDigit first ≡ eqb k bDigit) × (isBlank first ≡ eqb k bBlank)
   by-kind e = (
     letter-by-kind first ∙ ap (λ (k : ℕ). eqb k bLetter) e,
     digit-by-kind first ∙ ap (λ (k : ℕ). eqb k bDigit) e,
@@ -126,7 +127,8 @@ module _ (s : List ℕ) (i : ℕ) (h : i < length s) where
   pub at-digit : byteKind first ≡ bDigit → item i (drop i s) ≡ token kLiteral (run isDigit (drop i s))
   at-digit e =
       let n = off-slash e refl in
-      choice (by-kind e .2) (not-slash 47 refl n) (not-slash 42 refl n) (by-kind e .0) (by-kind e .1) refl ∙ ap (token kLiteral) (back isDigit)
+      choice (by-kind e .2) (not-slash 47 refl n) (not-slash 42 refl n) (by-kind e .0) (by-kind e .1) refl
+      ∙ ap (token kLiteral) (back isDigit)
 
   pub at-and : first ≡ 38 → second ≡ 38 → item i (drop i s) ≡ token kAnd (38 ∷ 38 ∷ [])
   unfolding isBlank isLetter isDigit

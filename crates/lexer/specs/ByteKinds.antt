@@ -1,5 +1,5 @@
--- Document 02, (iv): the kind of a byte, from the tests of bytes and marks. It is written as the byte that stands for it in the table of the code.
--- The definition of the tokens does not speak of it.
+-- Document 02, (iv): the kind of a byte, from the tests of bytes and marks. It is written as the byte that stands for it in the table of
+-- the code. The definition of the tokens does not speak of it.
 use Prim.Native.Nat.{ℕ, _+_}
 use mathlib.Core.List.{List, [], _∷_}
 use mathlib.Core.Bool.{Bool, true, _&&_, _||_, not}

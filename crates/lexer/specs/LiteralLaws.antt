@@ -1,4 +1,5 @@
--- Document 02, (i): without leading zeros a literal's bytes are given by its value. Two literals have equal values exactly when they have equal bytes.
+-- Document 02, (i): without leading zeros a literal's bytes are given by its value. Two literals have equal values exactly when they have
+-- equal bytes.
 use Prim.Native.Nat.{ℕ, suc, _+_, _*_, _-_, _≤_, _<_}
 use native.Mathlib.Decide.{decLt}
 use native.Mathlib.Omega.{arith}
@@ -89,6 +90,7 @@ pub literal-text : {s s′ : List ℕ} {t u : Token} → TokenOf s t → TokenOf
 literal-text {t = t} {u = u} o o′ k k′ = (λ v. equal-value (t .text) (u .text) (literal-of o k) (literal-of o′ k′) v, λ e. ap (decimal 0) e)
 
 -- two literals of an accepted source
-pub value-text : (s : List ℕ) (ts : List Token) → tokens s ≡ accepted ts → (i j : ℕ) (t u : Token) → getElem? ts i ≡ some t → t .kind ≡ kLiteral
-    → getElem? ts j ≡ some u → u .kind ≡ kLiteral → (decimal 0 (t .text) ≡ decimal 0 (u .text)) ↔ (t .text ≡ u .text)
+pub value-text : (s : List ℕ) (ts : List Token) → tokens s ≡ accepted ts → (i j : ℕ) (t u : Token)
+    → getElem? ts i ≡ some t → t .kind ≡ kLiteral → getElem? ts j ≡ some u → u .kind ≡ kLiteral
+    → (decimal 0 (t .text) ≡ decimal 0 (u .text)) ↔ (t .text ≡ u .text)
 value-text s ts a i j t u et kt eu ku = literal-text (token-of s ts a i t et) (token-of s ts a j u eu) kt ku

@@ -32,7 +32,8 @@ returns-4 c =
     let f = z .before in
     let g = f .before .before .before .before in
     let a = g .args in
-    verdict-zero (a .count) (a .kind) (a .text .now) (f .before .before .if1 .left) (f .if4 .taken) (z .starts-with-zero .ensures) (c .if5 .taken)
+    verdict-zero (a .count) (a .kind) (a .text .now)
+    (f .before .before .if1 .left) (f .if4 .taken) (z .starts-with-zero .ensures) (c .if5 .taken)
 
 value-of-requires : tie.Need-value-of-requires
 value-of-requires c κs = search needs

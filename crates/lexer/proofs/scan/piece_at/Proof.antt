@@ -74,7 +74,8 @@ mark-requires c κs =
     record {
       inside = g .pre .1;
       is = refl;
-      kind = kind-mark _ (subst (λ (n : ℕ). bDigit ≤ n) e (c .before .before .if1 .left)) (λ q. c .before .if4 .left (e ∙ q)) (λ q. c .if5 .left (e ∙ q));
+      kind =
+          kind-mark _ (subst (λ (n : ℕ). bDigit ≤ n) e (c .before .before .if1 .left)) (λ q. c .before .if4 .left (e ∙ q)) (λ q. c .if5 .left (e ∙ q));
     }
 
 returns-6 : tie.Need-returns-6
