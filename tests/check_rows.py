@@ -1,4 +1,4 @@
-"""Cases of check and menu, worked out by hand from document 01. A refused lesson is marked where it is refused (see lessons.py); no answer comes from the program."""
+"""Cases of check and menu, worked out by hand from documents 01 and 02. A refused lesson is marked where it is refused (see lessons.py); no answer comes from the program."""
 from lessons import EMPTY, ONE, class_of, fits, main_with, method, names, places, positions, program, unmarked
 
 TABLE = 16384
@@ -73,6 +73,9 @@ READ_FIRST = [
     (12, after(TWICE) + "@/*"),
     (13, after(TWICE) + "class @" + "x" * 256),
     (14, program("@2147483648") + TWICE),
+    (60, program("@010") + TWICE),
+    (60, program("!" * 63 + "@00")),
+    (60, program("x+@02147483648")),
     (16, after(TWICE) + "class B{@"),
     (16, program("@}") + TWICE),
     (17, program("!" * 63 + "@true") + TWICE),

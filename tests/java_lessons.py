@@ -1,6 +1,6 @@
 """Lessons that are compared with Java: written by hand, of each kind, with the end that each should have. tests/java adds those of lesson_generator.py and of lessons/.
 
-Each is accepted here and by javac, and means the same in both, so they keep out of what differs: leading zeros, nested comments, a carriage return in a `//` comment; locals that are
+Each is accepted here and by javac, and means the same in both, so they keep out of what differs: nested comments, a carriage return in a `//` comment; locals that are
 read before they are assigned; loops whose test is constant, which make what follows them unreachable; names that only Java reserves (`null`, `for`, `final`, ..) or that java.lang.Object
 has as methods (`equals`, `wait`, ..); main's parameter. They keep within bayrun's limits, which Java does not have: 100,000 steps, 64 open calls, 4,096 heap words, 256 outputs.
 """

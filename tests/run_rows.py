@@ -1,4 +1,4 @@
-"""Cases of run, worked out by hand from document 01. A position is where a mark stands (see lessons.py), steps are counted node by node; no answer comes from the program."""
+"""Cases of run, worked out by hand from documents 01 and 02. A position is where a mark stands (see lessons.py), steps are counted node by node; no answer comes from the program."""
 from lessons import FIRST, ONE, START, class_of, fits, main_with, method, places, program, unmarked
 
 TABLE = 16384
@@ -49,11 +49,18 @@ def bench_rows():
     ]
 
 
+def zero_rows():
+    """Document 02, (i): what Java would read in base 8, or not at all, is refused; a lone 0 stays."""
+    refused = ["@010", "@00", "@08", "1+@007", "new int[@00].length", "@02147483648"]
+    return [stopped(60, program(e), 0, 0) for e in refused] + [fine(program("0"), 2, 0, 0), fine(program("10"), 2, 0, 10), fine(program("0+100*0"), 6, 0, 0)]
+
+
 def strip_rows():
     """Strips of several lengths, in all ways to end; the program fills them beforehand and looks at all of them afterwards."""
     endings = [
         ("1+2", end(0, 0, 4, 0, 3)),
         ("true", end(31, FIRST)),
+        ("00", end(60, FIRST)),
         ("new int[0-1].length", end(42, FIRST, 6, 0)),
         ("(new int[1])[1]", end(41, FIRST, 5, 2)),
         ("new int[1].length", end(0, 0, 4, 2, 1)),
@@ -230,4 +237,4 @@ def errors():
 
 
 def run_rows():
-    return bench_rows() + strip_rows() + order_rows() + budget_rows() + heap_rows() + call_rows() + output_rows() + fault_rows()
+    return bench_rows() + zero_rows() + strip_rows() + order_rows() + budget_rows() + heap_rows() + call_rows() + output_rows() + fault_rows()

@@ -1,23 +1,19 @@
 -- Two folds over bytes, read by an index: a literal's value, whose sum only grows, and a name's bucket.
 use Prim.Native.Nat.{ℕ, _+_, _*_, _-_, _%_, _≤_, _<_}
 use native.Mathlib.Omega.{arith}
-use mathlib.Core.List.{List, [], _∷_}
+use mathlib.Core.List.{List}
 use mathlib.Core.Path.{_≡_, sym, ap, _∙_}
 use lib.ListN.{length, getD, drop}
 use borrow.Author.Tests.{lt-ltb, le-ltb}
 use Rattle.base.specs.Codes.{literalMost}
 use Rattle.lexer.specs.Tokens.{decimal}
+use Rattle.lexer.specs.LiteralLaws.{decimal-grows}
 use Rattle.lexer.specs.Chains.{bucketFrom}
 use Rattle.lexer.specs.Verdicts.{literalOf}
 use Rattle.lexer.specs.declared.limits.Literal.the-variants.{Value, TooLarge}
 use Rattle.lexer.proofs.Runs.{rest, rest-none}
 
 -- ---- the value of a literal
-
-decimal-grows : (high : ℕ) (ds : List ℕ) → high ≤ decimal high ds
-unfolding decimal
-decimal-grows high [] = omega arith
-decimal-grows high (d ∷ ds) = omega (arith, decimal-grows (high * 10 + (d - 48)) ds)
 
 -- the digits before i make `high`
 pub record Summed (t : List ℕ) (high i : ℕ) : Type 0 where

@@ -5,24 +5,31 @@ use native.Mathlib.Decide.{decLt}
 use native.Mathlib.Omega.{arith}
 use mathlib.Core.List.{List, [], _∷_}
 use mathlib.Core.Logic.{_≢_}
-use mathlib.Core.Bool.{Bool, true, false, _&&_, not}
+use mathlib.Core.Bool.{Bool, false, _&&_, not}
 use mathlib.Core.Option.{Option, none, some}
 use mathlib.Core.Path.{_≡_, refl, sym, ap, _∙_}
 use lib.ListN.{length, getD, take, drop, List·getD-eq-default}
 use lib.Seq.{getD-drop, drop-drop}
 use lib.Dec.{eqb}
-use borrow.Author.Tests.{eq-eqb, ne-eqb}
+use borrow.Author.Tests.{ne-eqb, eqb-false}
+use Rattle.base.specs.Choice.{if_then_else_}
 use Rattle.lexer.specs.Bytes.{isBlank, isLetter, isDigit, isNamePart}
 use Rattle.lexer.specs.Kinds.{kLiteral, kAnd, wordKind, markKind}
 use Rattle.lexer.specs.Tokens.{gap, nothing, token, run, begins, closing, comment, mark, item}
 use Rattle.lexer.specs.ItemLaws.{run-front, begins-cons, chosen}
+use Rattle.lexer.specs.ByteKinds.{bLetter, bDigit, bBlank, bMark, bOther, byteKind}
 use Rattle.lexer.specs.Scan.{member, closingOf, pieceOf, Letter, Mark}
 use Rattle.lexer.specs.declared.scan.Class.the-variants.{Line, Word}
 use Rattle.lexer.specs.declared.scan.Closing.{Closing}
 use Rattle.lexer.specs.declared.scan.Closing.the-variants.{At, Never}
 use Rattle.lexer.specs.declared.scan.Piece.{Piece}
-use Rattle.lexer.specs.declared.scan.Piece.the-variants.{Gap, Unclosed, Nothing, Token}
+use Rattle.lexer.specs.declared.scan.Piece.the-variants.{Gap, Unclosed, Token}
 use Rattle.lexer.proofs.Runs.{rest}
+use Rattle.lexer.proofs.ByteKinds.{letter-by-kind, digit-by-kind, blank-by-kind, mark-by-kind, mark-token, no-mark, slash-kind}
+
+-- a byte whose kind is not that of the slash is no slash
+off-slash : {b k : ℕ} → byteKind b ≡ k → eqb k bOther ≡ false → b ≢ 47
+off-slash {b} {k} e n q = eqb-false k bOther n (sym e ∙ ap byteKind q ∙ slash-kind)
 
 -- a byte other than 0 stands within the source
 pub byte-inside : (s : List ℕ) (i v : ℕ) → getD s i 0 ≡ v → 0 < v → i < length s
@@ -66,8 +73,8 @@ module _ (s : List ℕ) (i : ℕ) (h : i < length s) where
   back : (p : ℕ → Bool) → run p (first ∷ more) ≡ run p (drop i s)
   back p = ap (run p) (sym (rest s i h))
 
-  pub at-blank : isBlank first ≡ true → item i (drop i s) ≡ gap (i + 1)
-  at-blank e = choice e refl refl refl refl refl
+  pub at-blank : byteKind first ≡ bBlank → item i (drop i s) ≡ gap (i + 1)
+  at-blank e = choice (blank-by-kind first ∙ ap (λ (k : ℕ). eqb k bBlank) e) refl refl refl refl refl
 
   pub at-line : first ≡ 47 → second ≡ 47 → item i (drop i s) ≡ gap (i + length (run (λ c. not (eqb c 10)) (drop i s)))
   unfolding isBlank
@@ -102,14 +109,26 @@ module _ (s : List ℕ) (i : ℕ) (h : i < length s) where
   not-slash : (y : ℕ) → eqb y 0 ≡ false → first ≢ 47 → begins 47 y (first ∷ more) ≡ false
   not-slash y z n = opens 47 y z (ne-eqb 47 first (λ q. n (sym q))) refl
 
-  pub at-letter : isBlank first ≡ false → first ≢ 47 → isLetter first ≡ true
-      → item i (drop i s) ≡ token (wordKind (run isNamePart (drop i s))) (run isNamePart (drop i s))
-  at-letter e n l =
-      choice e (not-slash 47 refl n) (not-slash 42 refl n) l refl refl ∙ ap (λ (t : List ℕ). token (wordKind t) t) (back isNamePart)
+  -- the tests by the kind of the first byte
+  by-kind : {k : ℕ} → byteKind first ≡ k
+      → (isLetter first ≡ eqb k bLetter) × (isDigit first ≡ eqb k bDigit) × (isBlank first ≡ eqb k bBlank)
+  by-kind e = (
+    letter-by-kind first ∙ ap (λ (k : ℕ). eqb k bLetter) e,
+    digit-by-kind first ∙ ap (λ (k : ℕ). eqb k bDigit) e,
+    blank-by-kind first ∙ ap (λ (k : ℕ). eqb k bBlank) e,
+  )
 
-  pub at-digit : isBlank first ≡ false → first ≢ 47 → isLetter first ≡ false → isDigit first ≡ true
-      → item i (drop i s) ≡ token kLiteral (run isDigit (drop i s))
-  at-digit e n l d = choice e (not-slash 47 refl n) (not-slash 42 refl n) l d refl ∙ ap (token kLiteral) (back isDigit)
+  pub at-letter : byteKind first ≡ bLetter → item i (drop i s) ≡ token (wordKind (run isNamePart (drop i s))) (run isNamePart (drop i s))
+  at-letter e =
+      let n = off-slash e refl in
+      choice (by-kind e .2) (not-slash 47 refl n) (not-slash 42 refl n) (by-kind e .0) refl refl
+      ∙ ap (λ (t : List ℕ). token (wordKind t) t) (back isNamePart)
+
+  pub at-digit : byteKind first ≡ bDigit → item i (drop i s) ≡ token kLiteral (run isDigit (drop i s))
+  at-digit e =
+      let n = off-slash e refl in
+      choice (by-kind e .2) (not-slash 47 refl n) (not-slash 42 refl n) (by-kind e .0) (by-kind e .1) refl
+      ∙ ap (token kLiteral) (back isDigit)
 
   pub at-and : first ≡ 38 → second ≡ 38 → item i (drop i s) ≡ token kAnd (38 ∷ 38 ∷ [])
   unfolding isBlank isLetter isDigit
@@ -134,17 +153,34 @@ module _ (s : List ℕ) (i : ℕ) (h : i < length s) where
       (opens 38 38 refl (ap (eqb 38) e) (ne-eqb 38 second (λ q. n (sym q))))
       ∙ ap (λ (b : ℕ). mark b (markKind b)) e
 
-  pub at-mark : {b : ℕ} → Mark s i b → b ≢ 38 → item i (drop i s) ≡ mark b (markKind b)
-  at-mark m n =
-      let e = m .is in
+  pub at-mark : byteKind first ≡ bMark → first ≢ 38 → item i (drop i s) ≡ token (markKind first) (first ∷ [])
+  at-mark e m =
+      let n = off-slash e refl in
+      let q = by-kind e in
+      let t = mark-token first (mark-by-kind first (q .0) (q .1) (q .2) ∙ ap (λ (k : ℕ). eqb k bMark) e) m in
       choice
-      (ap isBlank (sym e) ∙ m .blank)
-      (not-slash 47 refl (λ q. m .slash (e ∙ q)))
-      (not-slash 42 refl (λ q. m .slash (e ∙ q)))
-      (ap isLetter (sym e) ∙ m .letter)
-      (ap isDigit (sym e) ∙ m .digit)
-      (opens 38 38 refl (ne-eqb 38 first (λ q. n (e ∙ sym q))) refl)
-      ∙ ap (λ (b : ℕ). mark b (markKind b)) (sym e)
+      (q .2)
+      (not-slash 47 refl n)
+      (not-slash 42 refl n)
+      (q .0)
+      (q .1)
+      (opens 38 38 refl (ne-eqb 38 first (λ y. m (sym y))) refl)
+      ∙ ap (λ (z : Bool). if z then (λ _. nothing) else λ _. token (markKind first) (first ∷ [])) (ne-eqb (markKind first) 0 t)
+
+  pub at-other : byteKind first < bDigit → byteKind first ≢ bBlank → first ≢ 47 → item i (drop i s) ≡ nothing
+  at-other k w n =
+      let p = letter-by-kind first ∙ ne-eqb (byteKind first) bLetter (λ e. omega arith) in
+      let q = digit-by-kind first ∙ ne-eqb (byteKind first) bDigit (λ e. omega arith) in
+      let r = blank-by-kind first ∙ ne-eqb (byteKind first) bBlank w in
+      let t = no-mark first (mark-by-kind first p q r ∙ ne-eqb (byteKind first) bMark (λ e. omega arith)) in
+      choice
+      r
+      (not-slash 47 refl n)
+      (not-slash 42 refl n)
+      p
+      q
+      (opens 38 38 refl (ne-eqb 38 first (λ y. t .0 (sym y))) refl)
+      ∙ ap (mark first) (t .1)
 
   -- ---- the same of the scanner's answers
 
@@ -160,14 +196,9 @@ module _ (s : List ℕ) (i : ℕ) (h : i < length s) where
       let t = run isNamePart (drop i s) in
       let n : e - i ≡ length t = omega arith in
       (λ j. Token ((q ∙ ap (λ (m : ℕ). wordKind (take m (drop i s))) n ∙ ap wordKind (run-front isNamePart (drop i s))) j) (p j))
-      ∙ sym (ap (pieceOf i) (at-letter (l .blank) (l .slash) (l .letter)))
+      ∙ sym (ap (pieceOf i) (at-letter (l .kind)))
 
-  pub piece-mark : {b k : ℕ} → Mark s i b → b ≢ 38 → k ≡ markKind b → k ≢ 0 → Token k (i + 1) ≡ pieceOf i (item i (drop i s))
-  piece-mark {b} {k} m n e z =
-      let q : mark b (markKind b) ≡ token (markKind b) (b ∷ []) = rw (ne-eqb (markKind b) 0 (λ y. z (e ∙ y))) refl in
-      (λ j. Token (e j) (i + 1)) ∙ sym (ap (pieceOf i) (at-mark m n ∙ q))
-
-  pub piece-no-mark : {b k : ℕ} → Mark s i b → b ≢ 38 → k ≡ markKind b → k ≡ 0 → Nothing ≡ pieceOf i (item i (drop i s))
-  piece-no-mark {b} {k} m n e z =
-      let q : mark b (markKind b) ≡ nothing = rw (eq-eqb (markKind b) 0 (sym e ∙ z)) refl in
-      sym (ap (pieceOf i) (at-mark m n ∙ q))
+  pub piece-mark : {b k : ℕ} → Mark s i b → b ≢ 38 → k ≡ markKind b → Token k (i + 1) ≡ pieceOf i (item i (drop i s))
+  piece-mark m n e =
+      (λ j. Token ((e ∙ ap markKind (m .is)) j) (i + 1))
+      ∙ sym (ap (pieceOf i) (at-mark (ap byteKind (sym (m .is)) ∙ m .kind) (λ q. n (m .is ∙ q))))

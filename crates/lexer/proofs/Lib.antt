@@ -1,6 +1,8 @@
 -- What the proofs of several functions use.
 pub mod Runs
 pub mod Comments
+pub mod Table
+pub mod ByteKinds
 pub mod Items
 pub mod Folds
 pub mod Chains

@@ -13,7 +13,7 @@ use Rattle.base.specs.Choice.{if_then_else_}
 use Rattle.base.specs.Codes.{tokensMost, nameMost, literalMost}
 use Rattle.base.specs.Outcome.{Outcome, accepted, refused, _>>=_}
 use Rattle.lexer.specs.Kinds.{kLiteral, isName}
-use Rattle.lexer.specs.Tokens.{Token, token, decimal, tooLong, tooLarge, turn}
+use Rattle.lexer.specs.Tokens.{Token, token, decimal, startsWithZero, tooLong, zeroFirst, tooLarge, turn}
 use Rattle.base.specs.Tests.{apart}
 use Rattle.lexer.specs.Verdicts.{literalOf, numberOf, verdictOf}
 use Rattle.lexer.specs.Chains.{Extended, Added}
@@ -25,10 +25,11 @@ use Rattle.lexer.specs.declared.limits.Verdict.the-variants.{Refused, Na
 
 -- ---- the verdict by the answers of the tests
 
-abbrev verdictBy : (many name long literal large : Bool) → ℕ → Verdict
-verdictBy many name long literal large value =
+abbrev verdictBy : (many name long literal zero large : Bool) → ℕ → Verdict
+verdictBy many name long literal zero large value =
     if many then (λ _. Refused 15) else λ _.
     if name && long then (λ _. Refused 13) else λ _.
+    if literal && zero then (λ _. Refused 60) else λ _.
     if literal && large then (λ _. Refused 14) else λ _.
     if name then (λ _. Name) else λ _. Plain (if literal then (λ _. value) else λ _. 0)
 
@@ -40,40 +41,45 @@ pub is-no-name : (k : ℕ) → 4 ≤ k → isName k ≡ false
 unfolding isName
 is-no-name k h = let l : 1 ≤ k = omega arith in let h′ : 3 < k = omega arith in rw (le-leb 1 k l, lt-leb k 3 h′)
 
--- the verdict on a literal
+-- the verdict on a literal without a leading zero
 abbrev pub onLiteral : Literal → Verdict
 onLiteral (Value v) = Plain v
 onLiteral TooLarge = Refused 14
 
 module _ (n k : ℕ) (t : List ℕ) where
-  by-tests : {many name long literal large : Bool} → eqb n tokensMost ≡ many → isName k ≡ name → ltb nameMost (length t) ≡ long
-      → eqb k kLiteral ≡ literal → ltb literalMost (decimal 0 t) ≡ large → verdictOf n k t ≡ verdictBy many name long literal large (decimal 0 t)
+  by-tests : {many name long literal zero large : Bool} → eqb n tokensMost ≡ many → isName k ≡ name → ltb nameMost (length t) ≡ long
+      → eqb k kLiteral ≡ literal → startsWithZero t ≡ zero → ltb literalMost (decimal 0 t) ≡ large
+      → verdictOf n k t ≡ verdictBy many name long literal zero large (decimal 0 t)
   unfolding verdictOf
-  by-tests a b c d e = λ j. verdictBy (a j) (b j) (c j) (d j) (e j) (decimal 0 t)
+  by-tests a b c d e f = λ j. verdictBy (a j) (b j) (c j) (d j) (e j) (f j) (decimal 0 t)
 
   pub verdict-many : n ≡ 2048 → Refused 15 ≡ verdictOf n k t
-  verdict-many e = sym (by-tests (eq-eqb n 2048 e) refl refl refl refl)
+  verdict-many e = sym (by-tests (eq-eqb n 2048 e) refl refl refl refl refl)
 
   pub verdict-long : n ≢ 2048 → 0 < k → k < 4 → 255 < length t → Refused 13 ≡ verdictOf n k t
-  verdict-long e l h g = sym (by-tests (ne-eqb n 2048 e) (is-name k l h) (lt-ltb 255 (length t) g) refl refl)
+  verdict-long e l h g = sym (by-tests (ne-eqb n 2048 e) (is-name k l h) (lt-ltb 255 (length t) g) refl refl refl)
 
   pub verdict-name : n ≢ 2048 → 0 < k → k < 4 → length t ≤ 255 → Name ≡ verdictOf n k t
   verdict-name e l h g =
-      sym (by-tests (ne-eqb n 2048 e) (is-name k l h) (le-ltb 255 (length t) g) (ne-eqb k 4 (λ q. omega arith)) refl)
+      sym (by-tests (ne-eqb n 2048 e) (is-name k l h) (le-ltb 255 (length t) g) (ne-eqb k 4 (λ q. omega arith)) refl refl)
 
-  pub verdict-literal : {v : Literal} → n ≢ 2048 → k ≡ 4 → v ≡ literalOf (decimal 0 t) → onLiteral v ≡ verdictOf n k t
-  verdict-literal e l q =
+  pub verdict-zero : {z : Bool} → n ≢ 2048 → k ≡ 4 → z ≡ startsWithZero t → z ≡ true → Refused 60 ≡ verdictOf n k t
+  verdict-zero e l q y = sym (by-tests (ne-eqb n 2048 e) (is-no-name k (omega arith)) refl (eq-eqb k 4 l) (sym q ∙ y) refl)
+
+  pub verdict-literal : {z : Bool} {v : Literal} → n ≢ 2048 → k ≡ 4 → z ≡ startsWithZero t → z ≡ false → v ≡ literalOf (decimal 0 t)
+      → onLiteral v ≡ verdictOf n k t
+  verdict-literal e l p y q =
       ap onLiteral q
       ∙ on (ltb literalMost (decimal 0 t))
-      ∙ sym (by-tests (ne-eqb n 2048 e) (is-no-name k (omega arith)) refl (eq-eqb k 4 l) refl)
+      ∙ sym (by-tests (ne-eqb n 2048 e) (is-no-name k (omega arith)) refl (eq-eqb k 4 l) (sym p ∙ y) refl)
     where
       on : (c : Bool) → onLiteral (if c then (λ _. TooLarge) else λ _. Value (decimal 0 t))
-          ≡ verdictBy false false (ltb nameMost (length t)) true c (decimal 0 t)
+          ≡ verdictBy false false (ltb nameMost (length t)) true false c (decimal 0 t)
       on true = refl
       on false = refl
 
   pub verdict-plain : n ≢ 2048 → 4 ≤ k → k ≢ 4 → Plain 0 ≡ verdictOf n k t
-  verdict-plain e l d = sym (by-tests (ne-eqb n 2048 e) (is-no-name k l) refl (ne-eqb k 4 d) refl)
+  verdict-plain e l d = sym (by-tests (ne-eqb n 2048 e) (is-no-name k l) refl (ne-eqb k 4 d) refl refl)
 
 -- ---- a turn goes by the verdict
 
@@ -90,34 +96,38 @@ Judged n k i t (Plain v) = (n ≢ 2048) × (isName k ≡ false) × (v ≡ number
 
 module _ (n k i : ℕ) (t : List ℕ) where
   -- a turn by the answers of the tests
-  turn-by : {many long large : Bool} → eqb n tokensMost ≡ many → tooLong k t ≡ long → tooLarge k t ≡ large
+  turn-by : {many long zero large : Bool} → eqb n tokensMost ≡ many → tooLong k t ≡ long → zeroFirst k t ≡ zero → tooLarge k t ≡ large
       → (next : ℕ → ℕ → Outcome (List Token)) → turn next n i (token k t)
       ≡ (if many then (λ _. refused 15 i) else λ _.
       if long then (λ _. refused 13 i) else λ _.
+      if zero then (λ _. refused 60 i) else λ _.
       if large then (λ _. refused 14 i) else λ _.
       next (n + 1) (i + length t) >>= λ ts. accepted ((record { kind = k; start = i; text = t }) ∷ ts))
   unfolding turn
-  turn-by a b c next = λ j.
+  turn-by a b c d next = λ j.
       if a j then (λ _. refused 15 i) else λ _.
       if b j then (λ _. refused 13 i) else λ _.
-      if c j then (λ _. refused 14 i) else λ _.
+      if c j then (λ _. refused 60 i) else λ _.
+      if d j then (λ _. refused 14 i) else λ _.
       next (n + 1) (i + length t) >>= λ ts. accepted ((record { kind = k; start = i; text = t }) ∷ ts)
 
-  judged-by : (many long large name : Bool) → eqb n tokensMost ≡ many → tooLong k t ≡ long → tooLarge k t ≡ large → isName k ≡ name
-      → Judged n k i t
+  judged-by : (many long zero large name : Bool) → eqb n tokensMost ≡ many → tooLong k t ≡ long → zeroFirst k t ≡ zero → tooLarge k t ≡ large
+      → isName k ≡ name → Judged n k i t
       (if many then (λ _. Refused 15) else λ _.
       if long then (λ _. Refused 13) else λ _.
+      if zero then (λ _. Refused 60) else λ _.
       if large then (λ _. Refused 14) else λ _.
       if name then (λ _. Name) else λ _. Plain (numberOf k t))
-  judged-by true long large name a b c d = turn-by a b c
-  judged-by false true large name a b c d = turn-by a b c
-  judged-by false false true name a b c d = turn-by a b c
-  judged-by false false false true a b c d = (eqb-false n tokensMost a, d, turn-by a b c)
-  judged-by false false false false a b c d = (eqb-false n tokensMost a, d, refl, turn-by a b c)
+  judged-by true long zero large name a b c d e = turn-by a b c d
+  judged-by false true zero large name a b c d e = turn-by a b c d
+  judged-by false false true large name a b c d e = turn-by a b c d
+  judged-by false false false true name a b c d e = turn-by a b c d
+  judged-by false false false false true a b c d e = (eqb-false n tokensMost a, e, turn-by a b c d)
+  judged-by false false false false false a b c d e = (eqb-false n tokensMost a, e, refl, turn-by a b c d)
 
   judged : Judged n k i t (verdictOf n k t)
   unfolding verdictOf
-  judged = judged-by (eqb n tokensMost) (tooLong k t) (tooLarge k t) (isName k) refl refl refl refl
+  judged = judged-by (eqb n tokensMost) (tooLong k t) (zeroFirst k t) (tooLarge k t) (isName k) refl refl refl refl refl
 
   pub judged-as : {v w : Verdict} → v ≡ verdictOf n k t → v ≡ w → Judged n k i t w
   judged-as {w = w} e q = subst (Judged n k i t) (sym e ∙ q) judged

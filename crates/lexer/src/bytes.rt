@@ -1,48 +1,74 @@
-// The kinds of bytes, and the comparison of two byte strings.
+// The kinds of bytes, by a table, and the comparison of two byte strings.
 ghost use mathlib.Core.Path.{_≡_};
 ghost use lib.ListN.{getD};
 ghost use Rattle.base.specs.Bytes.{same};
-ghost use Rattle.lexer.specs.Bytes.{isBlank, isLetter, isDigit, isNamePart};
+ghost use Rattle.lexer.specs.Bytes.{isNamePart};
+ghost use Rattle.lexer.specs.ByteKinds.{byteKind, Right};
 
-// Space, tab, line feed, carriage return, form feed.
-pub fn is_blank(b: u8) -> bool
-    ensures { λ r. ⌜ r ≡ isBlank b ⌝ }
+// The kinds that the table has for bytes; any other is `.`, and M is a mark. Those from D on begin a token.
+pub const BLANK: u8 = b'B';
+
+pub const DIGIT: u8 = b'D';
+
+pub const LETTER: u8 = b'L';
+
+// The kind of each byte: that of byte 16 * n + k stands at place k of line n. The rule (`byteKind`):
+//   L  letter: A to Z, a to z
+//   D  digit: 0 to 9
+//   B  blank: space, tab, line feed, carriage return, form feed (32, 9, 10, 13, 12)
+//   M  mark: a byte that begins one of the tokens && < + - * ! = . , ; ( ) [ ] { }
+//   .  other
+// The bytes of lines 2 to 7, from 32, the space, to 126:
+//   !"#$%&'()*+,-./
+//  0123456789:;<=>?
+//  @ABCDEFGHIJKLMNO
+//  PQRSTUVWXYZ[\]^_
+//  `abcdefghijklmno
+//  pqrstuvwxyz{|}~
+const KINDS: [u8; 256] = *b"\
+    .........BB.BB..\
+    ................\
+    BM....M.MMMMMMM.\
+    DDDDDDDDDD.MMM..\
+    .LLLLLLLLLLLLLLL\
+    LLLLLLLLLLLM.M..\
+    .LLLLLLLLLLLLLLL\
+    LLLLLLLLLLLM.M..\
+    ................\
+    ................\
+    ................\
+    ................\
+    ................\
+    ................\
+    ................\
+    ................\
+";
+
+// The table. It is taken once for a source and lent to what reads it: a constant is made anew wherever it is used.
+pub fn byte_kinds() -> [u8; 256]
+    ensures { λ r. ⌜ Right r ⌝ }
 {
-    match b {
-        b' ' => true,
-        b'\t' => true,
-        b'\n' => true,
-        b'\r' => true,
-        12 => true,
-        _ => false,
-    }
+    KINDS
 }
 
-// A to Z, a to z.
-pub fn is_letter(b: u8) -> bool
-    ensures { λ r. ⌜ r ≡ isLetter b ⌝ }
+// The kind of a byte.
+pub fn kind_of(table: &[u8; 256], b: u8) -> u8
+    requires { ⌜ Right (now table) ⌝ }
+    ensures { λ r. ⌜ r ≡ byteKind b ⌝ }
 {
-    if b < b'a' {
-        return b'A' <= b && b <= b'Z';
-    }
-    b <= b'z'
+    table[b as usize]
 }
 
-// 0 to 9.
-pub fn is_digit(b: u8) -> bool
-    ensures { λ r. ⌜ r ≡ isDigit b ⌝ }
-{
-    b'0' <= b && b <= b'9'
-}
-
-// A letter, a digit or an underscore.
-pub fn is_name_part(b: u8) -> bool
+// What may stand in a name: a letter or a digit by the table, or the underscore.
+pub fn is_name_part(table: &[u8; 256], b: u8) -> bool
+    requires { ⌜ Right (now table) ⌝ }
     ensures { λ r. ⌜ r ≡ isNamePart b ⌝ }
 {
-    if is_letter(b) {
+    let kind = kind_of(table, b);
+    if kind == LETTER {
         return true;
     }
-    if is_digit(b) {
+    if kind == DIGIT {
         return true;
     }
     b == b'_'

@@ -1,5 +1,6 @@
 // The lexer: from the bytes of a source to a row of the work table for each token.
 use base::fill::zero_words;
+use bytes::byte_kinds;
 use limits::Verdict;
 use limits::judge;
 use names::Lexeme;
@@ -63,10 +64,11 @@ pub fn lex(source: &[u8], table: &mut [u32]) -> Lexed
     ensures { λ r. ⌜ (length (now (table .exit)) ≡ length (now (table .entry))) × Answers (tokens (now (source .entry))) r (now (table .exit)) ⌝ }
 {
     zero_words(table);
+    let kinds = byte_kinds();
     let mut count: usize = 0;
     let mut at: usize = 0;
     while at < source.len() {
-        match piece_at(source, at) {
+        match piece_at(source, &kinds, at) {
             Piece::Gap(next) => {
                 at = next;
             }

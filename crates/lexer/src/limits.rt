@@ -1,8 +1,8 @@
-// The limits on a token: how many there may be, how long a name, how large a literal.
+// The limits on a token: how many there may be, how long a name, how large a literal, and that a literal has no leading zero.
 use super::kinds;
 ghost use mathlib.Core.Path.{_≡_};
 ghost use Prim.Native.Nat.{_-_, _<_};
-ghost use Rattle.lexer.specs.Tokens.{decimal};
+ghost use Rattle.lexer.specs.Tokens.{decimal, startsWithZero};
 ghost use Rattle.lexer.specs.Verdicts.{literalOf, verdictOf};
 
 const NAME_TOO_LONG: u32 = 13;
@@ -10,6 +10,8 @@ const NAME_TOO_LONG: u32 = 13;
 const LITERAL_TOO_LARGE: u32 = 14;
 
 const TOO_MANY_TOKENS: u32 = 15;
+
+const LEADING_ZERO: u32 = 60;
 
 const TOKENS_MOST: usize = 2048;
 
@@ -53,6 +55,16 @@ fn value_of(text: &[u8]) -> Literal
     Literal::Value(high as u32)
 }
 
+// Whether a run of digits has a leading zero: a lone 0 has none.
+fn starts_with_zero(text: &[u8]) -> bool
+    ensures { λ r. ⌜ r ≡ startsWithZero (now (text .entry)) ⌝ }
+{
+    if text.len() < 2 {
+        return false;
+    }
+    text[0] == b'0'
+}
+
 // The verdict on a token, where `count` tokens stand before it.
 pub fn judge(text: &[u8], count: usize, kind: u32) -> Verdict
     requires { ⌜ 0 < kind ⌝ }
@@ -68,6 +80,9 @@ pub fn judge(text: &[u8], count: usize, kind: u32) -> Verdict
         return Verdict::Name;
     }
     if kind == kinds::LITERAL {
+        if starts_with_zero(text) {
+            return Verdict::Refused(LEADING_ZERO);
+        }
         return match value_of(text) {
             Literal::Value(v) => Verdict::Plain(v),
             Literal::TooLarge => Verdict::Refused(LITERAL_TOO_LARGE),

@@ -1,15 +1,15 @@
 // What begins at a position of a source: a blank, a comment, a token or nothing. Each function reads forward from that position.
+use super::bytes;
 use super::bytes::byte_at;
-use super::bytes::is_blank;
-use super::bytes::is_digit;
-use super::bytes::is_letter;
 use super::bytes::is_name_part;
+use super::bytes::kind_of;
 use super::kinds;
 use super::words::mark_kind;
 use super::words::word_kind;
 ghost use mathlib.Core.Path.{_≡_};
 ghost use Prim.Native.Nat.{_+_, _≤_, _<_};
 ghost use lib.ListN.{length, getD, drop};
+ghost use Rattle.lexer.specs.ByteKinds.{Right};
 ghost use Rattle.lexer.specs.Tokens.{run, closing, item};
 ghost use Rattle.lexer.specs.Scan.{member, delimiterOf, closingOf, pieceOf, Letter, Mark};
 
@@ -42,24 +42,25 @@ pub enum Piece {
 }
 
 // Whether a byte is of a class.
-fn belongs(class: Class, b: u8) -> bool
+fn belongs(table: &[u8; 256], class: Class, b: u8) -> bool
+    requires { ⌜ Right (now table) ⌝ }
     ensures { λ r. ⌜ r ≡ member class b ⌝ }
 {
     match class {
         Class::Line => b != b'\n',
-        Class::Word => is_name_part(b),
-        Class::Number => is_digit(b),
+        Class::Word => is_name_part(table, b),
+        Class::Number => kind_of(table, b) == bytes::DIGIT,
     }
 }
 
 // The end of the run of bytes of a class that begins at `at`.
-fn run_end(source: &[u8], at: usize, class: Class) -> usize
-    requires { ⌜ at ≤ length (now source) ⌝ }
+fn run_end(source: &[u8], table: &[u8; 256], at: usize, class: Class) -> usize
+    requires { ⌜ Right (now table) × (at ≤ length (now source)) ⌝ }
     ensures { λ r. ⌜ r ≡ at + length (run (member class) (drop at (now (source .entry)))) ⌝ }
 {
     let mut i = at;
     while i < source.len() {
-        if !belongs(class, source[i]) {
+        if !belongs(table, class, source[i]) {
             return i;
         }
         i += 1;
@@ -114,13 +115,13 @@ fn comment_end(source: &[u8], at: usize) -> Closing
 }
 
 // At a `/`: a comment or nothing.
-fn slash(source: &[u8], at: usize) -> Piece
-    requires { ⌜ (at < length (now source)) × (getD (now source) at 0 ≡ 47) ⌝ }
+fn slash(source: &[u8], table: &[u8; 256], at: usize) -> Piece
+    requires { ⌜ Right (now table) × (at < length (now source)) × (getD (now source) at 0 ≡ 47) ⌝ }
     ensures { λ r. ⌜ r ≡ pieceOf at (item at (drop at (now (source .entry)))) ⌝ }
 {
     let next = byte_at(source, at + 1);
     if next == b'/' {
-        return Piece::Gap(run_end(source, at, Class::Line));
+        return Piece::Gap(run_end(source, table, at, Class::Line));
     }
     if next == b'*' {
         return match comment_end(source, at + 2) {
@@ -132,15 +133,15 @@ fn slash(source: &[u8], at: usize) -> Piece
 }
 
 // At a letter: an identifier or a reserved word.
-fn word(source: &[u8], at: usize) -> Piece
-    requires { ⌜ Letter (now source) at ⌝ }
+fn word(source: &[u8], table: &[u8; 256], at: usize) -> Piece
+    requires { ⌜ Right (now table) × Letter (now source) at ⌝ }
     ensures { λ r. ⌜ r ≡ pieceOf at (item at (drop at (now (source .entry)))) ⌝ }
 {
-    let end = run_end(source, at, Class::Word);
+    let end = run_end(source, table, at, Class::Word);
     Piece::Token(word_kind(&source[at..end]), end)
 }
 
-// At any other byte: `&&`, a token of one byte or nothing.
+// At a mark: `&&`, a token of one byte or, at a lone `&`, nothing.
 fn mark(source: &[u8], at: usize, b: u8) -> Piece
     requires { ⌜ Mark (now source) at b ⌝ }
     ensures { λ r. ⌜ r ≡ pieceOf at (item at (drop at (now (source .entry)))) ⌝ }
@@ -151,30 +152,30 @@ fn mark(source: &[u8], at: usize, b: u8) -> Piece
         }
         return Piece::Nothing;
     }
-    let kind = mark_kind(b);
-    if kind == kinds::END {
-        return Piece::Nothing;
-    }
-    Piece::Token(kind, at + 1)
+    Piece::Token(mark_kind(b), at + 1)
 }
 
-// What begins at `at`.
-pub fn piece_at(source: &[u8], at: usize) -> Piece
-    requires { ⌜ at < length (now source) ⌝ }
+// What begins at `at`: the kind of its byte decides.
+pub fn piece_at(source: &[u8], table: &[u8; 256], at: usize) -> Piece
+    requires { ⌜ Right (now table) × (at < length (now source)) ⌝ }
     ensures { λ r. ⌜ r ≡ pieceOf at (item at (drop at (now (source .entry)))) ⌝ }
 {
     let b = source[at];
-    if is_blank(b) {
-        return Piece::Gap(at + 1);
+    let kind = kind_of(table, b);
+    if kind < bytes::DIGIT {
+        if kind == bytes::BLANK {
+            return Piece::Gap(at + 1);
+        }
+        if b == b'/' {
+            return slash(source, table, at);
+        }
+        return Piece::Nothing;
     }
-    if b == b'/' {
-        return slash(source, at);
+    if kind == bytes::LETTER {
+        return word(source, table, at);
     }
-    if is_letter(b) {
-        return word(source, at);
-    }
-    if is_digit(b) {
-        return Piece::Token(kinds::LITERAL, run_end(source, at, Class::Number));
+    if kind == bytes::DIGIT {
+        return Piece::Token(kinds::LITERAL, run_end(source, table, at, Class::Number));
     }
     mark(source, at, b)
 }

@@ -1,4 +1,4 @@
--- Rows of our own, for the rules that the starred rows do not touch; the ends are worked out by hand from document 01.
+-- Rows of our own, for the rules that the starred rows do not touch; the ends are worked out by hand from documents 01 and 02.
 use Prim.Native.Nat.{ℕ, zero, suc, _+_}
 use mathlib.Core.Path.{_≡_, refl}
 use mathlib.Core.List.{List, [], _∷_, _++_}
@@ -23,6 +23,13 @@ parameters (suc n) = parameters n ++ bytes ",int " ++ replicate (n + 2) 97
 
 abbrev pub furtherRows : List Row
 furtherRows =
+    -- document 02, (i): two or more digits that begin with 0, whatever their value; a lone 0 stays
+    row (printing (bytes "010")) usual (refusedAt 60 63) ∷
+    row (printing (bytes "0")) usual (ends 0 0 2 0 (pos 0 ∷ [])) ∷
+    row (printing (bytes "00")) usual (refusedAt 60 63) ∷
+    row (printing (bytes "000")) usual (refusedAt 60 63) ∷
+    row (printing (bytes "007")) usual (refusedAt 60 63) ∷
+    row (printing (bytes "09")) usual (refusedAt 60 63) ∷
     -- 63 sums: the leftmost 1 has depth 65
     row (printing (times 63 (bytes "1+") ++ bytes "1")) usual (refusedAt 17 63) ∷
     row (declaring (bytes " class A{} class A{}")) usual (refusedAt 20 85) ∷

@@ -9,25 +9,28 @@ use Rattle.lexer.proofs.lex.Statement.{statement}
 use Rattle.lexer.proofs.lex.Tie as tie
 
 abbrev Inv-loop : tie.InvT-loop
-Inv-loop source table₀ count₀ at₀ table count at = Lexing source table count at × (length table ≡ length table₀)
+Inv-loop source table₀ kinds count₀ at₀ table count at = Lexing source table count at × (length table ≡ length table₀)
 
 abbrev μ-loop : tie.MeasureT-loop
-μ-loop source table₀ count₀ at₀ table count at = length source - at
+μ-loop source table₀ kinds count₀ at₀ table count at = length source - at
 
 -- at the loop's head the table is as long as it was at entry
-kept : (c : tie.At-loop Inv-loop μ-loop) → length (c .loop .table) ≡ length (c .before .before .before .before .before .before .before .args .table .now)
-kept c = omega (arith, c .loop .inv .1, c .before .before .before .zero-words .kept .0)
+kept : (c : tie.At-loop Inv-loop μ-loop) → length (c .loop .table) ≡ length (c .before .before .before .before .before .before .before .before .args .table .now)
+kept c = omega (arith, c .loop .inv .1, c .before .before .before .before .zero-words .kept .0)
 
 zero-words-requires : tie.Need-zero-words-requires Inv-loop μ-loop
 zero-words-requires c κs = search needs
 
+byte-kinds-requires : tie.Need-byte-kinds-requires Inv-loop μ-loop
+byte-kinds-requires c κs = search needs
+
 loop-holds : tie.Need-loop-holds Inv-loop μ-loop
 loop-holds c =
-    let g = c .before .before .before .before .before .before in
-    (lexing-start (g .args .source .now) _ _ (g .pre .0) (c .before .before .zero-words .ensures), refl)
+    let g = c .before .before .before .before .before .before .before in
+    (lexing-start (g .args .source .now) _ _ (g .pre .0) (c .before .before .before .zero-words .ensures), refl)
 
 piece-at-requires : tie.Need-piece-at-requires Inv-loop μ-loop
-piece-at-requires c κs = c .loop-test .taken
+piece-at-requires c κs = (c .before .before .before .byte-kinds .ensures, c .before .loop-test .taken)
 
 enum-known-next : tie.Need-enum-known-next Inv-loop μ-loop
 enum-known-next c = c .match .keys1
@@ -35,14 +38,14 @@ enum-known-next c = c .match .keys1
 loop-less : tie.Need-loop-less Inv-loop μ-loop
 loop-less c =
     let p = c .before .before .before in
-    let t = p .before in
+    let t = p .before .before in
     let l = t .before in
     omega (arith, gap-to (t .loop-test .taken) (l .loop .inv .0) (sym (c .before .next .given .1) ∙ p .piece-at .ensures) .past)
 
 loop-again : tie.Need-loop-again Inv-loop μ-loop
 loop-again c =
     let p = c .before .before .before in
-    let t = p .before in
+    let t = p .before .before in
     let l = t .before in
     let g = gap-to (t .loop-test .taken) (l .loop .inv .0) (sym (c .before .next .given .1) ∙ p .piece-at .ensures) in
     (lexing-gap (t .loop-test .taken) (l .loop .inv .0) g, l .loop .inv .1)
@@ -51,12 +54,12 @@ enum-told : tie.Need-enum-told Inv-loop μ-loop
 enum-told c = c .match .keys2
 
 same-length : tie.Need-same-length Inv-loop μ-loop
-same-length c = kept (c .before .before .before .before)
+same-length c = kept (c .before .before .before .before .before)
 
 returns : tie.Need-returns Inv-loop μ-loop
 returns c =
     let p = c .before .before in
-    let t = p .before in
+    let t = p .before .before in
     let l = t .before in
     (kept l, answers-refused _ (l .loop .table) (unclosed-refused (t .loop-test .taken) (l .loop .inv .0) (sym (c .enum-told .given .1) ∙ p .piece-at .ensures)))
 
@@ -64,12 +67,12 @@ enum-told-2 : tie.Need-enum-told-2 Inv-loop μ-loop
 enum-told-2 c = c .match .keys3
 
 same-length-2 : tie.Need-same-length-2 Inv-loop μ-loop
-same-length-2 c = kept (c .before .before .before .before)
+same-length-2 c = kept (c .before .before .before .before .before)
 
 returns-2 : tie.Need-returns-2 Inv-loop μ-loop
 returns-2 c =
     let p = c .before .before in
-    let t = p .before in
+    let t = p .before .before in
     let l = t .before in
     (kept l, answers-refused _ (l .loop .table) (nothing-refused (t .loop-test .taken) (l .loop .inv .0) (sym (c .enum-told2 .given .1) ∙ p .piece-at .ensures)))
 
@@ -80,14 +83,14 @@ add-requires : tie.Need-add-requires Inv-loop μ-loop
 add-requires c κs =
     let k = c .before .before in
     let p = k .before .before in
-    let t = p .before in
+    let t = p .before .before in
     let l = t .before in
     let g = token-to (t .loop-test .taken) (l .loop .inv .0) (sym (k .kind .given .1) ∙ p .piece-at .ensures) in (
       record {
         chained = l .loop .inv .0 .chained;
         ordered = omega (arith, g .past);
         inside = g .inside;
-        short = l .before .before .before .before .before .before .before .pre .1;
+        short = l .before .before .before .before .before .before .before .before .pre .1;
       },
       g .kind,
     )
@@ -102,7 +105,7 @@ loop-less-2 : tie.Need-loop-less-2 Inv-loop μ-loop
 loop-less-2 c =
     let k = c .before .before .before .before .before .before .before in
     let p = k .before .before in
-    let t = p .before in
+    let t = p .before .before in
     let l = t .before in
     let g = token-to (t .loop-test .taken) (l .loop .inv .0) (sym (k .kind .given .1) ∙ p .piece-at .ensures) in
     omega (arith, g .past)
@@ -111,7 +114,7 @@ loop-again-2 : tie.Need-loop-again-2 Inv-loop μ-loop
 loop-again-2 c =
     let k = c .before .before .before .before .before .before .before in
     let p = k .before .before in
-    let t = p .before in
+    let t = p .before .before in
     let l = t .before in
     let g = token-to (t .loop-test .taken) (l .loop .inv .0) (sym (k .kind .given .1) ∙ p .piece-at .ensures) in
     let a = c .before .before .before .before .add in
@@ -121,13 +124,13 @@ enum-known-number : tie.Need-enum-known-number Inv-loop μ-loop
 enum-known-number c = c .match2 .keys2
 
 same-length-3 : tie.Need-same-length-3 Inv-loop μ-loop
-same-length-3 c = omega (arith, kept (c .before .before .before .before .before .before .before .before .before .before .before .before), c .before .before .before .before .before .add .kept .1 .0)
+same-length-3 c = omega (arith, kept (c .before .before .before .before .before .before .before .before .before .before .before .before .before), c .before .before .before .before .before .add .kept .1 .0)
 
 returns-3 : tie.Need-returns-3 Inv-loop μ-loop
 returns-3 c =
     let k = c .before .before .before .before .before .before .before .before in
     let p = k .before .before in
-    let t = p .before in
+    let t = p .before .before in
     let l = t .before in
     let g = token-to (t .loop-test .taken) (l .loop .inv .0) (sym (k .kind .given .1) ∙ p .piece-at .ensures) in
     let a = c .before .before .before .before .before .add in
@@ -147,6 +150,7 @@ lex-spec =
     Inv-loop
     μ-loop
     zero-words-requires
+    byte-kinds-requires
     loop-holds
     piece-at-requires
     enum-known-next

@@ -1,7 +1,7 @@
 -- `lexer::limits::judge` meets its contract: the tests of the definition in their order.
 use borrow.Author.Needs.{needs}
 use mathlib.Core.Path.{sym, ap, _∙_}
-use Rattle.lexer.proofs.Verdicts.{verdict-many, verdict-long, verdict-name, verdict-literal, verdict-plain, onLiteral}
+use Rattle.lexer.proofs.Verdicts.{verdict-many, verdict-long, verdict-name, verdict-zero, verdict-literal, verdict-plain, onLiteral}
 use Rattle.lexer.proofs.limits.judge.Statement.{statement}
 use Rattle.lexer.proofs.limits.judge.Tie as tie
 
@@ -23,6 +23,18 @@ returns-3 c =
     let a = g .args in
     verdict-name (a .count) (a .kind) (a .text .now) (c .before .before .if1 .left) (g .pre) (c .before .if2 .taken) (c .if3 .left)
 
+starts-with-zero-requires : tie.Need-starts-with-zero-requires
+starts-with-zero-requires c κs = search needs
+
+returns-4 : tie.Need-returns-4
+returns-4 c =
+    let z = c .before in
+    let f = z .before in
+    let g = f .before .before .before .before in
+    let a = g .args in
+    verdict-zero (a .count) (a .kind) (a .text .now)
+    (f .before .before .if1 .left) (f .if4 .taken) (z .starts-with-zero .ensures) (c .if5 .taken)
+
 value-of-requires : tie.Need-value-of-requires
 value-of-requires c κs = search needs
 
@@ -32,26 +44,30 @@ enum-known-v c = c .match .keys1
 enum-told : tie.Need-enum-told
 enum-told c = c .match .keys2
 
-returns-4 : tie.Need-returns-4
-returns-4 c =
+returns-5 : tie.Need-returns-5
+returns-5 c =
     let v = c .before .before .before in
-    let f = v .before in
+    let z = v .before .before in
+    let f = z .before in
     let g = f .before .before .before .before in
     let a = g .args in
     ap onLiteral (sym (c .before .v .given .1))
-    ∙ verdict-literal (a .count) (a .kind) (a .text .now) (f .before .before .if1 .left) (f .if4 .taken) (v .value-of .ensures)
-
-returns-5 : tie.Need-returns-5
-returns-5 c =
-    let v = c .before .before in
-    let f = v .before in
-    let g = f .before .before .before .before in
-    let a = g .args in
-    ap onLiteral (sym (c .enum-told .given .1))
-    ∙ verdict-literal (a .count) (a .kind) (a .text .now) (f .before .before .if1 .left) (f .if4 .taken) (v .value-of .ensures)
+    ∙ verdict-literal (a .count) (a .kind) (a .text .now)
+    (f .before .before .if1 .left) (f .if4 .taken) (z .starts-with-zero .ensures) (v .before .if5 .left) (v .value-of .ensures)
 
 returns-6 : tie.Need-returns-6
 returns-6 c =
+    let v = c .before .before in
+    let z = v .before .before in
+    let f = z .before in
+    let g = f .before .before .before .before in
+    let a = g .args in
+    ap onLiteral (sym (c .enum-told .given .1))
+    ∙ verdict-literal (a .count) (a .kind) (a .text .now)
+    (f .before .before .if1 .left) (f .if4 .taken) (z .starts-with-zero .ensures) (v .before .if5 .left) (v .value-of .ensures)
+
+returns-7 : tie.Need-returns-7
+returns-7 c =
     let g = c .before .before .before .before in
     let a = g .args in
     verdict-plain (a .count) (a .kind) (a .text .now) (c .before .before .if1 .left) (c .before .if2 .left) (c .if4 .left)
@@ -63,9 +79,11 @@ judge-spec =
     returns
     returns-2
     returns-3
+    starts-with-zero-requires
+    returns-4
     value-of-requires
     enum-known-v
     enum-told
-    returns-4
     returns-5
-    returns-6)
+    returns-6
+    returns-7)

@@ -3,7 +3,7 @@ use borrow.Author.Needs.{needs}
 use native.Mathlib.Omega.{arith}
 use mathlib.Core.Path.{sym, ap, _∙_}
 use Rattle.lexer.specs.Scan.{pieceOf}
-use Rattle.lexer.proofs.Items.{byte-inside, at-and, at-lone-and, piece-mark, piece-no-mark}
+use Rattle.lexer.proofs.Items.{byte-inside, at-and, at-lone-and, piece-mark}
 use Rattle.lexer.proofs.scan.mark.Statement.{statement}
 use Rattle.lexer.proofs.scan.mark.Tie as tie
 
@@ -13,8 +13,8 @@ add-byte-at c = let p = c .before .before .pre .inside in omega arith
 byte-at-requires : tie.Need-byte-at-requires
 byte-at-requires c κs = search needs
 
-add-t9 : tie.Need-add-t9
-add-t9 c =
+add-t8 : tie.Need-add-t8
+add-t8 c =
     let g = c .before .before .before .before in
     let s = g .args .source .now in
     let i = g .args .at in
@@ -37,22 +37,15 @@ returns-2 c =
 mark-kind-requires : tie.Need-mark-kind-requires
 mark-kind-requires c κs = search needs
 
+add-t10 : tie.Need-add-t10
+add-t10 c = let p = c .before .before .before .pre .inside in omega arith
+
 returns-3 : tie.Need-returns-3
 returns-3 c =
-    let g = c .before .before .before .before in
+    let g = c .before .before .before in
     let s = g .args .source .now in
     let i = g .args .at in
-    piece-no-mark s i (g .pre .inside) (g .pre) (c .before .before .if1 .left) (c .before .mark-kind .ensures) (c .if3 .taken)
-
-add-t10 : tie.Need-add-t10
-add-t10 c = let p = c .before .before .before .before .pre .inside in omega arith
-
-returns-4 : tie.Need-returns-4
-returns-4 c =
-    let g = c .before .before .before .before in
-    let s = g .args .source .now in
-    let i = g .args .at in
-    piece-mark s i (g .pre .inside) (g .pre) (c .before .before .if1 .left) (c .before .mark-kind .ensures) (c .if3 .left)
+    piece-mark s i (g .pre .inside) (g .pre) (c .before .if1 .left) (c .mark-kind .ensures)
 
 pub mark-spec : {M : Type 1} → statement M
 mark-spec =
@@ -60,10 +53,9 @@ mark-spec =
     (tie.spec
     add-byte-at
     byte-at-requires
-    add-t9
+    add-t8
     returns
     returns-2
     mark-kind-requires
-    returns-3
     add-t10
-    returns-4)
+    returns-3)

@@ -1,26 +1,30 @@
--- `lexer::scan::piece_at` meets its contract: the first byte decides, by the tests of the definition in their order.
+-- `lexer::scan::piece_at` meets its contract: the kind of the first byte decides.
 use borrow.Author.Needs.{needs}
-use mathlib.Core.Path.{refl, sym, ap, _∙_}
+use Prim.Native.Nat.{ℕ, _≤_, _<_}
+use mathlib.Core.Path.{refl, sym, ap, _∙_, subst}
+use Rattle.lexer.specs.ByteKinds.{bDigit}
 use Rattle.lexer.specs.Scan.{pieceOf}
 use Rattle.lexer.specs.declared.scan.Piece.the-variants.{Token}
-use Rattle.lexer.proofs.Items.{at-blank, at-digit}
+use Rattle.lexer.proofs.ByteKinds.{kind-mark}
+use Rattle.lexer.proofs.Items.{at-blank, at-digit, at-other}
 use Rattle.lexer.proofs.scan.piece_at.Statement.{statement}
 use Rattle.lexer.proofs.scan.piece_at.Tie as tie
 
 shared-slice-read-b : tie.Need-shared-slice-read-b
 shared-slice-read-b c = search needs
 
-is-blank-requires : tie.Need-is-blank-requires
-is-blank-requires c κs = search needs
+kind-of-requires : tie.Need-kind-of-requires
+kind-of-requires c κs = search needs
 
-add-t7 : tie.Need-add-t7
-add-t7 c = search needs
+add-t10 : tie.Need-add-t10
+add-t10 c = search needs
 
 returns : tie.Need-returns
 returns c =
-    let g = c .before .before .before .before in
+    let k = c .before .before in
+    let g = k .before .before .before in
     let i = g .args .at in
-    sym (ap (pieceOf i) (at-blank (g .args .source .now) i (g .pre) (sym (c .before .is-blank .ensures) ∙ c .if1 .taken)))
+    sym (ap (pieceOf i) (at-blank (g .args .source .now) i (g .pre .1) (sym (k .kind-of .ensures) ∙ c .if2 .taken)))
 
 slash-requires : tie.Need-slash-requires
 slash-requires c κs = search needs
@@ -28,78 +32,69 @@ slash-requires c κs = search needs
 returns-2 : tie.Need-returns-2
 returns-2 c = search needs
 
-is-letter-requires : tie.Need-is-letter-requires
-is-letter-requires c κs = search needs
+returns-3 : tie.Need-returns-3
+returns-3 c =
+    let t = c .before .before in
+    let k = t .before in
+    let g = k .before .before .before in
+    let i = g .args .at in
+    let e = k .kind-of .ensures in
+    sym
+    (ap (pieceOf i)
+    (at-other (g .args .source .now) i (g .pre .1)
+    (subst (λ (n : ℕ). n < bDigit) e (t .if1 .taken))
+    (λ q. c .before .if2 .left (e ∙ q))
+    (c .if3 .left)))
 
 word-requires : tie.Need-word-requires
 word-requires c κs =
-    let l = c .before in
-    let b = l .before .before in
-    record {
-      inside = search needs;
-      blank = sym (b .before .is-blank .ensures) ∙ b .if1 .left;
-      slash = l .before .if2 .left;
-      letter = sym (l .is-letter .ensures) ∙ c .if3 .taken;
-    }
+    let k = c .before .before in
+    let g = k .before .before .before in
+    (g .pre .0, record { inside = g .pre .1; kind = sym (k .kind-of .ensures) ∙ c .if4 .taken })
 
-returns-3 : tie.Need-returns-3
-returns-3 c = search needs
-
-is-digit-requires : tie.Need-is-digit-requires
-is-digit-requires c κs = search needs
+returns-4 : tie.Need-returns-4
+returns-4 c = search needs
 
 run-end-requires : tie.Need-run-end-requires
 run-end-requires c κs = search needs
 
-returns-4 : tie.Need-returns-4
-returns-4 c =
-    let d = c .before .before in
-    let l = d .before .before in
-    let b = l .before .before in
-    let g = b .before .before .before .before in
-    let s = g .args .source .now in
+returns-5 : tie.Need-returns-5
+returns-5 c =
+    let k = c .before .before .before .before in
+    let g = k .before .before .before in
     let i = g .args .at in
     ap (Token 4) (c .run-end .ensures)
-    ∙ sym
-    (ap (pieceOf i)
-    (at-digit s i (g .pre)
-    (sym (b .before .is-blank .ensures) ∙ b .if1 .left)
-    (l .before .if2 .left)
-    (sym (l .is-letter .ensures) ∙ d .before .if3 .left)
-    (sym (d .is-digit .ensures) ∙ c .before .if4 .taken)))
+    ∙ sym (ap (pieceOf i) (at-digit (g .args .source .now) i (g .pre .1) (sym (k .kind-of .ensures) ∙ c .before .if5 .taken)))
 
 mark-requires : tie.Need-mark-requires
 mark-requires c κs =
-    let d = c .before in
-    let l = d .before .before in
-    let b = l .before .before in
+    let k = c .before .before .before in
+    let g = k .before .before .before in
+    let e = k .kind-of .ensures in
     record {
-      inside = search needs;
+      inside = g .pre .1;
       is = refl;
-      blank = sym (b .before .is-blank .ensures) ∙ b .if1 .left;
-      slash = l .before .if2 .left;
-      letter = sym (l .is-letter .ensures) ∙ d .before .if3 .left;
-      digit = sym (d .is-digit .ensures) ∙ c .if4 .left;
+      kind =
+          kind-mark _ (subst (λ (n : ℕ). bDigit ≤ n) e (c .before .before .if1 .left)) (λ q. c .before .if4 .left (e ∙ q)) (λ q. c .if5 .left (e ∙ q));
     }
 
-returns-5 : tie.Need-returns-5
-returns-5 c = search needs
+returns-6 : tie.Need-returns-6
+returns-6 c = search needs
 
 pub piece-at-spec : {M : Type 1} → statement M
 piece-at-spec =
     tie.close
     (tie.spec
     shared-slice-read-b
-    is-blank-requires
-    add-t7
+    kind-of-requires
+    add-t10
     returns
     slash-requires
     returns-2
-    is-letter-requires
-    word-requires
     returns-3
-    is-digit-requires
-    run-end-requires
+    word-requires
     returns-4
+    run-end-requires
+    returns-5
     mark-requires
-    returns-5)
+    returns-6)

@@ -10,13 +10,13 @@ use Rattle.lexer.proofs.scan.run_end.Statement.{statement}
 use Rattle.lexer.proofs.scan.run_end.Tie as tie
 
 abbrev Inv-loop : tie.InvT-loop
-Inv-loop source at class i₀ i = Running (member class) source at i
+Inv-loop source table at class i₀ i = Running (member class) source at i
 
 abbrev μ-loop : tie.MeasureT-loop
-μ-loop source at class i₀ i = length source - i
+μ-loop source table at class i₀ i = length source - i
 
 loop-holds : tie.Need-loop-holds Inv-loop μ-loop
-loop-holds c = record { within = c .before .pre; left = refl }
+loop-holds c = record { within = c .before .pre .1; left = refl }
 
 shared-slice-read-belongs : tie.Need-shared-slice-read-belongs Inv-loop μ-loop
 shared-slice-read-belongs c = search needs

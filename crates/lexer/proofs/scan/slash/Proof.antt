@@ -20,7 +20,7 @@ returns : tie.Need-returns
 returns c =
     let b = c .before .before in
     let g = b .before .before in
-    piece-line (g .args .source .now) (g .args .at) (g .pre .0) (g .pre .1) (sym (b .byte-at .ensures) ∙ c .before .if1 .taken) (c .run-end .ensures)
+    piece-line (g .args .source .now) (g .args .at) (g .pre .1) (g .pre .2) (sym (b .byte-at .ensures) ∙ c .before .if1 .taken) (c .run-end .ensures)
 
 add-comment-end : tie.Need-add-comment-end
 add-comment-end c = search needs
@@ -45,7 +45,7 @@ returns-2 c =
     let b = f .before .before in
     let g = b .before .before in
     ap onClosing (sym (c .before .end .given .1))
-    ∙ piece-block (g .args .source .now) (g .args .at) (g .pre .0) (g .pre .1) (sym (b .byte-at .ensures) ∙ f .if2 .taken) (m .comment-end .ensures)
+    ∙ piece-block (g .args .source .now) (g .args .at) (g .pre .1) (g .pre .2) (sym (b .byte-at .ensures) ∙ f .if2 .taken) (m .comment-end .ensures)
 
 returns-3 : tie.Need-returns-3
 returns-3 c =
@@ -54,7 +54,7 @@ returns-3 c =
     let b = f .before .before in
     let g = b .before .before in
     ap onClosing (sym (c .enum-told .given .1))
-    ∙ piece-block (g .args .source .now) (g .args .at) (g .pre .0) (g .pre .1) (sym (b .byte-at .ensures) ∙ f .if2 .taken) (m .comment-end .ensures)
+    ∙ piece-block (g .args .source .now) (g .args .at) (g .pre .1) (g .pre .2) (sym (b .byte-at .ensures) ∙ f .if2 .taken) (m .comment-end .ensures)
 
 returns-4 : tie.Need-returns-4
 returns-4 c =
@@ -63,7 +63,7 @@ returns-4 c =
     let s = g .args .source .now in
     let i = g .args .at in
     let e = b .byte-at .ensures in
-    sym (ap (pieceOf i) (at-slash s i (g .pre .0) (g .pre .1) (λ q. c .before .if1 .left (e ∙ q)) (λ q. c .if2 .left (e ∙ q))))
+    sym (ap (pieceOf i) (at-slash s i (g .pre .1) (g .pre .2) (λ q. c .before .if1 .left (e ∙ q)) (λ q. c .if2 .left (e ∙ q))))
 
 pub slash-spec : {M : Type 1} → statement M
 slash-spec =

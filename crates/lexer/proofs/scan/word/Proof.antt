@@ -9,7 +9,7 @@ use Rattle.lexer.proofs.scan.word.Statement.{statement}
 use Rattle.lexer.proofs.scan.word.Tie as tie
 
 run-end-requires : tie.Need-run-end-requires
-run-end-requires c κs = let p = c .before .pre .inside in omega arith
+run-end-requires c κs = (c .before .pre .0, let p = c .before .pre .1 .inside in omega arith)
 
 sub-word-kind : tie.Need-sub-word-kind
 sub-word-kind c = search needs
@@ -22,7 +22,7 @@ part-word-kind-end c =
     let g = c .before .before in
     let s = g .args .source .now in
     let i = g .args .at in
-    let p = g .pre .inside in
+    let p = g .pre .1 .inside in
     omega (arith, c .run-end .ensures, run-short isNamePart (drop i s), length-drop i s)
 
 word-kind-requires : tie.Need-word-kind-requires
@@ -33,7 +33,7 @@ returns c =
     let g = c .before .before .before .before in
     let s = g .args .source .now in
     let i = g .args .at in
-    piece-word s i (g .pre .inside) (g .pre) (c .before .before .run-end .ensures) (c .word-kind .ensures)
+    piece-word s i (g .pre .1 .inside) (g .pre .1) (c .before .before .run-end .ensures) (c .word-kind .ensures)
 
 pub word-spec : {M : Type 1} → statement M
 word-spec =

@@ -1,0 +1,40 @@
+"""The independent cases, which stand outside the repository, with the answers that are due of them.
+
+The cases of document 01 stand in vectors/. Those of document 02 stand in vectors-requests/stage-K/, for a repository in which requests 1 to K hold; stage-K/old/ has what is then due
+of document 01's cases. A stage whose request changes no result has no folder.
+"""
+import collections
+import pathlib
+
+SHARED = pathlib.Path(__file__).resolve().parent.parent.parent / "shared"
+STAGE = 1  # requests 1 to STAGE of document 02 hold here; raise it as the next one lands
+
+# A name to print, and pairs of a case and its answer.
+Group = collections.namedtuple("Group", "name rows")
+
+
+def lines(path):
+    return path.read_text().splitlines() if path.exists() else []
+
+
+def group(name, cases, answers):
+    asked, due = lines(cases), lines(answers)
+    if len(asked) != len(due):
+        raise SystemExit("%s has %d cases and %d answers" % (name, len(asked), len(due)))
+    return Group(name, list(zip(asked, due)))
+
+
+def groups(shared, operation):
+    """The groups of an operation's cases: document 01's, with the answers of the latest stage, and those of each request."""
+    stages = [k for k in range(1, STAGE + 1) if (shared / "vectors-requests" / ("stage-%d" % k)).is_dir()]
+    folders = [shared / "vectors-requests" / ("stage-%d" % k) for k in stages]
+    answers, cases = operation + ".answers", operation + ".cases"
+    latest = folders[-1] / "old" if folders else shared / "vectors"
+    found = [group(operation, shared / "vectors" / cases, latest / answers)]
+    found += [group("%s of request %d" % (operation, k), folder / cases, folder / answers) for k, folder in zip(stages, folders)]
+    return [g for g in found if g.rows]
+
+
+def is_ordered(operation):
+    """Whether the order of what an answer lists is fixed: document 01 leaves that of menu's positions open, and request 2 fixes it."""
+    return operation != "menu" or STAGE >= 2
