@@ -4,9 +4,10 @@ use mathlib.Core.Path.{_≡_}
 use mathlib.Core.List.{List, _++_}
 use lib.ListN.{length, drop}
 use lib.IntN.{ℤ}
-use Rattle.checker.specs.Check.{Verdict, accept, refuse, refuseEndless, Refuses}
+use Rattle.base.specs.Outcome.{Outcome, accepted, refused}
+use Rattle.parser.specs.Tree.{Program}
 use Rattle.semantics.specs.Limits.{run}
-use Rattle.semantics.specs.Run.{Strips, Refusal, Reports}
+use Rattle.semantics.specs.Run.{Strips, refusal, Reports}
 use Rattle.semantics.specs.Run as Run
 use Rattle.interpreter.specs.declared.state.Bounds.{Bounds}
 use Rattle.interpreter.specs.Running.{limitsUnder}
@@ -19,14 +20,9 @@ answerOf a = record { number = a .number; position = a .position; steps = a .ste
 abbrev pub strips : (table : List ℕ) (heap output : List ℤ) → Strips
 strips t h o = record { table = t; heap = h; output = o }
 
--- a refusal gives zero counts
-abbrev pub refused : (number position : ℕ) → Run.RunAnswer
-refused n p = record { number = n; position = p; steps = 0; words = 0; printed = 0 }
-
--- the answers and the output strip that are right for a verdict of Check's
-abbrev pub Performs : Verdict → Bounds → (heap output : List ℤ) → Run.RunAnswer → (output′ : List ℤ) → Type 0
-Performs (accept p) b heap output a output′ =
+-- the answer and the output strip that are right for what Check finds
+abbrev pub Performs : Outcome Program → Bounds → (heap output : List ℤ) → Run.RunAnswer → (output′ : List ℤ) → Type 0
+Performs (accepted p) b heap output a output′ =
     Reports (run p (limitsUnder b heap output)) a
     × (output′ ≡ run p (limitsUnder b heap output) .printed ++ drop (length (run p (limitsUnder b heap output) .printed)) output)
-Performs (refuse n p) b heap output a output′ = Refuses (refuse n p) (a .number) (a .position) × Refusal (a .number) (a .position) a × (output′ ≡ output)
-Performs (refuseEndless ps) b heap output a output′ = Refuses (refuseEndless ps) (a .number) (a .position) × Refusal (a .number) (a .position) a × (output′ ≡ output)
+Performs (refused n p) b heap output a output′ = (a ≡ refusal n p) × (output′ ≡ output)

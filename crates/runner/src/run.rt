@@ -10,8 +10,8 @@ ghost use Prim.Native.Nat.{_≤_, _<_};
 ghost use mathlib.Core.Path.{_≡_};
 ghost use lib.ListN.{length};
 ghost use Rattle.checker.specs.Check.{checking};
-ghost use Rattle.semantics.specs.Run.{Runs};
-ghost use Rattle.runner.specs.RunPost.{answerOf, strips, Performs, refused};
+ghost use Rattle.semantics.specs.Run.{Runs, refusal};
+ghost use Rattle.runner.specs.RunPost.{answerOf, strips, Performs};
 
 // What Run answers: a result number and a position, the steps, the heap words and how many numbers were printed.
 pub struct RunAnswer {
@@ -24,7 +24,7 @@ pub struct RunAnswer {
 
 // A refusal gives zero counts.
 fn refusal(number: u32, position: usize) -> RunAnswer
-    ensures { λ r. ⌜ answerOf r ≡ refused number position ⌝ }
+    ensures { λ r. ⌜ answerOf r ≡ refusal number position ⌝ }
 {
     RunAnswer {
         number,

@@ -2,14 +2,13 @@
 -- checking.
 use Prim.Native.Nat.{ℕ, suc, _≤_}
 use mathlib.Core.Path.{_≡_}
-use mathlib.Core.List.{List, List·Memᴰ}
+use mathlib.Core.List.{List}
 use lib.ListN.{length}
-use Rattle.base.specs.Codes.{chainEndless}
+use Rattle.base.specs.Outcome.{Outcome, accepted, refused}
 use Rattle.lexer.specs.Tokens.{Token}
 use Rattle.lexer.specs.Rows.{firstNamed}
 use Rattle.parser.specs.Tree.{Program}
 use Rattle.parser.specs.Grammar.{DerivesProgram}
-use Rattle.checker.specs.Check.{Verdict, accept, refuse, refuseEndless}
 use Rattle.lookup.specs.Standing.{World}
 use Rattle.typecheck.specs.declared.check.Found.{Found}
 use Rattle.typecheck.specs.declared.check.Found.the-variants.{Program as found, Refused as unfit}
@@ -26,8 +25,7 @@ pub record Accepted (p : Program) (r : Found) (tab code code′ entries entries�
   pub room : length (compile p .instructions) ≤ 8192
   pub entries-are : entries′ ≡ enteredClasses (p .classes) (suc (end (p .statement) 0)) entries
 
--- the answers, tables and codes that are right for a verdict
-abbrev pub Prepares : Verdict → Found → (tab code code′ entries entries′ : List ℕ) → Type 0
-Prepares (accept p) r tab code code′ entries entries′ = Accepted p r tab code code′ entries entries′
-Prepares (refuse n q) r tab code code′ entries entries′ = r ≡ unfit n q
-Prepares (refuseEndless ps) r tab code code′ entries entries′ = (q : ℕ) × (r ≡ unfit chainEndless q) × List·Memᴰ q ps
+-- the answers, tables and codes that are right for what Check finds
+abbrev pub Prepares : Outcome Program → Found → (tab code code′ entries entries′ : List ℕ) → Type 0
+Prepares (accepted p) r tab code code′ entries entries′ = Accepted p r tab code code′ entries entries′
+Prepares (refused n q) r tab code code′ entries entries′ = r ≡ unfit n q
