@@ -105,6 +105,16 @@ CLASS_NAMES = [
     (22, after("class A{X x;}class @B extends B{}")),
     (22, after("class A{int x;int x;}class @B extends B{}")),
     (22, after("class @A extends A{public X m(){return 1;}}")),
+    (22, after("class @A extends B{}class B extends A{}")),
+    (22, after("class @C extends A{}class A extends B{}class B extends A{}")),
+    (22, after("class @A extends B{}class C extends A{}class B extends A{}")),
+    (22, after("class @A extends B{}class B extends A{}class C extends A{}")),
+    (22, after("class D{}class @C extends A{}class A extends B{}class B extends A{}")),
+    (22, after("class @D extends C{}class C extends B{}class B extends A{}class A extends A{}")),
+    (22, after("class E{}class @B extends C{}class C extends B{}class D extends D{}class A extends E{}")),
+    (22, after("class E{}class @A extends D{}class B extends C{}class C extends B{}class D extends D{}")),
+    (21, after("class A extends B{}class B extends B{}class C extends @X{}")),
+    (20, after("class C extends A{}class A extends A{}class @C extends A{}")),
     (22, program("x") + "class @A extends A{}"),
 ]
 

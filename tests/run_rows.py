@@ -86,6 +86,7 @@ def order_rows():
     rows += [(line(ONE.ljust(16385), heap=heap, out=out), end(10, 0)) for heap, out in ((0, 0), (1, 1), (HEAP_MOST, 256))]
     rows += [(line(ONE.ljust(16384), heap=heap), end(0, 0, 2, 0, 1)) for heap in (0, HEAP_MOST)]
     rows += [(line("#", budget=0, calls=1, heap=0, out=0), end(11, 0)), (line(program("true"), budget=0, calls=1, heap=0, out=0), end(31, FIRST))]
+    rows.append(stopped(22, ONE + "class A{}class @C extends B{}class B extends B{}", 0, 0))
     return rows
 
 

@@ -15,13 +15,14 @@ use Rattle.base.specs.Choice.{option}
 use Rattle.lexer.specs.Tokens.{Token}
 use Rattle.parser.specs.Tree.{Name, Class}
 use Rattle.checker.specs.ClassTable.{classNamed, endsWithin}
-use Rattle.checker.specs.Declarations.{endless}
+use Rattle.checker.specs.Declarations.{endingChains}
 use Rattle.lookup.specs.declared.answer.Judged.{Judged}
 use Rattle.lookup.specs.declared.answer.Judged.the-variants.{Fine, Refused}
 use Rattle.lookup.specs.Standing.{absent, wordAt, Lexemes, Spells, Numbers, no-name, a-name, ClassStands, World, parentName}
 use Rattle.lookup.specs.StandingLaws.{start-word, name-word, row-there, ClassAt, no-class, a-class, class-at}
 use Rattle.lookup.specs.Lookups.{Above}
-use Rattle.declarations.specs.Judgements.{ClassesAt, endlessAnswer, ChainsJudged}
+use Rattle.lookup.specs.Answers.{settled}
+use Rattle.declarations.specs.Judgements.{ClassesAt, ChainsJudged}
 use Rattle.declarations.specs.Climbs.{Height, Higher, HeightsRight, Climbed}
 use Rattle.declarations.proofs.ClassLaws.{first-class}
 
@@ -166,28 +167,28 @@ class-number {tab} {ts = ts} lx k at s e₂ = subst (Spells ts (k .name .text)) 
 
 module _ {tab : List ℕ} {classes left row : ℕ} where
   pub chains-none-left : left ≡ 0 → ChainsJudged tab classes left row (Fine 0)
-  unfolding endless
+  unfolding endingChains
   chains-none-left e = record { says = λ n ts G w l ks a. go G ks (a .few) }
     where
-      go : (G ks : List Class) → length ks ≤ left → Fine 0 ≡ endlessAnswer (endless G ks)
+      go : (G ks : List Class) → length ks ≤ left → Fine 0 ≡ settled (endingChains G ks)
       go G [] few = refl
       go G (k ∷ ks) few = absurd (omega arith)
 
   pub chains-absent : absent ≤ row → ChainsJudged tab classes left row (Fine 0)
-  unfolding endless
+  unfolding endingChains
   chains-absent far = record { says = λ n ts G w l ks a. go n ts G w ks a }
     where
-      go : (n : ℕ) (ts : List Token) (G : List Class) → World tab n ts G → (ks : List Class) → ClassesAt tab n ts ks left row → Fine 0 ≡ endlessAnswer (endless G ks)
+      go : (n : ℕ) (ts : List Token) (G : List Class) → World tab n ts G → (ks : List Class) → ClassesAt tab n ts ks left row → Fine 0 ≡ settled (endingChains G ks)
       go n ts G w [] a = refl
       go n ts G w (k ∷ ks) a = absurd (omega (arith, first-class (w .tokens) a .near))
 
   module _ (near : row < absent) {x : ℕ} (e₂ : x ≡ wordAt tab 2 row) {heights : List ℕ} {h : ℕ} (up : Climbed tab classes x heights h) where
     pub chains-endless : h ≡ 0 → {p : ℕ} → p ≡ wordAt tab 1 row → ChainsJudged tab classes left row (Refused 22 p)
-    unfolding endless
+    unfolding endingChains
     chains-endless is {p} e₁ = record { says = λ n ts G w l ks a. go n ts G w l ks a }
       where
         go : (n : ℕ) (ts : List Token) (G : List Class) → World tab n ts G → length G ≡ classes → (ks : List Class) → ClassesAt tab n ts ks left row
-            → Refused 22 p ≡ endlessAnswer (endless G ks)
+            → Refused 22 p ≡ settled (endingChains G ks)
         go n ts G w l [] a = absurd (omega (arith, a .here))
         go n ts G w l (k ∷ ks) a =
             let s = first-class (w .tokens) a .stands in
@@ -195,11 +196,11 @@ module _ {tab : List ℕ} {classes left row : ℕ} where
             rw e (ap (Refused 22) (class-place (w .tokens) k (a .here) s e₁))
 
     pub chains-next : (left ≡ 0 → ⊥) → (h ≡ 0 → ⊥) → {next : ℕ} {r : Judged} → next ≡ wordAt tab 6 row → ChainsJudged tab classes (left - 1) next r → ChainsJudged tab classes left row r
-    unfolding endless
+    unfolding endingChains
     chains-next some-left is {next} {r} e₆ h′ = record { says = λ n ts G w l ks a. go n ts G w l ks a }
       where
         go : (n : ℕ) (ts : List Token) (G : List Class) → World tab n ts G → length G ≡ classes → (ks : List Class) → ClassesAt tab n ts ks left row
-            → r ≡ endlessAnswer (endless G ks)
+            → r ≡ settled (endingChains G ks)
         go n ts G w l [] a = absurd (omega (arith, a .here))
         go n ts G w l (k ∷ ks) a =
             let f = first-class (w .tokens) a in

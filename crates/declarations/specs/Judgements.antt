@@ -15,10 +15,10 @@ use Rattle.parser.specs.Tree.{Name, TypeUse, Variable, Method, Class}
 use Rattle.parser.specs.Layout.{rowVariables, rowClasses}
 use Rattle.reader.specs.Matches.{TypeMatches}
 use Rattle.checker.specs.ClassTable.{classNamed, known}
-use Rattle.checker.specs.Declarations.{occurs, textOf, knownType, knownParents, endless, fields, variables, sameTypes, redeclares, redeclaration, newMethod, heads, declarations}
+use Rattle.checker.specs.Declarations.{occurs, textOf, knownType, knownParents, endingChains, fields, variables, sameTypes, redeclares, redeclaration, newMethod, heads, declarations}
 use Rattle.checker.specs.Typing.{methodName}
 use Rattle.lookup.specs.declared.answer.Judged.{Judged}
-use Rattle.lookup.specs.declared.answer.Judged.the-variants.{Fine, Refused}
+use Rattle.lookup.specs.declared.answer.Judged.the-variants.{Fine}
 use Rattle.lookup.specs.Standing.{Lexemes, Numbers, VariablesStand, MethodStands, ClassStands, ClassesStand, World, parentName}
 use Rattle.lookup.specs.Answers.{settled}
 use Rattle.declarations.specs.Marking.{Below, Stays, Marked}
@@ -126,14 +126,9 @@ pub record ClassesAt (tab : List ℕ) (n : ℕ) (ts : List Token) (ks : List Cla
 pub record ParentsJudged (tab : List ℕ) (left row : ℕ) (r : Judged) : Type 0 where
   pub says : (n : ℕ) (ts : List Token) (G : List Class) → World tab n ts G → (ks : List Class) → ClassesAt tab n ts ks left row → r ≡ settled (knownParents G ks)
 
--- 22, at the first class whose chain never ends
-abbrev pub endlessAnswer : List ℕ → Judged
-endlessAnswer [] = Fine 0
-endlessAnswer (p ∷ ps) = Refused 22 p
-
 pub record ChainsJudged (tab : List ℕ) (classes left row : ℕ) (r : Judged) : Type 0 where
   pub says : (n : ℕ) (ts : List Token) (G : List Class) → World tab n ts G → length G ≡ classes → (ks : List Class) → ClassesAt tab n ts ks left row
-      → r ≡ endlessAnswer (endless G ks)
+      → r ≡ settled (endingChains G ks)
 
 -- each class is what its name finds
 abbrev pub Own : List Class → List Class → Type 0

@@ -23,11 +23,10 @@ use Rattle.parser.specs.Grammar.{DerivesProgram}
 use Rattle.parser.specs.Measure.{programDeep}
 use Rattle.parser.specs.Read.{Reading, grammatical, shallow, reading}
 use Rattle.grammar.specs.Agreement.{sound, complete}
-use Rattle.checker.specs.Check.{accept, checking}
+use Rattle.checker.specs.Check.{checking}
 use Rattle.checker.specs.Typing.{ProgramTyped}
 use Rattle.reader.specs.ReadingLaws.{proper, read-well}
 use Rattle.typing.specs.Agreement.{program-agrees}
-use Rattle.typing.specs.Programs.{unrefused}
 use Rattle.typing.specs.Choices.{bound, failed, refused-accepted}
 use Rattle.guarantees.specs.Literals.{SmallLiterals}
 
@@ -89,22 +88,22 @@ reading-of s r e =
     })
 
 -- CHECK
-pub allowed : (s : List ℕ) (p : Program) → checking s ≡ accept p → Allowed s p
+pub allowed : (s : List ℕ) (p : Program) → checking s ≡ accepted p → Allowed s p
 unfolding checking
 allowed s p e =
-    let v = unrefused (reading s) _ e in
+    let v = bound (reading s) _ e in
     let r = reading-of s (v .0) (v .1) in
     let t = program-agrees (v .0 .tree) p .0 (v .2) in
     let d = sound (v .0 .stream) (proper s (v .0 .stream) (r .lexed)) (v .0 .tree) (r .next) (r .parsed) .0 in
     subst (Allowed s) (sym (t .0))
     (record { short = r .short; stream = v .0 .stream; lexed = r .lexed; derived = d; shallow = r .shallow; typed = t .1 })
 
-pub accepts : (s : List ℕ) (p : Program) → Allowed s p → checking s ≡ accept p
+pub accepts : (s : List ℕ) (p : Program) → Allowed s p → checking s ≡ accepted p
 unfolding checking
 accepts s p h =
     rw (read-well s (h .short) (h .stream) (h .lexed) p (length (h .stream)) (complete (h .stream) p (h .derived)) (h .shallow))
     (program-agrees p p .1 (refl, h .typed))
 
 -- Demand 2: a source is accepted exactly when document 01's grammar, bounds and typing rules allow it.
-pub accepted-exactly : (s : List ℕ) (p : Program) → (checking s ≡ accept p) ↔ Allowed s p
+pub accepted-exactly : (s : List ℕ) (p : Program) → (checking s ≡ accepted p) ↔ Allowed s p
 accepted-exactly s p = (allowed s p, accepts s p)

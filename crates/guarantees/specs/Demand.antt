@@ -5,8 +5,9 @@ use mathlib.Core.List.{List}
 use mathlib.Core.Logic.{_≢_}
 use lib.ListN.{length}
 use Rattle.base.specs.Codes.{callsMost}
+use Rattle.base.specs.Outcome.{accepted}
 use Rattle.parser.specs.Tree.{Program}
-use Rattle.checker.specs.Check.{accept, checking}
+use Rattle.checker.specs.Check.{checking}
 use Rattle.semantics.specs.Machine.{Core}
 use Rattle.semantics.specs.Limits.{Limits, Meters, ended, wentWrong, unfinished, run}
 use Rattle.soundness.specs.Results.{Finish}
@@ -19,7 +20,7 @@ use Rattle.soundness.specs.Demand as Machine
 use Rattle.guarantees.specs.Literals.{literals-fit}
 use Rattle.guarantees.specs.Accepted.{allowed, small}
 
-module _ (s : List ℕ) (p : Program) (a : checking s ≡ accept p) where
+module _ (s : List ℕ) (p : Program) (a : checking s ≡ accepted p) where
   -- its literals are words
   pub fits : LiteralsFit p
   fits = let h = allowed s p a in literals-fit (small s (h .stream) (h .lexed)) (h .derived)

@@ -2,19 +2,20 @@
 use Prim.Native.Nat.{ℕ, suc, _+_, _-_, _≤_, _<_}
 use native.Mathlib.Omega.{arith}
 use mathlib.Core.Path.{_≡_, refl, sym, ap, _∙_, subst}
-use mathlib.Core.List.{List, [], _∷_, _++_, append-assoc, List·Memᴰ, List·Permᴰ, List·Permᴰ·nil, List·Permᴰ·cons}
+use mathlib.Core.List.{List, [], _∷_, _++_, append-assoc, List·Permᴰ, List·Permᴰ·nil, List·Permᴰ·cons}
 use lib.ListN.{length, set, drop, replicate, length-append}
 use lib.Seq.{set-append-seam}
 use native.Mathlib.Nat.{le-of-suc-le-suc}
 use borrow.Author.Tests.{lt-ltb, le-ltb}
 use Rattle.base.specs.Lists.{drop-none}
 use Rattle.base.specs.Codes.{tableLeast}
+use Rattle.base.specs.Outcome.{Outcome, accepted, refused}
 use Rattle.base.specs.Tests.{apart}
 use Rattle.lexer.specs.Tokens.{Token}
-use Rattle.parser.specs.Tree.{Class}
+use Rattle.parser.specs.Tree.{Class, Program}
 use Rattle.parser.specs.Layout.{rowClasses}
 use Rattle.parser.specs.Read.{tableAfter}
-use Rattle.checker.specs.Check.{Verdict, accept, refuse, refuseEndless, checking}
+use Rattle.checker.specs.Check.{checking}
 use Rattle.lookup.specs.Standing.{wordAt, Lexemes, ClassesStand, no-classes, more-classes}
 use Rattle.lookup.specs.StandingLaws.{word-in, row-there, start-word}
 use Rattle.typecheck.specs.declared.check.Found.{Found}
@@ -111,22 +112,16 @@ module _ (s : List ℕ) (f : Found) (middle before : List ℕ) (l : Leaves (chec
   pub answer-found : {n k : ℕ} → f ≡ found n k → {r : CheckAnswer} {after : List ℕ} → Fills middle k before (answerOf r) after → MenuMeets (checking s) before (answerOf r) after
   answer-found {n} {k} is {r} {after} g = go (checking s) l
     where
-      go : (w : Verdict) → Leaves w f middle → MenuMeets w before (answerOf r) after
-      go (accept p) h = let z = h .answer in let c : length (p .classes) ≡ k = cc in g .says (length (h .stream)) (h .stream) p (h .ready) c
-      go (refuse m q) h = let z = h in apart (cc)
-      go (refuseEndless ps) h = let z = h .1 in apart (cc)
+      go : (w : Outcome Program) → Leaves w f middle → MenuMeets w before (answerOf r) after
+      go (accepted p) h = let z = h .answer in let c : length (p .classes) ≡ k = cc in g .says (length (h .stream)) (h .stream) p (h .ready) c
+      go (refused m q) h = let z = h in apart (cc)
 
   pub answer-unfit : {n q : ℕ} → f ≡ unfit n q → MenuMeets (checking s) before (record { number = n; position = q; classes = 0 }) before
   answer-unfit {n} {q} is = go (checking s) l
     where
-      go : (w : Verdict) → Leaves w f middle → MenuMeets w before (record { number = n; position = q; classes = 0 }) before
-      go (accept p) h = let z = h .answer in apart (cc)
-      go (refuse m p) h = let z = h in let a : n ≡ m = cc in let b : q ≡ p = cc in ((a, b), refl, refl)
-      go (refuseEndless ps) h =
-          let z = h .1 in
-          let a : n ≡ 22 = cc in
-          let b : h .0 ≡ q = cc in
-          ((a, subst (λ (i : ℕ). List·Memᴰ i ps) b (h .2)), refl, refl)
+      go : (w : Outcome Program) → Leaves w f middle → MenuMeets w before (record { number = n; position = q; classes = 0 }) before
+      go (accepted p) h = let z = h .answer in apart (cc)
+      go (refused m p) h = let z = h in let a : n ≡ m = cc in let b : q ≡ p = cc in (rw (a, b), refl)
 
 -- THE OPERATION
 

@@ -3,10 +3,11 @@ use Prim.Native.Nat.{ℕ, _+_, _<_}
 use mathlib.Core.Path.{_≡_}
 use mathlib.Core.List.{List, [], _∷_}
 use lib.ListN.{length, set}
+use Rattle.base.specs.Outcome.{accepted}
 use Rattle.base.specs.Table.{col}
 use Rattle.lexer.specs.Tokens.{Token}
 use Rattle.parser.specs.Tree.{Program}
-use Rattle.checker.specs.Check.{accept, CheckAnswer}
+use Rattle.checker.specs.Check.{CheckAnswer}
 use Rattle.lookup.specs.Standing.{absent}
 use Rattle.declarations.specs.Indexing.{Ready}
 use Rattle.menu.specs.Menu.{MenuMeets}
@@ -26,4 +27,4 @@ pub record Lists (tab : List ℕ) (i left row : ℕ) (before after : List ℕ) :
 
 -- the answer and the strip for an accepted program
 pub record Fills (tab : List ℕ) (classes : ℕ) (before : List ℕ) (a : CheckAnswer) (after : List ℕ) : Type 0 where
-  pub says : (n : ℕ) (ts : List Token) (p : Program) → Ready tab n ts p → length (p .classes) ≡ classes → MenuMeets (accept p) before a after
+  pub says : (n : ℕ) (ts : List Token) (p : Program) → Ready tab n ts p → length (p .classes) ≡ classes → MenuMeets (accepted p) before a after

@@ -3,6 +3,7 @@ use Prim.Native.Nat.{ℕ}
 use mathlib.Core.List.{List, _++_, map}
 use lib.IntN.{ℤ}
 use Rattle.base.specs.Bytes.{bytes}
+use Rattle.base.specs.Outcome.{Outcome, accepted, refused}
 use Rattle.lexer.specs.Bytes as Bytes
 use Rattle.lexer.specs.Kinds as Kinds
 use Rattle.lexer.specs.Tokens as Tokens
@@ -10,6 +11,7 @@ use Rattle.parser.specs.Measure as Measure
 use Rattle.parser.specs.Parse as Parse
 use Rattle.parser.specs.Read as Read
 use Rattle.parser.specs.Stream as Stream
+use Rattle.parser.specs.Tree.{Program}
 use Rattle.checker.specs.Check as Check
 use Rattle.checker.specs.ClassTable as ClassTable
 use Rattle.checker.specs.Declarations as Declarations
@@ -17,16 +19,14 @@ use Rattle.checker.specs.Judge as Judge
 use Rattle.semantics.specs.Limits as Limits
 use Rattle.semantics.specs.Machine as Machine
 
--- a refusal's number and position; 22 at one of these positions; the report of a run
+-- a refusal's number and position, or the report of a run
 pub data End : Type 0 where
   refusedAt : (number position : ℕ) → End
-  endlessAt : (positions : List ℕ) → End
   ran : Limits.Report → End
 
-abbrev pub ofVerdict : Limits.Limits → Check.Verdict → End
-ofVerdict L (Check.Verdict.accept p) = ran (Limits.run p L)
-ofVerdict L (Check.Verdict.refuse n p) = refusedAt n p
-ofVerdict L (Check.Verdict.refuseEndless ps) = endlessAt ps
+abbrev pub ofOutcome : Limits.Limits → Outcome Program → End
+ofOutcome L (accepted p) = ran (Limits.run p L)
+ofOutcome L (refused n p) = refusedAt n p
 
 -- what the end of a source depends on unfolds with it
 unfoldable pub endOf : List ℕ → Limits.Limits → End
@@ -37,11 +37,11 @@ unfolding Bytes.isBlank Bytes.isLetter Bytes.isDigit Bytes.isNamePart Kinds.isNa
     Stream.operatorOf Check.bodies Check.classBodies Check.allBodies Check.judged Check.checking ClassTable.classNamed ClassTable.methodNamed
     ClassTable.variableNamed ClassTable.chainWithin ClassTable.chain ClassTable.endsWithin ClassTable.sameType ClassTable.known ClassTable.among
     ClassTable.onChain ClassTable.fits ClassTable.layout ClassTable.fieldsOf ClassTable.nearestField ClassTable.nearestMethod ClassTable.methodOf
-    ClassTable.meaning Declarations.occurs Declarations.distinctClasses Declarations.knownParents Declarations.endless Declarations.fields
+    ClassTable.meaning Declarations.occurs Declarations.distinctClasses Declarations.knownParents Declarations.endingChains Declarations.fields
     Declarations.variables Declarations.sameTypes Declarations.heads Declarations.declarations Judge.arity Judge.judge Limits.guard Limits.runWith
     Limits.run Machine.readName Machine.writeName Machine.begin Machine.beginStatement Machine.second Machine.callMethod Machine.nextArgument
     Machine.nextStatement Machine.nextOfBody Machine.newArrayOf Machine.newObjectOf Machine.go Machine.plan
-endOf s L = ofVerdict L (Check.checking s)
+endOf s L = ofOutcome L (Check.checking s)
 
 -- an end with a result number and a position, steps, heap words and printed numbers
 abbrev pub ends : (number position steps words : ℕ) → List ℤ → End

@@ -5,7 +5,7 @@ use mathlib.Core.List.{List, [], _∷_, _++_}
 use lib.IntN.{pos}
 use lib.ListN.{replicate}
 use Rattle.base.specs.Bytes.{bytes}
-use Rattle.rows.specs.Ends.{Row, row, endOf, found, expected, refusedAt, endlessAt, ends, limits, usual, printing}
+use Rattle.rows.specs.Ends.{Row, row, endOf, found, expected, refusedAt, ends, limits, usual, printing}
 
 -- the frame with the expression 1, 68 bytes long, then classes
 abbrev pub declaring : List ℕ → List ℕ
@@ -34,8 +34,6 @@ furtherRows =
     row (printing (times 63 (bytes "1+") ++ bytes "1")) usual (refusedAt 17 63) ∷
     row (declaring (bytes " class A{} class A{}")) usual (refusedAt 20 85) ∷
     row (declaring (bytes " class A extends M{}")) usual (refusedAt 21 85) ∷
-    -- a class that only leads into a loop counts
-    row (declaring (bytes " class A extends B{} class B extends A{} class C extends A{}")) usual (endlessAt (75 ∷ 95 ∷ 115 ∷ [])) ∷
     row (declaring (bytes " class A{int x;boolean x;}")) usual (refusedAt 23 91) ∷
     -- main's name is no type
     row (declaring (bytes " class A{M x;}")) usual (refusedAt 24 77) ∷

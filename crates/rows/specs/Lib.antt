@@ -2,4 +2,5 @@
 pub mod Ends
 pub mod Starred
 pub mod Further
+pub mod Endless
 pub mod Worthless

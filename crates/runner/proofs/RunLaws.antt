@@ -1,24 +1,25 @@
 -- What the functions of Run return meets their contracts: Check's promise makes the lesson runnable, and the run reports what the machine does.
 use Prim.Native.Nat.{ℕ, _≤_, _<_}
 use native.Mathlib.Omega.{arith}
-use mathlib.Core.Path.{_≡_, refl, sym, ap, _∙_, subst}
-use mathlib.Core.List.{List, List·Memᴰ}
+use mathlib.Core.Path.{_≡_, refl, ap, _∙_, subst}
+use mathlib.Core.List.{List}
 use lib.ListN.{length, drop, replicate, length-replicate}
 use lib.IntN.{ℤ, pos}
 use borrow.Author.Tests.{eq-eqb, ne-eqb, lt-ltb, le-ltb}
 use Rattle.base.specs.Lists.{drop-none}
+use Rattle.base.specs.Outcome.{Outcome, accepted, refused}
 use Rattle.base.specs.Tests.{apart}
 use Rattle.parser.specs.Tree.{Program, Statement}
 use Rattle.parser.specs.Tree.{Part.block, Part.conditional, Part.loop, Part.print, Part.assign, Part.assignElement}
 use Rattle.parser.specs.Measure.{nodes, programNodes}
 use Rattle.reader.specs.Counting.{program-nodes}
-use Rattle.checker.specs.Check.{Verdict, accept, refuse, refuseEndless, checking}
+use Rattle.checker.specs.Check.{checking}
 use Rattle.typecheck.specs.declared.check.Found.{Found}
 use Rattle.typecheck.specs.declared.check.Found.the-variants.{Program as found, Refused as unfit}
 use Rattle.writer.specs.Preparing.{Accepted, Prepares}
 use Rattle.typecheck.specs.CheckPost.{Leaves}
 use Rattle.vm.specs.declared.calls.Sizes.{Sizes}
-use Rattle.semantics.specs.Run.{Strips, Refusal, RunMeets, Runs}
+use Rattle.semantics.specs.Run.{Strips, refusal, RunMeets, Runs}
 use Rattle.semantics.specs.Run as Run
 use Rattle.guarantees.specs.Accepted.{allowed}
 use Rattle.guarantees.specs.Demand.{fits}
@@ -26,7 +27,7 @@ use Rattle.interpreter.specs.declared.state.Bounds.{Bounds}
 use Rattle.interpreter.specs.declared.report.Ended.{Ended}
 use Rattle.interpreter.specs.Running.{Runnable, Executed}
 use Rattle.runner.specs.declared.run.RunAnswer.{RunAnswer}
-use Rattle.runner.specs.RunPost.{strips, refused, Completes, Performs, Known, Performed}
+use Rattle.runner.specs.RunPost.{strips, Completes, Performs, Known, Performed}
 
 -- CHECK'S PROMISE
 
@@ -34,14 +35,13 @@ use Rattle.runner.specs.RunPost.{strips, refused, Completes, Performs, K
 pub accepted-few : {s : List ℕ} {z : Sizes} {tab : List ℕ} → Known s z tab → 0 < z .tokens → (z .tokens ≤ 2048) × (z .classes ≤ 2048)
 accepted-few {s} {z} {tab} k l = by (checking s) (k .says l)
   where
-    by : (v : Verdict) → Leaves v (found (z .tokens) (z .classes)) tab → (z .tokens ≤ 2048) × (z .classes ≤ 2048)
-    by (accept p) a =
+    by : (v : Outcome Program) → Leaves v (found (z .tokens) (z .classes)) tab → (z .tokens ≤ 2048) × (z .classes ≤ 2048)
+    by (accepted p) a =
         let e = a .answer in
         let t : length (a .stream) ≡ z .tokens = cc in
         let c : length (p .classes) ≡ z .classes = cc in
         (omega (arith, t, a .ready .world .tokens .few), omega (arith, c, a .ready .world .few, a .ready .world .tokens .few))
-    by (refuse n i) a = let e = a in apart (cc)
-    by (refuseEndless ps) a = let e = a .1 in apart (cc)
+    by (refused n i) a = let e = a in apart (cc)
 
 -- a program has a node
 statement-nodes : (p : Program) → 0 < programNodes p
@@ -60,16 +60,15 @@ statement-nodes p = omega (arith, some-nodes (p .statement))
 pub accepted-some : (s tab : List ℕ) {tokens classes : ℕ} {f : Found} → Leaves (checking s) f tab → f ≡ found tokens classes → 0 < tokens
 accepted-some s tab {tokens} {classes} {f} h q = by (checking s) h
   where
-    by : (v : Verdict) → Leaves v f tab → 0 < tokens
-    by (accept p) a =
+    by : (v : Outcome Program) → Leaves v f tab → 0 < tokens
+    by (accepted p) a =
         let e = a .answer in
         let t : length (a .stream) ≡ tokens = cc in
         omega (arith, t, program-nodes (a .derived), statement-nodes p)
-    by (refuse n i) a = let e = a in apart (cc)
-    by (refuseEndless ps) a = let e = a .1 in apart (cc)
+    by (refused n i) a = let e = a in apart (cc)
 
 -- an accepted lesson can be run
-runnable : (s : List ℕ) (p : Program) (tokens classes : ℕ) (tab code code′ entries entries′ : List ℕ) → checking s ≡ accept p → Accepted p (found tokens classes) tab code code′ entries entries′
+runnable : (s : List ℕ) (p : Program) (tokens classes : ℕ) (tab code code′ entries entries′ : List ℕ) → checking s ≡ accepted p → Accepted p (found tokens classes) tab code code′ entries entries′
     → 32768 ≤ length code → 2048 ≤ length entries → Runnable tab code′ entries′ (record { tokens = tokens; classes = classes }) p
 runnable s p tokens classes tab code code′ entries entries′ e a long many =
     let z = a .answer in
@@ -96,38 +95,26 @@ pub completed : (tab : List ℕ) (sz : Sizes) (b : Bounds) (heap output : List �
     → Completes tab sz b heap output (record { number = x .number; position = x .position; steps = x .steps; words = x .words; printed = x .printed }) output′
 completed tab sz b heap output {code′} {entries′} {x} {output′} w E = record { says = λ s h. by s (checking s) refl h }
   where
-    by : (s : List ℕ) (v : Verdict) → checking s ≡ v → Leaves v (found (sz .tokens) (sz .classes)) tab
+    by : (s : List ℕ) (v : Outcome Program) → checking s ≡ v → Leaves v (found (sz .tokens) (sz .classes)) tab
         → Performs v b heap output (record { number = x .number; position = x .position; steps = x .steps; words = x .words; printed = x .printed }) output′
-    by s (accept p) e h =
+    by s (accepted p) e h =
         let long : length (replicate {A = ℕ} 32768 0) ≡ 32768 = length-replicate {A = ℕ} 32768 0 in
         let many : length (replicate {A = ℕ} 2048 0) ≡ 2048 = length-replicate {A = ℕ} 2048 0 in
         let r = E .says p (runnable s p (sz .tokens) (sz .classes) tab (replicate 32768 0) code′ (replicate 2048 0) entries′ e (w .says p h) (omega (arith, long)) (omega (arith, many))) in
         (record { ending = r .ending; steps = r .steps; words = r .words; printed = r .printed }, r .strip)
-    by s (refuse n i) e h = let z = h in apart (cc)
-    by s (refuseEndless ps) e h = let z = h .1 in apart (cc)
+    by s (refused n i) e h = let z = h in apart (cc)
 
 pub performed : {s : List ℕ} {z : Sizes} {b : Bounds} {heap output : List ℤ} {tab table′ : List ℕ} {heap′ output′ : List ℤ} {a : Run.RunAnswer} → Known s z tab → 0 < z .tokens
     → Completes tab z b heap output a output′ → Performed s z b tab heap output a table′ heap′ output′
 performed {s} k l C = record { performs = C .says s (k .says l); clears = λ e. absurd (omega (arith, l, e)) }
 
-zero-counts : {n p : ℕ} {a : Run.RunAnswer} → a ≡ refused n p → Refusal (a .number) (a .position) a
-zero-counts e = rw e (record { numbered = refl; placed = refl; steps = refl; words = refl; printed = refl })
-
 refuses-so : (s : List ℕ) (b : Bounds) (heap output : List ℤ) (tab : List ℕ) {n p : ℕ} {f : Found} {a : Run.RunAnswer}
-    → Leaves (checking s) f tab → f ≡ unfit n p → a ≡ refused n p → Performs (checking s) b heap output a output
+    → Leaves (checking s) f tab → f ≡ unfit n p → a ≡ refusal n p → Performs (checking s) b heap output a output
 refuses-so s b heap output tab {n} {p} {f} {a} h q e = by (checking s) h
   where
-    by : (v : Verdict) → Leaves v f tab → Performs v b heap output a output
-    by (accept p) c = let z = c .answer in apart (cc)
-    by (refuse k i) c =
-        let z = c in
-        let x : n ≡ k = cc in
-        let y : p ≡ i = cc in
-        ((ap (λ (r : Run.RunAnswer). r .number) e ∙ x, ap (λ (r : Run.RunAnswer). r .position) e ∙ y), zero-counts e, refl)
-    by (refuseEndless ps) (k, z, w) =
-        let x : n ≡ 22 = cc in
-        let y : p ≡ k = cc in
-        ((ap (λ (r : Run.RunAnswer). r .number) e ∙ x, subst (λ (i : ℕ). List·Memᴰ i ps) (sym (ap (λ (r : Run.RunAnswer). r .position) e ∙ y)) w), zero-counts e, refl)
+    by : (v : Outcome Program) → Leaves v f tab → Performs v b heap output a output
+    by (accepted p) c = let z = c .answer in apart (cc)
+    by (refused k i) c = let z = c in let x : n ≡ k = cc in let y : p ≡ i = cc in (e ∙ rw (x, y), refl)
 
 -- zeros as long as the strips were
 cleared : (table table₁ : List ℕ) (heap heap₁ : List ℤ) {table₂ : List ℕ} {heap₂ : List ℤ} → length table₁ ≡ length table → length heap₁ ≡ length heap
@@ -135,7 +122,7 @@ cleared : (table table₁ : List ℕ) (heap heap₁ : List ℤ) {table₂ : List
 cleared table table₁ heap heap₁ lt lh et eh = (et ∙ ap (λ (n : ℕ). replicate n 0) lt, eh ∙ ap (λ (n : ℕ). replicate n (pos 0)) lh)
 
 pub unperformed : (s : List ℕ) (z : Sizes) (b : Bounds) (table table₁ : List ℕ) (heap output : List ℤ) {table₂ : List ℕ} {heap₂ : List ℤ} {n p : ℕ} {f : Found} {a : Run.RunAnswer}
-    → Leaves (checking s) f table₁ → f ≡ unfit n p → length table₁ ≡ length table → table₂ ≡ replicate (length table₁) 0 → heap₂ ≡ replicate (length heap) (pos 0) → a ≡ refused n p
+    → Leaves (checking s) f table₁ → f ≡ unfit n p → length table₁ ≡ length table → table₂ ≡ replicate (length table₁) 0 → heap₂ ≡ replicate (length heap) (pos 0) → a ≡ refusal n p
     → Performed s z b table heap output a table₂ heap₂ output
 unperformed s z b table table₁ heap output h q lt et eh e =
     record { performs = refuses-so s b heap output table₁ h q e; clears = λ _. cleared table table₁ heap heap lt refl et eh }
@@ -159,28 +146,25 @@ module _ (s : List ℕ) (budget calls : ℕ) (table : List ℕ) (heap output : L
   abbrev Before : Strips
   Before = strips table heap output
 
-  refuses : {a : Run.RunAnswer} (n : ℕ) → a ≡ refused n 0 → Refusal n 0 a × (Before ≡ Before)
-  refuses n e = (rw e (record { numbered = refl; placed = refl; steps = refl; words = refl; printed = refl }), refl)
-
-  pub too-short : {a : Run.RunAnswer} → length table < 16384 → a ≡ refused 1 0 → Runs s budget calls Before a Before
+  pub too-short : {a : Run.RunAnswer} → length table < 16384 → a ≡ refusal 1 0 → Runs s budget calls Before a Before
   unfolding Runs
-  too-short h e = rw (lt-ltb (length table) 16384 h) (refuses 1 e)
+  too-short h e = rw (lt-ltb (length table) 16384 h) (e, refl)
 
   module _ (long : 16384 ≤ length table) where
-    pub no-calls : {a : Run.RunAnswer} → calls ≡ 0 → a ≡ refused 2 0 → Runs s budget calls Before a Before
+    pub no-calls : {a : Run.RunAnswer} → calls ≡ 0 → a ≡ refusal 2 0 → Runs s budget calls Before a Before
     unfolding Runs
-    no-calls z e = rw (le-ltb (length table) 16384 long, eq-eqb calls 0 z) (refuses 2 e)
+    no-calls z e = rw (le-ltb (length table) 16384 long, eq-eqb calls 0 z) (e, refl)
 
     module _ (some-calls : calls ≡ 0 → ⊥) where
-      pub many-calls : {a : Run.RunAnswer} → 64 < calls → a ≡ refused 2 0 → Runs s budget calls Before a Before
+      pub many-calls : {a : Run.RunAnswer} → 64 < calls → a ≡ refusal 2 0 → Runs s budget calls Before a Before
       unfolding Runs
-      many-calls m e = rw (le-ltb (length table) 16384 long, ne-eqb calls 0 some-calls, lt-ltb 64 calls m) (refuses 2 e)
+      many-calls m e = rw (le-ltb (length table) 16384 long, ne-eqb calls 0 some-calls, lt-ltb 64 calls m) (e, refl)
 
       module _ (few-calls : calls ≤ 64) where
-        pub long-heap : {a : Run.RunAnswer} → 16384 < length heap → a ≡ refused 3 0 → Runs s budget calls Before a Before
+        pub long-heap : {a : Run.RunAnswer} → 16384 < length heap → a ≡ refusal 3 0 → Runs s budget calls Before a Before
         unfolding Runs
         long-heap m e =
-            rw (le-ltb (length table) 16384 long, ne-eqb calls 0 some-calls, le-ltb 64 calls few-calls, lt-ltb 16384 (length heap) m) (refuses 3 e)
+            rw (le-ltb (length table) 16384 long, ne-eqb calls 0 some-calls, le-ltb 64 calls few-calls, lt-ltb 16384 (length heap) m) (e, refl)
 
         pub runs : (a : Run.RunAnswer) {table₂ : List ℕ} {heap₂ : List ℤ} (output₂ : List ℤ) → length heap ≤ 16384
             → Performed s (record { tokens = 0; classes = 0 }) (record { budget = budget; calls = calls }) table heap output a table₂ heap₂ output₂
@@ -196,7 +180,6 @@ module _ (s : List ℕ) (budget calls : ℕ) (table : List ℕ) (heap output : L
                 ∙ ap (λ (k : List ℤ). strips (replicate (length table) 0) k output₂) (z .1)
                 ∙ ap (strips (replicate (length table) 0) (replicate (length heap) (pos 0))) e
 
-            by : (v : Verdict) → Performs v (record { budget = budget; calls = calls }) heap output a output₂ → RunMeets v budget calls Before a (strips table₂ heap₂ output₂)
-            by (accept p) (r, e) = (r, same _ e)
-            by (refuse n i) (r, z, e) = (r, z, same (drop 0 output) (e ∙ drop-none output))
-            by (refuseEndless ps) (r, z, e) = (r, z, same (drop 0 output) (e ∙ drop-none output))
+            by : (v : Outcome Program) → Performs v (record { budget = budget; calls = calls }) heap output a output₂ → RunMeets v budget calls Before a (strips table₂ heap₂ output₂)
+            by (accepted p) (r, e) = (r, same _ e)
+            by (refused n i) (r, e) = (r, same (drop 0 output) (e ∙ drop-none output))

@@ -9,10 +9,11 @@ use lib.ListN.{length, take, drop}
 use lib.Seq.{take-append-seam}
 use lib.IntN.{ℤ}
 use Rattle.base.specs.Choice.{option}
+use Rattle.base.specs.Outcome.{accepted}
 use Rattle.parser.specs.Tree.{Program}
-use Rattle.checker.specs.Check.{accept, checking}
+use Rattle.checker.specs.Check.{checking}
 use Rattle.semantics.specs.Limits.{ended, Report, run}
-use Rattle.semantics.specs.Run.{RunAnswer, Strips, limitsOf, unfit, stripsAfter, Reports, RunMeets, Refusal, Runs}
+use Rattle.semantics.specs.Run.{RunAnswer, Strips, limitsOf, unfit, stripsAfter, Reports, RunMeets, refusal, Runs}
 use Rattle.soundness.specs.Results.{Finish, ByLimit}
 use Rattle.soundness.specs.LargerLimits.{_⊑_, Begins}
 use Rattle.guarantees.specs.Demand as Machine
@@ -26,20 +27,20 @@ pub record RunOf (p : Program) (budget calls : ℕ) (before : Strips) (a : RunAn
   pub reports : Reports (run p (limitsOf budget calls before)) a
   pub strips : after ≡ stripsAfter (run p (limitsOf budget calls before) .printed) before
 
-module _ (s : List ℕ) (p : Program) (accepted : checking s ≡ accept p) where
+module _ (s : List ℕ) (p : Program) (found : checking s ≡ accepted p) where
   -- Run runs an accepted lesson where no argument is refused
   pub run-of : (budget calls : ℕ) (before : Strips) (a : RunAnswer) (after : Strips) → unfit calls before ≡ none → Runs s budget calls before a after → RunOf p budget calls before a after
   unfolding Runs
   run-of budget calls before a after u R =
       let m : RunMeets (checking s) budget calls before a after =
-      subst (λ (x : Option ℕ). option x (RunMeets (checking s) budget calls before a after) λ n. Refusal n 0 a × (after ≡ before)) u R in
-      let q = subst (λ v. RunMeets v budget calls before a after) accepted m in
+      subst (λ (x : Option ℕ). option x (RunMeets (checking s) budget calls before a after) λ n. (a ≡ refusal n 0) × (after ≡ before)) u R in
+      let q = subst (λ v. RunMeets v budget calls before a after) found m in
       record { reports = q .0; strips = q .1 }
 
   -- It never gets stuck: it ends in 0, in a fault (40, 41, 42) or by a limit (50, 51, 52, 53).
   pub never-stuck : (budget calls : ℕ) (before : Strips) (a : RunAnswer) (after : Strips) → RunOf p budget calls before a after → Finish (a .number) ⊎ ByLimit (a .number)
   never-stuck budget calls before a after R =
-      let e = Machine.ends-well s p accepted (limitsOf budget calls before) in
+      let e = Machine.ends-well s p found (limitsOf budget calls before) in
       let q : ended (e .number) (e .position) ≡ ended (a .number) (a .position) = sym (e .is) ∙ R .reports .ending in
       let n : e .number ≡ a .number = cc in
       subst (λ k. Finish k ⊎ ByLimit k) n (e .cause)
@@ -60,7 +61,7 @@ module _ (s : List ℕ) (p : Program) (accepted : checking s ≡ accept p) where
     same-answer f =
         let L = limitsOf budget calls before in
         let M = limitsOf budget′ calls′ before′ in
-        let e : run p M ≡ run p L = Machine.same-end s p accepted L M (a .number) (a .position) larger f (R .reports .ending) in
+        let e : run p M ≡ run p L = Machine.same-end s p found L M (a .number) (a .position) larger f (R .reports .ending) in
         let q : ended (a′ .number) (a′ .position) ≡ ended (a .number) (a .position) = sym (R′ .reports .ending) ∙ ap (λ (r : Report). r .ending) e ∙ R .reports .ending in
         let n : a′ .number ≡ a .number = cc in
         let i : a′ .position ≡ a .position = cc in
@@ -78,11 +79,11 @@ module _ (s : List ℕ) (p : Program) (accepted : checking s ≡ accept p) where
     same-shown f =
         let L = limitsOf budget calls before in
         let M = limitsOf budget′ calls′ before′ in
-        let e : run p M ≡ run p L = Machine.same-end s p accepted L M (a .number) (a .position) larger f (R .reports .ending) in
+        let e : run p M ≡ run p L = Machine.same-end s p found L M (a .number) (a .position) larger f (R .reports .ending) in
         shown-is budget′ calls′ before′ a′ after′ R′ ∙ ap (λ (r : Report). r .printed) e ∙ sym (shown-is budget calls before a after R)
 
     -- What a run printed, also one that a limit stopped, begins what is printed under larger limits.
     pub shown-begins : Begins (shown a after) (shown a′ after′)
     shown-begins =
         rw (shown-is budget calls before a after R, shown-is budget′ calls′ before′ a′ after′ R′)
-        (Machine.printed-begins s p accepted (limitsOf budget calls before) (limitsOf budget′ calls′ before′) larger)
+        (Machine.printed-begins s p found (limitsOf budget calls before) (limitsOf budget′ calls′ before′) larger)

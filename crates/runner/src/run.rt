@@ -11,8 +11,8 @@ ghost use Prim.Native.Nat.{_≤_, _<_};
 ghost use mathlib.Core.Path.{_≡_};
 ghost use lib.ListN.{length};
 ghost use Rattle.reader.specs.WalkPost.{Walkable};
-ghost use Rattle.semantics.specs.Run.{Runs};
-ghost use Rattle.runner.specs.RunPost.{answerOf, strips, Known, Completes, Performed, refused};
+ghost use Rattle.semantics.specs.Run.{Runs, refusal};
+ghost use Rattle.runner.specs.RunPost.{answerOf, strips, Known, Completes, Performed};
 
 // What Run answers: a result number and a position, the steps, the heap words and how many numbers were printed.
 pub struct RunAnswer {
@@ -25,7 +25,7 @@ pub struct RunAnswer {
 
 // A refusal gives zero counts.
 fn refusal(number: u32, position: usize) -> RunAnswer
-    ensures { λ r. ⌜ answerOf r ≡ refused number position ⌝ }
+    ensures { λ r. ⌜ answerOf r ≡ refusal number position ⌝ }
 {
     RunAnswer {
         number,

@@ -8,8 +8,10 @@ use lib.ListN.{length, drop, replicate}
 use lib.Dec.{eqb, ltb}
 use lib.IntN.{ℤ, pos}
 use Rattle.base.specs.Choice.{if_then_else_, option}
+use Rattle.base.specs.Outcome.{Outcome, accepted, refused}
 use Rattle.base.specs.Codes.{tableTooShort, tableLeast, callLimitOutOfRange, callsMost, heapTooLong, heapMost}
-use Rattle.checker.specs.Check.{Verdict, accept, refuse, refuseEndless, Refuses, checking}
+use Rattle.parser.specs.Tree.{Program}
+use Rattle.checker.specs.Check.{checking}
 use Rattle.semantics.specs.Limits.{Limits, ended, Report, run}
 
 pub record RunAnswer : Type 0 where
@@ -46,12 +48,8 @@ stripsAfter printed m =
     }
 
 -- a refusal gives zero counts
-pub record Refusal (number position : ℕ) (a : RunAnswer) : Type 0 where
-  pub numbered : a .number ≡ number
-  pub placed : a .position ≡ position
-  pub steps : a .steps ≡ 0
-  pub words : a .words ≡ 0
-  pub printed : a .printed ≡ 0
+abbrev pub refusal : (number position : ℕ) → RunAnswer
+refusal number position = record { number = number; position = position; steps = 0; words = 0; printed = 0 }
 
 -- all ends of a run give steps, heap words and the printed count. No answer stands for a run that got stuck.
 pub record Reports (r : Report) (a : RunAnswer) : Type 0 where
@@ -60,16 +58,13 @@ pub record Reports (r : Report) (a : RunAnswer) : Type 0 where
   pub words : a .words ≡ r .words
   pub printed : a .printed ≡ length (r .printed)
 
--- the answers and strips that are right for a verdict of Check's
-abbrev pub RunMeets : Verdict → (budget calls : ℕ) → Strips → RunAnswer → Strips → Type 0
-RunMeets (accept p) budget calls before a after =
+-- the answer and the strips that are right for what Check finds
+abbrev pub RunMeets : Outcome Program → (budget calls : ℕ) → Strips → RunAnswer → Strips → Type 0
+RunMeets (accepted p) budget calls before a after =
     Reports (run p (limitsOf budget calls before)) a × (after ≡ stripsAfter (run p (limitsOf budget calls before) .printed) before)
-RunMeets (refuse n p) budget calls before a after =
-    Refuses (refuse n p) (a .number) (a .position) × Refusal (a .number) (a .position) a × (after ≡ stripsAfter [] before)
-RunMeets (refuseEndless ps) budget calls before a after =
-    Refuses (refuseEndless ps) (a .number) (a .position) × Refusal (a .number) (a .position) a × (after ≡ stripsAfter [] before)
+RunMeets (refused n p) budget calls before a after = (a ≡ refusal n p) × (after ≡ stripsAfter [] before)
 
--- the answers and strips that are right for a source, a budget, a call limit and what the strips held before
+-- the answer and the strips that are right for a source, a budget, a call limit and what the strips held before
 unfoldable pub Runs : List ℕ → (budget calls : ℕ) → (before : Strips) → RunAnswer → (after : Strips) → Type 0
 Runs s budget calls before a after =
-    option (unfit calls before) (RunMeets (checking s) budget calls before a after) λ n. Refusal n 0 a × (after ≡ before)
+    option (unfit calls before) (RunMeets (checking s) budget calls before a after) λ n. (a ≡ refusal n 0) × (after ≡ before)

@@ -2,10 +2,10 @@
 use Prim.Native.Nat.{ℕ, _≤_, _<_}
 use native.Mathlib.Omega.{arith}
 use mathlib.Core.Path.{_≡_, refl, sym, ap, _∙_, subst}
-use mathlib.Core.List.{List, [], _∷_, List·Memᴰ, List·Memᴰ·head}
+use mathlib.Core.List.{List, [], _∷_}
 use lib.ListN.{length, replicate}
 use borrow.Author.Tests.{lt-ltb, le-ltb}
-use Rattle.base.specs.Codes.{tableLeast, chainEndless}
+use Rattle.base.specs.Codes.{tableLeast}
 use Rattle.base.specs.Lists.{getD-replicate-same}
 use Rattle.base.specs.Outcome.{Outcome, accepted, refused, _>>=_}
 use Rattle.base.specs.Tests.{apart}
@@ -17,8 +17,8 @@ use Rattle.parser.specs.Read.{Reading, reading, tableAfter}
 use Rattle.reader.specs.declared.read.Filled.{Filled}
 use Rattle.reader.specs.declared.read.Filled.the-variants.{Tree, Refused as notRead}
 use Rattle.reader.specs.ReadPost.{Fills}
-use Rattle.checker.specs.Declarations.{distinctClasses, knownParents, endless, declarations}
-use Rattle.checker.specs.Check.{Verdict, accept, refuse, refuseEndless, allBodies, unlessRefused, unlessEndless, judged, checking, CheckMeets, CheckAnswers, Checks}
+use Rattle.checker.specs.Declarations.{distinctClasses, knownParents, endingChains, declarations}
+use Rattle.checker.specs.Check.{allBodies, judged, checking, checkAnswer, check, Checks}
 use Rattle.lookup.specs.declared.answer.Judged.{Judged}
 use Rattle.lookup.specs.declared.answer.Judged.the-variants.{Fine, Refused}
 use Rattle.lookup.specs.Standing.{absent, wordAt, Lexemes, ClassesStand, no-classes, more-classes}
@@ -26,13 +26,13 @@ use Rattle.lookup.specs.StandingLaws.{word-in, row-there}
 use Rattle.lookup.specs.Lookups.{Many, many-none, many-more, Counts}
 use Rattle.lookup.specs.Answers.{settled, settled-fine, settled-refused, goes-on, stops}
 use Rattle.declarations.specs.Marking.{Below}
-use Rattle.declarations.specs.Judgements.{ClassesAt, ParentsJudged, endlessAnswer, ChainsJudged, DeclarationsJudged}
+use Rattle.declarations.specs.Judgements.{ClassesAt, ParentsJudged, ChainsJudged, DeclarationsJudged}
 use Rattle.declarations.specs.Indexing.{Ready, IndexMade}
 use Rattle.typecheck.specs.declared.check.Found.{Found}
 use Rattle.typecheck.specs.declared.check.Found.the-variants.{Program as found, Refused as unfit}
 use Rattle.typecheck.specs.declared.check.CheckAnswer.{CheckAnswer}
 use Rattle.typecheck.specs.MethodPost.{BodiesJudged}
-use Rattle.typecheck.specs.CheckPost.{Holding, Leaves, ContentsJudged, Tells, chainsOn, ChainedJudged, IndexedJudged, TreeJudged, answerOf, Told}
+use Rattle.typecheck.specs.CheckPost.{Holding, Leaves, contentsOf, ContentsJudged, chainsOn, ChainedJudged, parentsOn, IndexedJudged, TreeJudged, answerOf, Told}
 
 -- before the first list of members no name has a stamp
 pub zeros-below : (m : ℕ) → Below 1 (replicate m 0)
@@ -58,34 +58,17 @@ module _ {tab : List ℕ} {n classes first : ℕ} {v : Judged} (f : Declarations
 
 -- CHAINS
 
--- two stages as a verdict
-told : (p : Program) (a b : Outcome (Unit {0})) {r : Judged} → r ≡ settled (a >>= λ _. b) → Tells (unlessRefused a λ _. unlessRefused b λ _. accept p) r
-told p (accepted x) (accepted y) e = e
-told p (accepted x) (refused n q) e = e
-told p (refused n q) b e = e
-
-endless-none : (ps : List ℕ) {v : Judged} {u : ℕ} → v ≡ endlessAnswer ps → v ≡ Fine u → ps ≡ []
-endless-none [] e is = refl
-endless-none (p ∷ ps) e is = apart (cc)
-
-endless-some : (ps : List ℕ) (w : Verdict) {v : Judged} {n q : ℕ} → v ≡ endlessAnswer ps → v ≡ Refused n q → Tells (unlessEndless ps w) (Refused n q)
-endless-some [] w e is = apart (cc)
-endless-some (p ∷ ps) w e is = (p, cc, List·Memᴰ·head refl)
-
 module _ {tab : List ℕ} {n classes first : ℕ} {v : Judged} (f : ChainsJudged tab classes n first v) where
-  chains-told : (ts : List Token) (p : Program) → Ready tab n ts p → length (p .classes) ≡ classes → rowClasses (p .classes) ≡ first → v ≡ endlessAnswer (endless (p .classes) (p .classes))
+  chains-told : (ts : List Token) (p : Program) → Ready tab n ts p → length (p .classes) ≡ classes → rowClasses (p .classes) ≡ first → v ≡ settled (endingChains (p .classes) (p .classes))
   chains-told ts p h l e = f .says n ts (p .classes) (h .world) l (p .classes) (classes-at h e)
 
   pub chained-refused : {k q : ℕ} → v ≡ Refused k q → ChainedJudged tab n classes first (Refused k q)
-  chained-refused is = record { says = λ ts p h l e. endless-some (endless (p .classes) (p .classes)) _ (chains-told ts p h l e) is }
+  chained-refused is =
+      record { says = λ ts p h l e. rw (stops (endingChains (p .classes) (p .classes)) (λ _. contentsOf p) (chains-told ts p h l e) is) }
 
   pub chained-contents : {u : ℕ} → v ≡ Fine u → {r : Judged} → ContentsJudged tab n classes first r → ChainedJudged tab n classes first r
   chained-contents is g =
-      record {
-        says = λ ts p h l e.
-            rw (endless-none (endless (p .classes) (p .classes)) (chains-told ts p h l e) is)
-            (told p (declarations (p .classes) (p .classes)) (allBodies p) (g .says ts p h l e));
-      }
+      record { says = λ ts p h l e. rw (goes-on (endingChains (p .classes) (p .classes)) (λ _. contentsOf p) (chains-told ts p h l e) is) (g .says ts p h l e) }
 
 -- PARENTS
 
@@ -95,23 +78,6 @@ many-classes lx (more-classes {k = k} s c₆ h) = many-more (row-there lx (k .na
 
 first-row : (tab : List ℕ) {n : ℕ} {ts : List Token} {p : Program} → Ready tab n ts p → {first : ℕ} → first ≡ wordAt tab 6 0 → rowClasses (p .classes) ≡ first
 first-row tab h e = sym (e ∙ word-in tab 6 0 (omega arith) (h .first))
-
--- a verdict of the later stages is that of all
-unless : (o : Outcome (Unit {0})) (w : Verdict) {v : Judged} {u : ℕ} → v ≡ settled o → v ≡ Fine u → unlessRefused o (λ _. w) ≡ w
-unless o w e is = rw (settled-fine o e is)
-
-leaves-unfit : (w : Verdict) (tab : List ℕ) {c : Judged} {n q : ℕ} → Tells w c → c ≡ Refused n q → Leaves w (unfit n q) tab
-leaves-unfit (accept p) tab e is = apart (cc)
-leaves-unfit (refuse n q) tab e is = cc
-leaves-unfit (refuseEndless ps) tab (q, e, m) is = (q, cc, m)
-
--- the later stages accept nothing but the program
-only : (p : Program) (ps : List ℕ) (a b : Outcome (Unit {0})) {c : Judged} {u : ℕ} → Tells (unlessEndless ps (unlessRefused a λ _. unlessRefused b λ _. accept p)) c → c ≡ Fine u
-    → unlessEndless ps (unlessRefused a λ _. unlessRefused b λ _. accept p) ≡ accept p
-only p [] (accepted x) (accepted y) e is = refl
-only p [] (accepted x) (refused n q) e is = apart (cc)
-only p [] (refused n q) b e is = apart (cc)
-only p (q ∷ ps) a b (k, e, m) is = apart (cc)
 
 module _ {tab : List ℕ} {n first : ℕ} (e₆ : first ≡ wordAt tab 6 0) {v : Judged} (f : ParentsJudged tab n first v) where
   parents-told : (ts : List Token) (p : Program) → Ready tab n ts p → v ≡ settled (knownParents (p .classes) (p .classes))
@@ -127,26 +93,20 @@ module _ {tab : List ℕ} {n first : ℕ} (e₆ : first ≡ wordAt tab 6 0) {v :
         sym (many .says (length (p .classes))
         (subst (λ (i : ℕ). Many tab i (length (p .classes))) (first-row tab h e₆) (many-classes (h .world .tokens) (h .world .classes))) (h .world .few))
 
-    later : (ts : List Token) (p : Program) → Ready tab n ts p → Tells (chainsOn p) c
-    later ts p h = g .says ts p h (counted ts p h) (first-row tab h e₆)
+    later-told : (ts : List Token) (p : Program) → Ready tab n ts p → c ≡ settled (chainsOn p)
+    later-told ts p h = g .says ts p h (counted ts p h) (first-row tab h e₆)
+
+    known-told : (ts : List Token) (p : Program) → Ready tab n ts p → parentsOn p ≡ (chainsOn p >>= λ _. accepted p)
+    known-told ts p h = goes-on (knownParents (p .classes) (p .classes)) (λ _. chainsOn p >>= λ _. accepted p) (parents-told ts p h) is
 
     pub indexed-later : {k q : ℕ} → c ≡ Refused k q → IndexedJudged tab n (unfit k q)
     indexed-later is′ =
-        record {
-          says = λ ts p h d.
-              rw (unless (knownParents (p .classes) (p .classes)) (chainsOn p) (parents-told ts p h) is)
-              (leaves-unfit (chainsOn p) tab (later ts p h) is′);
-        }
+        record { says = λ ts p h d. rw (known-told ts p h, stops (chainsOn p) (λ _. accepted p) (later-told ts p h) is′) }
 
     pub indexed-found : {w : ℕ} → c ≡ Fine w → IndexedJudged tab n (found n classes)
     indexed-found is′ =
         record {
-          says = λ ts p h d.
-              rw (
-                unless (knownParents (p .classes) (p .classes)) (chainsOn p) (parents-told ts p h) is,
-                only p (endless (p .classes) (p .classes)) (declarations (p .classes) (p .classes)) (allBodies p) (later ts p h) is′,
-              )
-              (holding ts p h d);
+          says = λ ts p h d. rw (known-told ts p h, goes-on (chainsOn p) (λ _. accepted p) (later-told ts p h) is′) (holding ts p h d);
         }
       where
         holding : (ts : List Token) (p : Program) → Ready tab n ts p → DerivesProgram ts p → Holding p (found n classes) tab
@@ -160,6 +120,16 @@ module _ {tab : List ℕ} {n first : ℕ} (e₆ : first ≡ wordAt tab 6 0) {v :
             }
 
 -- THE TREE
+
+-- the stages from the chains on, taken together
+stages : (p : Program) → let G = p .classes in
+    (knownParents G G >>= λ _. endingChains G G >>= λ _. declarations G G >>= λ _. allBodies p >>= λ _. accepted p) ≡ parentsOn p
+stages p = ap (λ (o : Outcome Program). knownParents (p .classes) (p .classes) >>= λ _. o) (go (endingChains (p .classes) (p .classes)) (declarations (p .classes) (p .classes)))
+  where
+    go : (a b : Outcome (Unit {0})) → (a >>= λ _. b >>= λ _. allBodies p >>= λ _. accepted p) ≡ ((a >>= λ _. b >>= λ _. allBodies p) >>= λ _. accepted p)
+    go (accepted x) (accepted y) = refl
+    go (accepted x) (refused n q) = refl
+    go (refused n q) b = refl
 
 module _ {n : ℕ} {before middle : List ℕ} {v : Judged} (f : IndexMade n before v middle) where
   pub tree-refused : {k q : ℕ} → v ≡ Refused k q → TreeJudged n before (unfit k q) middle
@@ -176,7 +146,7 @@ module _ {n : ℕ} {before middle : List ℕ} {v : Judged} (f : IndexMade n befo
       record {
         says = λ rd h l.
             let d = settled-fine (distinctClasses (rd .tree .main .text ∷ []) (rd .tree .classes)) (f .says rd h l .0) is in
-            rw d (g .says (rd .stream) (rd .tree) (f .says rd h l .1 d) (h .derived));
+            rw (d, stages (rd .tree)) (g .says (rd .stream) (rd .tree) (f .says rd h l .1 d) (h .derived));
       }
 
 -- THE SOURCE
@@ -186,7 +156,7 @@ module _ (s : List ℕ) (a : Filled) (middle : List ℕ) (f : Fills (reading s) 
   unfolding checking
   find-refused after {n} {q} is = go (reading s) f
     where
-      go : (o : Outcome Reading) → Fills o a middle → Leaves (unlessRefused o λ r. judged (r .tree)) (unfit n q) after
+      go : (o : Outcome Reading) → Fills o a middle → Leaves (o >>= λ r. judged (r .tree)) (unfit n q) after
       go (accepted r) h = let z = h .0 in apart (cc)
       go (refused k p) h = let z = h in cc
 
@@ -194,7 +164,7 @@ module _ (s : List ℕ) (a : Filled) (middle : List ℕ) (f : Fills (reading s) 
   unfolding checking
   find-tree {after} {n} {m} is {r} g = go (reading s) f
     where
-      go : (o : Outcome Reading) → Fills o a middle → Leaves (unlessRefused o λ d. judged (d .tree)) r after
+      go : (o : Outcome Reading) → Fills o a middle → Leaves (o >>= λ d. judged (d .tree)) r after
       go (accepted d) h = let z = h .0 in let l : length (d .stream) ≡ n = cc in g .says d (h .1) l
       go (refused k p) h = let z = h in apart (cc)
 
@@ -207,22 +177,22 @@ module _ (s : List ℕ) (a : Filled) (middle : List ℕ) (f : Fills (reading s) 
       go (refused k p) h = let z = h in apart (cc)
 
   -- what is told of it
-  pub answer-refused : {n q : ℕ} → a ≡ notRead n q → {x : CheckAnswer} → Told (unfit n q) (answerOf x) → CheckMeets (checking s) (answerOf x)
+  pub answer-refused : {n q : ℕ} → a ≡ notRead n q → {x : CheckAnswer} → Told (unfit n q) (answerOf x) → answerOf x ≡ checkAnswer (checking s)
   answer-refused is t = t .says (checking s) [] (find-refused [] is)
 
-  pub answer-tree : {after : List ℕ} {n m : ℕ} → a ≡ Tree n m → {r : Found} → TreeJudged n middle r after → {x : CheckAnswer} → Told r (answerOf x) → CheckMeets (checking s) (answerOf x)
+  pub answer-tree : {after : List ℕ} {n m : ℕ} → a ≡ Tree n m → {r : Found} → TreeJudged n middle r after → {x : CheckAnswer} → Told r (answerOf x) → answerOf x ≡ checkAnswer (checking s)
   answer-tree {after} is g t = t .says (checking s) after (find-tree is g)
 
 -- THE OPERATION
 
 module _ (s table : List ℕ) where
   pub check-short : {r : CheckAnswer} → length table < 16384 → r .number ≡ 1 → r .position ≡ 0 → r .classes ≡ 0 → Checks s table (answerOf r) table
-  unfolding CheckAnswers tableAfter
+  unfolding check tableAfter
   check-short h e₁ e₂ e₃ = record { answer = rw (lt-ltb (length table) tableLeast h, e₁, e₂, e₃); table = rw (lt-ltb (length table) tableLeast h) }
 
   pub check-done : (r : CheckAnswer) (middle : List ℕ) {after : List ℕ} → 16384 ≤ length table → length middle ≡ length table → after ≡ replicate (length middle) 0
-      → CheckMeets (checking s) (answerOf r) → Checks s table (answerOf r) after
-  unfolding CheckAnswers tableAfter
+      → answerOf r ≡ checkAnswer (checking s) → Checks s table (answerOf r) after
+  unfolding check tableAfter
   check-done r middle long same zero m =
       record { answer = rw (le-ltb (length table) tableLeast long) m; table = rw (le-ltb (length table) tableLeast long) (zero ∙ ap (λ (k : ℕ). replicate k 0) same) }
 
@@ -231,19 +201,13 @@ module _ (s table : List ℕ) where
 pub told-found : {f : Found} {n k : ℕ} → f ≡ found n k → {r : CheckAnswer} → r .number ≡ 0 → r .position ≡ 0 → r .classes ≡ k → Told f (answerOf r)
 told-found {f} {n} {k} is {r} e₁ e₂ e₃ = record { says = go }
   where
-    go : (w : Verdict) (tab : List ℕ) → Leaves w f tab → CheckMeets w (answerOf r)
-    go (accept p) tab h = let z = h .answer in let c : length (p .classes) ≡ k = cc in rw (e₁, e₂, e₃, c)
-    go (refuse m q) tab h = let z = h in apart (cc)
-    go (refuseEndless ps) tab h = let z = h .1 in apart (cc)
+    go : (w : Outcome Program) (tab : List ℕ) → Leaves w f tab → answerOf r ≡ checkAnswer w
+    go (accepted p) tab h = let z = h .answer in let c : length (p .classes) ≡ k = cc in rw (e₁, e₂, e₃, c)
+    go (refused m q) tab h = let z = h in apart (cc)
 
 pub told-unfit : {f : Found} {n q : ℕ} → f ≡ unfit n q → {r : CheckAnswer} → r .number ≡ n → r .position ≡ q → r .classes ≡ 0 → Told f (answerOf r)
 told-unfit {f} {n} {q} is {r} e₁ e₂ e₃ = record { says = go }
   where
-    go : (w : Verdict) (tab : List ℕ) → Leaves w f tab → CheckMeets w (answerOf r)
-    go (accept p) tab h = let z = h .answer in apart (cc)
-    go (refuse m p) tab h = let z = h in let a : n ≡ m = cc in let b : q ≡ p = cc in ((e₁ ∙ a, e₂ ∙ b), e₃)
-    go (refuseEndless ps) tab h =
-        let z = h .1 in
-        let a : n ≡ chainEndless = cc in
-        let b : h .0 ≡ q = cc in
-        ((e₁ ∙ a, subst (λ (i : ℕ). List·Memᴰ i ps) (b ∙ sym e₂) (h .2)), e₃)
+    go : (w : Outcome Program) (tab : List ℕ) → Leaves w f tab → answerOf r ≡ checkAnswer w
+    go (accepted p) tab h = let z = h .answer in apart (cc)
+    go (refused m p) tab h = let z = h in let a : n ≡ m = cc in let b : q ≡ p = cc in rw (e₁, e₂, e₃, a, b)

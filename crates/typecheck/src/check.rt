@@ -14,7 +14,7 @@ use reader::read::fill;
 ghost use Prim.Native.Nat.{_≤_, _<_};
 ghost use lib.ListN.{length};
 ghost use Rattle.reader.specs.WalkPost.{Walkable};
-ghost use Rattle.checker.specs.Check.{checking, CheckMeets, Checks};
+ghost use Rattle.checker.specs.Check.{checking, checkAnswer, Checks};
 ghost use Rattle.typecheck.specs.CheckPost.{ContentsJudged, ChainedJudged, IndexedJudged, TreeJudged, Leaves, Told, answerOf};
 
 // The tokens and the classes of an accepted source; or a refusal and its position.
@@ -123,7 +123,7 @@ fn told(f: Found) -> CheckAnswer
 // What Check answers, with the table left filled. It calls `tree` itself, as `find` does: the compiler leaves a function that is called in two places as it is, so the arrays of `tree` do not lie below the parser's calls.
 fn answer(source: &[u8], table: &mut [u32]) -> CheckAnswer
     requires { ⌜ 16384 ≤ length (now table) ⌝ }
-    ensures { λ r. ⌜ CheckMeets (checking (now (source .entry))) (answerOf r) ⌝ }
+    ensures { λ r. ⌜ answerOf r ≡ checkAnswer (checking (now (source .entry))) ⌝ }
 {
     let f = fill(source, table);
     match f {

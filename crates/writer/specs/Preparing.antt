@@ -3,11 +3,11 @@ use Prim.Native.Nat.{ℕ, suc, _≤_}
 use mathlib.Core.Path.{_≡_}
 use mathlib.Core.List.{List}
 use lib.ListN.{length}
+use Rattle.base.specs.Outcome.{accepted}
 use Rattle.lexer.specs.Tokens.{Token}
 use Rattle.lexer.specs.Rows.{firstNamed}
 use Rattle.parser.specs.Tree.{Program}
 use Rattle.parser.specs.Grammar.{DerivesProgram}
-use Rattle.checker.specs.Check.{accept}
 use Rattle.lookup.specs.Standing.{World}
 use Rattle.typecheck.specs.declared.check.Found.{Found}
 use Rattle.typecheck.specs.declared.check.Found.the-variants.{Program as found}
@@ -27,4 +27,4 @@ pub record Accepted (p : Program) (r : Found) (tab code code′ entries entries�
 
 -- what is written of the program that Check left in the table
 pub record Prepares (n k : ℕ) (tab code code′ entries entries′ : List ℕ) : Type 0 where
-  pub says : (p : Program) → Leaves (accept p) (found n k) tab → Accepted p (found n k) tab code code′ entries entries′
+  pub says : (p : Program) → Leaves (accepted p) (found n k) tab → Accepted p (found n k) tab code code′ entries entries′
