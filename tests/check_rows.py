@@ -1,5 +1,5 @@
 """Cases of check and menu, worked out by hand from documents 01 and 02. A refused lesson is marked where it is refused (see lessons.py); no answer comes from the program."""
-from lessons import EMPTY, ONE, class_of, fits, main_with, method, names, places, positions, program, unmarked
+from lessons import EMPTY, ONE, class_of, fits, main_with, menu_order, method, names, places, program, unmarked
 
 TABLE = 16384
 
@@ -498,19 +498,39 @@ def table_rows():
 
 def with_positions(lesson, answer):
     """Menu's answer where Check's is this one and the strip is long enough."""
-    written = positions(lesson) if answer.startswith("0 ") else []
+    written = menu_order(lesson) if answer.startswith("0 ") else []
     return answer + "".join([" :"] + [" %d" % p for p in written] if written else [])
 
 
 def menu_row(lesson, strip, answer):
     """A case of menu; the strip is what may be wrong where Check accepts."""
-    if answer.startswith("0 ") and strip < len(positions(lesson)):
+    if answer.startswith("0 ") and strip < int(answer.split()[2]):
         return line("menu", lesson, TABLE, strip), "4 0 0"
     return line("menu", lesson, TABLE, strip), with_positions(lesson, answer)
 
 
+def families():
+    """The largest lessons of parents and children: forwards, backwards, each child before its parent; children of one class before it; a tree in a mixed order."""
+    parents, children = [class_of(n) for n in names("P", 202)], [class_of("Q" + n[1:], "", n) for n in names("P", 202)]
+    siblings = [class_of(n, "", "R") for n in names("A", 337)] + [class_of("R")]
+    tree = [class_of("T000")] + [class_of("T%03d" % k, "", "T%03d" % ((k - 1) // 2)) for k in range(1, 338)]
+    orders = [parents + children, (parents + children)[::-1], [c for pair in zip(children, parents) for c in pair], siblings, [tree[k * 131 % 338] for k in range(338)]]
+    return [EMPTY + "".join(o) for o in orders]
+
+
+# children before their parents, siblings, several roots, a grandchild before and after the sibling of its parent
+SMALL_FAMILIES = [
+    after("class B extends A{}class A{}class C{}"),
+    after("class C extends B{}class B extends A{}class A{}class D{}"),
+    after("class B extends A{}class C extends A{}class A{}"),
+    after("class A extends R{}class B extends R{}class X extends A{}class R{}"),
+    after("class X extends A{}class A extends R{}class B extends R{}class R{}"),
+    after("class R{}class A extends R{}class B extends R{}class X extends A{}"),
+    after("class B extends A{}class C{}class D extends C{}class A{}class E extends B{}"),
+]
+
+
 def menu_rows():
-    """Document 01 leaves the order of the positions open; the engine lists the classes as they stand in the lesson, and `menu`'s cases here hold it to that."""
     rows = []
     for count in range(7):
         lesson = ONE + " ".join(class_of(n) for n in names("Name", count))
@@ -519,6 +539,8 @@ def menu_rows():
     rows += [menu_row(chain(is_reversed), strip, "0 0 333") for is_reversed in (False, True) for strip in (332, 333, 334)]
     rows += [menu_row(after(class_of("n" * 254 + "b"), class_of("n" * 254 + "c")), strip, "0 0 2") for strip in (1, 2, 3)]
     rows += [menu_row(lesson, 8, "0 0 %d" % count) for lesson, count in accepted()]
+    rows += [menu_row(lesson, len(menu_order(lesson)) + more, "0 0 %d" % len(menu_order(lesson))) for lesson in SMALL_FAMILIES for more in (-1, 0, 2)]
+    rows += [menu_row(lesson, 2048, "0 0 %d" % len(menu_order(lesson))) for lesson in families()]
     for k, (number, lesson) in enumerate(refused_rows()):
         if k % 5 == 0:
             rows.append(menu_row(unmarked(lesson), k % 4, refusal(number, lesson)))

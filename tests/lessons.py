@@ -56,9 +56,17 @@ def names(prefix, count):
     return ["%s%03d" % (prefix, k) for k in range(count)]
 
 
-def positions(lesson):
-    """Where the names of the classes other than main stand, in the order of the lesson."""
-    return [m.start(1) for m in re.finditer(r"\bclass ([A-Za-z0-9_]+)", lesson)][1:]
+def menu_order(lesson):
+    """Where the names of the classes other than main stand, in the order of document 02, (ii): again and again, the first class left whose parent is written or absent."""
+    left = [(m.group(1), m.group(2), m.start(1)) for m in re.finditer(r"\bclass ([A-Za-z0-9_]+)(?:\s+extends\s+([A-Za-z0-9_]+))?", lesson)][1:]
+    written = {None}
+    listed = []
+    while left:
+        name, _, position = chosen = next(c for c in left if c[1] in written)
+        left.remove(chosen)
+        written.add(name)
+        listed.append(position)
+    return listed
 
 
 def as_printed(answer):

@@ -5,6 +5,5 @@ pub mod VariableLaws
 pub mod HeadLaws
 pub mod ClassLaws
 pub mod HeightLaws
-pub mod Counts
 pub mod Placing
 pub mod IndexLaws

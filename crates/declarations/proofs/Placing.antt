@@ -17,7 +17,7 @@ use Rattle.reader.specs.Holds.{HoldsVariables, HoldsMethod, HoldsMethods, Holds
 use Rattle.reader.specs.Matches.{VariablesMatch, MethodMatches, MethodsMatch, ClassMatches, ClassesMatch}
 use Rattle.lookup.specs.Standing.{VariablesStand, MethodStands, MethodsStand, ClassStands, ClassesStand}
 use Rattle.lookup.specs.Standing as Standing
-use Rattle.declarations.proofs.Counts.{head-count, variables-count, formals-count, methods-count, classes-count}
+use Rattle.declarations.specs.Counts.{head-count, variables-count, formals-count, methods-count, classes-count}
 
 variables-stand : {tab : List ℕ} {ts : List Token} (vs : List Variable) → VariablesMatch ts vs → HoldsVariables tab vs → VariablesStand tab ts vs
 unfolding VariablesMatch HoldsVariables

@@ -4,3 +4,4 @@ pub mod Earlier
 pub mod Judgements
 pub mod Climbs
 pub mod Indexing
+pub mod Counts

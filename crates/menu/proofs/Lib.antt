@@ -1,2 +1,4 @@
--- Laws that the proofs of Menu's functions cite, one for each return.
+-- Laws that the proofs of the functions of Menu cite, one for each return.
+pub mod LeastLaws
+pub mod OrderLaws
 pub mod MenuLaws

@@ -1,3 +1,5 @@
--- The operation Menu as a definition, and what its functions ensure.
+-- The operation Menu as a definition, theorems on its order, and what its functions ensure.
 pub mod Menu
+pub mod Order
+pub mod Least
 pub mod MenuPost

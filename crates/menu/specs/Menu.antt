@@ -1,39 +1,58 @@
--- Document 01, "What each operation refuses", Menu: the whole operation as a definition. The order of the positions is left open.
-use Rattle.base.specs.Choice.{if_then_else_}
-use Prim.Native.Nat.{ℕ}
+-- Document 01, "What each operation refuses", Menu, in the order of document 02, (ii): the whole operation as a definition.
+use Prim.Native.Nat.{ℕ, zero, suc}
 use mathlib.Core.Path.{_≡_}
-use mathlib.Core.List.{List, _++_, map, List·Permᴰ}
+use mathlib.Core.List.{List, [], _∷_, _++_, map}
+use mathlib.Core.Bool.{Bool, true, _&&_, not}
+use mathlib.Core.Option.{Option, none, some}
 use lib.ListN.{length, drop}
 use lib.Dec.{ltb}
+use Rattle.base.specs.Choice.{if_then_else_, option}
 use Rattle.base.specs.Outcome.{Outcome, accepted, refused}
 use Rattle.base.specs.Codes.{tableTooShort, tableLeast, stripTooShort}
 use Rattle.parser.specs.Tree.{Class, Program}
 use Rattle.parser.specs.Read.{tableAfter}
+use Rattle.checker.specs.ClassTable.{among}
 use Rattle.checker.specs.Check.{CheckAnswer, refusal, checkAnswer, checking}
 
--- the positions of the names of the classes in the table
+-- THE ORDER: again and again, the unwritten class earliest in the lesson whose parent is already written or absent
+
+unfoldable pub mayStand : (written : List Class) → Class → Bool
+mayStand written k = not (among (k .name .text) written) && option (k .parent) true λ p. among (p .text) written
+
+unfoldable pub earliest : (written : List Class) → List Class → Option Class
+earliest written [] = none
+earliest written (k ∷ ks) = if mayStand written k then (λ _. some k) else λ _. earliest written ks
+
+-- what is written after `written`, at most so many classes
+unfoldable pub writing : (most : ℕ) → List Class → (written : List Class) → List Class
+writing zero G written = []
+writing (suc n) G written = option (earliest written G) [] λ k. k ∷ writing n G (written ++ k ∷ [])
+
+unfoldable pub menuOrder : List Class → List Class
+menuOrder G = writing (length G) G []
+
+-- THE OPERATION
+
+-- the positions of the names of classes
 unfoldable pub positions : List Class → List ℕ
-positions G = map (λ k. k .name .start) G
+positions ks = map (λ k. k .name .start) ks
 
--- each position exactly one time, then the rest of the strip
-pub record Written (G : List Class) (before after : List ℕ) : Type 0 where
-  pub written : List ℕ
-  pub each : List·Permᴰ written (positions G)
-  pub strip : after ≡ written ++ drop (length G) before
+-- Menu's answer and the strip afterwards
+pub record Listing : Type 0 where
+  pub answer : CheckAnswer
+  pub strip : List ℕ
 
--- the answers and strips that are right for what Check finds
-abbrev pub MenuMeets : Outcome Program → (before : List ℕ) → CheckAnswer → (after : List ℕ) → Type 0
-MenuMeets (accepted p) before a after =
-    if ltb (length before) (length (p .classes)) then (λ _. (a ≡ refusal stripTooShort 0) × (after ≡ before)) else λ _.
-    (a ≡ checkAnswer (accepted p)) × Written (p .classes) before after
-MenuMeets (refused n p) before a after = (a ≡ refusal n p) × (after ≡ before)
+abbrev pub listing : Outcome Program → (before : List ℕ) → Listing
+listing (accepted p) before =
+    if ltb (length before) (length (p .classes)) then (λ _. record { answer = refusal stripTooShort 0; strip = before }) else λ _.
+    record { answer = checkAnswer (accepted p); strip = positions (menuOrder (p .classes)) ++ drop (length (p .classes)) before }
+listing (refused n p) before = record { answer = refusal n p; strip = before }
 
--- the answers and strips that are right for a source, the length of a work table and what the strip held before
-unfoldable pub MenuAnswers : List ℕ → (table : ℕ) → (before : List ℕ) → CheckAnswer → (after : List ℕ) → Type 0
-MenuAnswers s table before a after =
-    if ltb table tableLeast then (λ _. (a ≡ refusal tableTooShort 0) × (after ≡ before)) else λ _. MenuMeets (checking s) before a after
+unfoldable pub menu : List ℕ → (table : ℕ) → (before : List ℕ) → Listing
+menu s table before =
+    if ltb table tableLeast then (λ _. record { answer = refusal tableTooShort 0; strip = before }) else λ _. listing (checking s) before
 
--- the same with the work table
+-- the answer, the work table and the strip that are right for a source and what the work table and the strip held before
 pub record Menus (s table before : List ℕ) (a : CheckAnswer) (tableExit after : List ℕ) : Type 0 where
-  pub answer : MenuAnswers s (length table) before a after
+  pub answer : record { answer = a; strip = after } ≡ menu s (length table) before
   pub cleared : tableExit ≡ tableAfter table

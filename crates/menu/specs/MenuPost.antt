@@ -1,30 +1,116 @@
--- What the functions of Menu ensure: the positions of the classes, in the order of the table, lead the strip.
-use Prim.Native.Nat.{ℕ, _+_, _<_}
+-- What the functions of Menu ensure: the positions of the classes lead the strip, in the order of the definition. The classes that may stand
+-- are kept as a set of rows; the children of a class are a list of rows that lead to one another.
+use Prim.Native.Nat.{ℕ, _+_, _≤_, _<_}
 use mathlib.Core.Path.{_≡_}
 use mathlib.Core.List.{List, [], _∷_}
-use lib.ListN.{length, set}
+use mathlib.Core.Bool.{Bool, true, false, _&&_, _||_}
+use lib.ListN.{length, getD, set}
+use lib.Dec.{eqb}
+use Rattle.base.specs.Bytes.{same}
+use Rattle.base.specs.Choice.{if_then_else_, option}
+use Rattle.base.specs.Lists.{All}
 use Rattle.base.specs.Outcome.{accepted}
-use Rattle.base.specs.Table.{col}
 use Rattle.lexer.specs.Tokens.{Token}
-use Rattle.parser.specs.Tree.{Program}
-use Rattle.checker.specs.Check.{CheckAnswer}
-use Rattle.lookup.specs.Standing.{absent}
+use Rattle.parser.specs.Tree.{Class, Program}
+use Rattle.parser.specs.Grammar.{DerivesProgram}
+use Rattle.checker.specs.ClassTable.{among}
+use Rattle.checker.specs.Typing.{ProgramTyped, className}
+use Rattle.lookup.specs.Standing.{absent, World}
+use Rattle.declarations.specs.Judgements.{ClassesAt, Own}
 use Rattle.declarations.specs.Indexing.{Ready}
-use Rattle.menu.specs.Menu.{MenuMeets}
+use Rattle.typecheck.specs.declared.check.CheckAnswer.{CheckAnswer}
+use Rattle.typecheck.specs.CheckPost.{answerOf}
+use Rattle.menu.specs.Menu.{mayStand, writing, positions, Listing, listing}
+use Rattle.menu.specs.Least.{Keeps}
 
--- the members of a list, from a row on, stand at these positions; more may follow
-pub data Places (tab : List ℕ) : ℕ → List ℕ → Type 0 where
-  no-places : {row : ℕ} → Places tab row []
-  more-places : {row p after : ℕ} {ps : List ℕ} → row < absent → col tab 1 row ≡ p → col tab 6 row ≡ after → Places tab after ps → Places tab row (p ∷ ps)
+abbrev pub rowOf : Class → ℕ
+rowOf k = k .name .row
+
+-- THE SET
+
+-- the rows of the classes of a list that may stand
+unfoldable pub standing : (written : List Class) → List Class → ℕ → Bool
+standing w [] row = false
+standing w (k ∷ ks) row = (eqb (rowOf k) row && mayStand w k) || standing w ks row
+
+-- rows rise along a list of classes
+pub data Rising : List Class → Type 0 where
+  rising-none : Rising []
+  rising-more : {k : Class} {ks : List Class} → All (λ (j : Class). rowOf k < rowOf j) ks → Rising ks → Rising (k ∷ ks)
+
+-- the class table that the work table holds
+pub record Tabled (tab : List ℕ) (n : ℕ) (ts : List Token) (G : List Class) : Type 0 where
+  pub world : World tab n ts G
+  pub own : Own G G
+  pub rising : Rising G
+
+-- CHILDREN
+
+abbrev pub isChild : List ℕ → Class → Bool
+isChild c k = option (k .parent) false λ p. same c (p .text)
+
+-- the rows of the classes of a list that extend the one named c
+unfoldable pub childRows : List ℕ → List Class → List ℕ
+childRows c [] = []
+childRows c (k ∷ ks) = if isChild c k then (λ _. rowOf k ∷ childRows c ks) else λ _. childRows c ks
+
+-- these rows lead to one another
+pub data Linked (next : List ℕ) : ℕ → List ℕ → Type 0 where
+  linked-end : {row : ℕ} → absent ≤ row → Linked next row []
+  linked-more : {row after : ℕ} {rows : List ℕ} → row < absent → getD next row 0 ≡ after → Linked next after rows
+      → Linked next row (row ∷ rows)
+
+-- of each class of a table, the children among ks
+abbrev pub Listed : (first next : List ℕ) (G ks : List Class) → Type 0
+Listed first next G ks = All (λ (q : Class). Linked next (getD first (rowOf q) 0) (childRows (className q) ks)) G
+
+-- a row joins the list of a parent, before the others
+pub record Joined (parent row : ℕ) (first next first′ next′ : List ℕ) : Type 0 where
+  pub is-parent : parent < length first
+  pub is-row : row < length next
+  pub head : first′ ≡ set first parent row
+  pub link : next′ ≡ set next row (getD first parent 0)
+
+-- no class has a child yet, and none may stand
+pub record Empty (tree first : List ℕ) : Type 0 where
+  pub none-kept : Keeps tree (λ row. false)
+  pub none-listed : (row : ℕ) → row < absent → getD first row 0 ≡ absent
+
+pub record Gathered (tab : List ℕ) (left row : ℕ) (tree₀ first₀ tree first next : List ℕ) : Type 0 where
+  pub says : Empty tree₀ first₀ → (n : ℕ) (ts : List Token) (G : List Class) → Tabled tab n ts G
+      → (ks : List Class) → ClassesAt tab n ts ks left row → Rising ks → Keeps tree (standing [] ks) × Listed first next G ks
+
+-- a row stands in a list
+unfoldable pub elem : ℕ → List ℕ → Bool
+elem row [] = false
+elem row (r ∷ rs) = eqb r row || elem row rs
+
+pub record Freed (next : List ℕ) (left row : ℕ) (before after : List ℕ) : Type 0 where
+  pub says : (rows : List ℕ) → Linked next row rows → length rows ≤ left → (S : ℕ → Bool) → Keeps before S
+      → Keeps after (λ r. elem r rows || S r)
+
+-- THE STRIP
 
 -- a list with others written into it, from place i on
 unfoldable pub overwritten : ℕ → List ℕ → List ℕ → List ℕ
 overwritten i [] l = l
 overwritten i (p ∷ ps) l = overwritten (i + 1) ps (set l i p)
 
-pub record Lists (tab : List ℕ) (i left row : ℕ) (before after : List ℕ) : Type 0 where
-  pub says : (ps : List ℕ) → Places tab row ps → length ps ≡ left → after ≡ overwritten i ps before
+-- the parent of a written class is written
+abbrev pub Closed : (written G : List Class) → Type 0
+Closed w G = All (λ (j : Class). among (className j) w ≡ true → (option (j .parent) true λ p. among (p .text) w) ≡ true) G
 
--- the answer and the strip for an accepted program
-pub record Fills (tab : List ℕ) (classes : ℕ) (before : List ℕ) (a : CheckAnswer) (after : List ℕ) : Type 0 where
-  pub says : (n : ℕ) (ts : List Token) (p : Program) → Ready tab n ts p → length (p .classes) ≡ classes → MenuMeets (accepted p) before a after
+-- r is how many of the `left` places no class may take
+pub record Written (tab tree first next : List ℕ) (i left : ℕ) (before after : List ℕ) (r : ℕ) : Type 0 where
+  pub says : (n : ℕ) (ts : List Token) (G : List Class) → Tabled tab n ts G → Listed first next G G
+      → (w : List Class) → Closed w G → Keeps tree (standing w G)
+      → (after ≡ overwritten i (positions (writing left G w)) before) × (r + length (writing left G w) ≡ left)
+
+-- the code's answer, and the strip
+abbrev pub listed : CheckAnswer → List ℕ → Listing
+listed a strip = record { answer = answerOf a; strip = strip }
+
+-- these for an accepted program
+pub record Fills (tab : List ℕ) (classes : ℕ) (before : List ℕ) (l : Listing) : Type 0 where
+  pub says : (n : ℕ) (ts : List Token) (p : Program) → Ready tab n ts p → DerivesProgram ts p → ProgramTyped p
+      → length (p .classes) ≡ classes → l ≡ listing (accepted p) before

@@ -1,2 +1,4 @@
 // The operation Menu.
+pub mod least;
 pub mod menu;
+pub mod order;

@@ -1,41 +1,23 @@
 // The operation Menu of document 01: the positions of the names of a lesson's classes.
+use crate::order::gather;
+use crate::order::write;
 use base::fill::zero_words;
 use lookup::rows::word;
 use typecheck::check::CheckAnswer;
 use typecheck::check::Found;
 use typecheck::check::find;
 ghost use mathlib.Core.Path.{_≡_};
-ghost use Prim.Native.Nat.{_≤_, _<_, _+_};
-ghost use lib.ListN.{length, set};
+ghost use Prim.Native.Nat.{_≤_};
+ghost use lib.ListN.{length};
 ghost use Rattle.typecheck.specs.CheckPost.{answerOf};
 ghost use Rattle.checker.specs.Check.{checking};
-ghost use Rattle.menu.specs.Menu.{MenuMeets, Menus};
-ghost use Rattle.menu.specs.MenuPost.{Lists, Fills};
-
-// Writes a word of the strip.
-fn put(strip: &mut [u32], i: usize, v: usize)
-    requires { ⌜ (i < length (now strip)) × (v < 4294967296) ⌝ }
-    ensures { λ _. ⌜ now (strip .exit) ≡ set (now (strip .entry)) i v ⌝ }
-{
-    strip[i] = v as u32;
-}
-
-// Writes the positions of the names of `left` classes from a row on into the strip, from place i on.
-fn list(table: &[u32], strip: &mut [u32], i: usize, left: usize, row: usize)
-    requires { ⌜ (16384 ≤ length (now table)) × (i + left ≤ length (now strip)) ⌝ }
-    ensures { λ _. ⌜ Lists (now (table .entry)) i left row (now (strip .entry)) (now (strip .exit)) ⌝ }
-{
-    if left == 0 {
-        return;
-    }
-    put(strip, i, word(table, 1, row));
-    list(table, strip, i + 1, left - 1, word(table, 6, row));
-}
+ghost use Rattle.menu.specs.Menu.{listing, Menus};
+ghost use Rattle.menu.specs.MenuPost.{listed, Fills};
 
 // Fills the strip, where it is long enough.
 fn fill(table: &[u32], strip: &mut [u32], classes: usize) -> CheckAnswer
     requires { ⌜ 16384 ≤ length (now table) ⌝ }
-    ensures { λ r. ⌜ Fills (now (table .entry)) classes (now (strip .entry)) (answerOf r) (now (strip .exit)) ⌝ }
+    ensures { λ r. ⌜ Fills (now (table .entry)) classes (now (strip .entry)) (listed r (now (strip .exit))) ⌝ }
 {
     if strip.len() < classes {
         return CheckAnswer {
@@ -44,7 +26,27 @@ fn fill(table: &[u32], strip: &mut [u32], classes: usize) -> CheckAnswer
             classes: 0,
         };
     }
-    list(table, strip, 0, classes, word(table, 6, 0));
+    // No row is in the set, and no class has a child.
+    let mut tree = [2048u32; 4096];
+    let mut first = [2048u32; 2048];
+    let mut next = [2048u32; 2048];
+    gather(
+        table,
+        &mut tree,
+        &mut first,
+        &mut next,
+        classes,
+        word(table, 6, 0),
+    );
+    let unwritten = write(table, &mut tree, &first, &next, strip, 0, classes);
+    // Never: where each chain ends, each class is written.
+    if unwritten != 0 {
+        return CheckAnswer {
+            number: 22,
+            position: 0,
+            classes: 0,
+        };
+    }
     CheckAnswer {
         number: 0,
         position: 0,
@@ -55,7 +57,7 @@ fn fill(table: &[u32], strip: &mut [u32], classes: usize) -> CheckAnswer
 // What Menu answers, and the strip; the table is left filled.
 fn answer(source: &[u8], table: &mut [u32], strip: &mut [u32]) -> CheckAnswer
     requires { ⌜ 16384 ≤ length (now table) ⌝ }
-    ensures { λ r. ⌜ MenuMeets (checking (now (source .entry))) (now (strip .entry)) (answerOf r) (now (strip .exit)) ⌝ }
+    ensures { λ r. ⌜ listed r (now (strip .exit)) ≡ listing (checking (now (source .entry))) (now (strip .entry)) ⌝ }
 {
     let f = find(source, table);
     match f {

@@ -1,5 +1,5 @@
--- Document 02, (iii): refusal 22 stands at the first class in the lesson whose chain never ends. The ends are worked out by hand; " class A extends B{}" is 20
--- bytes long, and the first class's name stands at 75.
+-- Document 02, (iii): refusal 22 stands at the first class in the lesson whose chain never ends. The ends are worked out by hand;
+-- " class A extends B{}" is 20 bytes long, and the first class's name stands at 75.
 use mathlib.Core.Path.{_≡_, refl}
 use mathlib.Core.List.{List, [], _∷_}
 use lib.IntN.{pos}

@@ -3,4 +3,5 @@ pub mod Ends
 pub mod Starred
 pub mod Further
 pub mod Endless
+pub mod MenuRows
 pub mod Worthless

@@ -1,0 +1,55 @@
+// A set of rows with its least at hand: a tree of 4,096 words, in which each node has the lesser of the two words below it. Node 1 is the top, node v stands
+// over 2 * v and 2 * v + 1, and leaf 2048 + r has the row r where that is in the set, else ABSENT.
+use lookup::rows::ABSENT;
+use members::trie::cell;
+ghost use mathlib.Core.Path.{_≡_};
+ghost use Prim.Native.Nat.{_<_, min};
+ghost use lib.ListN.{length, set};
+ghost use Rattle.menu.specs.Least.{Mended, Entered, Removed};
+
+// Writes a word.
+pub fn put(words: &mut [u32], i: usize, v: usize)
+    requires { ⌜ (i < length (now words)) × (v < 4294967296) ⌝ }
+    ensures { λ _. ⌜ now (words .exit) ≡ set (now (words .entry)) i v ⌝ }
+{
+    words[i] = v as u32;
+}
+
+fn lesser(a: usize, b: usize) -> usize
+    ensures { λ r. ⌜ r ≡ min a b ⌝ }
+{
+    if a < b {
+        return a;
+    }
+    b
+}
+
+// Sets node v and those above it anew.
+fn mend(tree: &mut [u32], v: usize)
+    requires { ⌜ (length (now tree) ≡ 4096) × (v < 2048) ⌝ }
+    ensures { λ _. ⌜ Mended v (now (tree .entry)) (now (tree .exit)) ⌝ }
+{
+    if v == 0 {
+        return;
+    }
+    put(tree, v, lesser(cell(tree, 2 * v), cell(tree, 2 * v + 1)));
+    mend(tree, v / 2);
+}
+
+// Puts a row into the set.
+pub fn enter(tree: &mut [u32], row: usize)
+    requires { ⌜ (length (now tree) ≡ 4096) × (row < 2048) ⌝ }
+    ensures { λ _. ⌜ Entered row (now (tree .entry)) (now (tree .exit)) ⌝ }
+{
+    put(tree, ABSENT + row, row);
+    mend(tree, 1024 + row / 2);
+}
+
+// Takes a row out of it.
+pub fn remove(tree: &mut [u32], row: usize)
+    requires { ⌜ (length (now tree) ≡ 4096) × (row < 2048) ⌝ }
+    ensures { λ _. ⌜ Removed row (now (tree .entry)) (now (tree .exit)) ⌝ }
+{
+    put(tree, ABSENT + row, ABSENT);
+    mend(tree, 1024 + row / 2);
+}
