@@ -168,7 +168,7 @@ extra (perform ss e) = max (below ss) (1 + below e)
 extra leave = 0
 
 -- the open calls once a task is done, of n at its beginning: a body ends with its call
-abbrev calls : Task → ℕ → ℕ
+abbrev pub calls : Task → ℕ → ℕ
 calls (evaluate e) n = n
 calls (execute s) n = n
 calls (operand o r) n = n

@@ -11,6 +11,7 @@ use lookup::rows::word;
 use members::grow::build;
 use reader::read::Filled;
 use reader::read::fill;
+ghost use mathlib.Core.Path.{_≡_};
 ghost use Prim.Native.Nat.{_≤_, _<_};
 ghost use lib.ListN.{length};
 ghost use Rattle.reader.specs.WalkPost.{Walkable};
