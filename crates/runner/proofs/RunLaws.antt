@@ -1,6 +1,7 @@
 -- What the functions of Run return meets their contracts: Check's promise makes the lesson runnable, and the run reports what the machine does.
-use Prim.Native.Nat.{ℕ, _≤_, _<_}
+use Prim.Native.Nat.{ℕ, _+_, _*_, _/_, _≤_, _<_}
 use native.Mathlib.Omega.{arith}
+use native.Mathlib.Nat.{mul-le-mul}
 use mathlib.Core.Path.{_≡_, refl, ap, _∙_, subst}
 use mathlib.Core.List.{List}
 use lib.ListN.{length, drop, replicate, length-replicate}
@@ -18,16 +19,16 @@ use Rattle.typecheck.specs.declared.check.Found.{Found}
 use Rattle.typecheck.specs.declared.check.Found.the-variants.{Program as found, Refused as unfit}
 use Rattle.writer.specs.Preparing.{Accepted, Prepares}
 use Rattle.typecheck.specs.CheckPost.{Leaves}
-use Rattle.vm.specs.declared.calls.Sizes.{Sizes}
+use Rattle.driver.specs.declared.calls.Sizes.{Sizes}
 use Rattle.semantics.specs.Run.{Strips, refusal, RunMeets, Runs}
 use Rattle.semantics.specs.Run as Run
 use Rattle.guarantees.specs.Accepted.{allowed}
 use Rattle.guarantees.specs.Demand.{fits}
 use Rattle.interpreter.specs.declared.state.Bounds.{Bounds}
 use Rattle.interpreter.specs.declared.report.Ended.{Ended}
-use Rattle.interpreter.specs.Running.{Runnable, Executed}
+use Rattle.interpreter.specs.Running.{Runnable, Roomy, Executed}
 use Rattle.runner.specs.declared.run.RunAnswer.{RunAnswer}
-use Rattle.runner.specs.RunPost.{strips, Completes, Performs, Known, Performed}
+use Rattle.runner.specs.RunPost.{strips, Completes, Compiled, Performs, Known, Performed}
 
 -- CHECK'S PROMISE
 
@@ -69,7 +70,7 @@ accepted-some s tab {tokens} {classes} {f} h q = by (checking s) h
 
 -- an accepted lesson can be run
 runnable : (s : List ℕ) (p : Program) (tokens classes : ℕ) (tab code code′ entries entries′ : List ℕ) → checking s ≡ accepted p → Accepted p (found tokens classes) tab code code′ entries entries′
-    → 32768 ≤ length code → 2048 ≤ length entries → Runnable tab code′ entries′ (record { tokens = tokens; classes = classes }) p
+    → 16 * tokens ≤ length code → 2048 ≤ length entries → Runnable tab code′ entries′ (record { tokens = tokens; classes = classes }) p
 runnable s p tokens classes tab code code′ entries entries′ e a long many =
     let z = a .answer in
     let t : tokens ≡ length (a .stream) = cc in
@@ -90,19 +91,39 @@ runnable s p tokens classes tab code code′ entries entries′ e a long many =
 
 -- WHAT IS PERFORMED
 
-pub completed : (tab : List ℕ) (sz : Sizes) (b : Bounds) (heap output : List ℤ) {code′ entries′ : List ℕ} {x : Ended} {output′ : List ℤ}
-    → Prepares (sz .tokens) (sz .classes) tab (replicate 32768 0) code′ (replicate 2048 0) entries′ → Executed tab code′ entries′ sz b heap output x output′
-    → Completes tab sz b heap output (record { number = x .number; position = x .position; steps = x .steps; words = x .words; printed = x .printed }) output′
-completed tab sz b heap output {code′} {entries′} {x} {output′} w E = record { says = λ s h. by s (checking s) refl h }
+pub completed : (tab code fast values : List ℕ) (sz : Sizes) (b : Bounds) (heap output : List ℤ) {code′ entries′ : List ℕ} {x : Ended} {output′ : List ℤ}
+    → Prepares (sz .tokens) (sz .classes) tab code code′ (replicate 2048 0) entries′ → Executed tab code′ entries′ fast values sz b heap output x output′
+    → Compiled tab code fast values sz b heap output (record { number = x .number; position = x .position; steps = x .steps; words = x .words; printed = x .printed }) output′
+completed tab code fast values sz b heap output {code′} {entries′} {x} {output′} w E = record { says = λ long roomy. record { says = λ s h. by long roomy s (checking s) refl h } }
   where
-    by : (s : List ℕ) (v : Outcome Program) → checking s ≡ v → Leaves v (found (sz .tokens) (sz .classes)) tab
+    by : 16 * sz .tokens ≤ length code → Roomy (sz .tokens) (b .calls) fast values → (s : List ℕ) (v : Outcome Program) → checking s ≡ v → Leaves v (found (sz .tokens) (sz .classes)) tab
         → Performs v b heap output (record { number = x .number; position = x .position; steps = x .steps; words = x .words; printed = x .printed }) output′
-    by s (accepted p) e h =
-        let long : length (replicate {A = ℕ} 32768 0) ≡ 32768 = length-replicate {A = ℕ} 32768 0 in
+    by long roomy s (accepted p) e h =
         let many : length (replicate {A = ℕ} 2048 0) ≡ 2048 = length-replicate {A = ℕ} 2048 0 in
-        let r = E .says p (runnable s p (sz .tokens) (sz .classes) tab (replicate 32768 0) code′ (replicate 2048 0) entries′ e (w .says p h) (omega (arith, long)) (omega (arith, many))) in
+        let r = E .says p (runnable s p (sz .tokens) (sz .classes) tab code code′ (replicate 2048 0) entries′ e (w .says p h) long (omega (arith, many))) roomy in
         (record { ending = r .ending; steps = r .steps; words = r .words; printed = r .printed }, r .strip)
-    by s (refused n i) e h = let z = h in apart (cc)
+    by long roomy s (refused n i) e h = let z = h in apart (cc)
+
+-- room for the values of so many tokens in main and 64 calls
+values-fit : (tokens calls k : ℕ) {n : ℕ} → (tokens + 1) / 2 ≤ k → calls ≤ 64 → 65 * k < n → (calls + 1) * ((tokens + 1) / 2) < n
+values-fit tokens calls k t c l = let m : (calls + 1) * ((tokens + 1) / 2) ≤ 65 * k = mul-le-mul (omega arith) t in omega (arith, m)
+
+-- the room of a small lesson, and of any
+pub small-fits : {tab : List ℕ} {sz : Sizes} {b : Bounds} {heap output output′ : List ℤ} {a : Run.RunAnswer} → sz .tokens ≤ 125 → b .calls ≤ 64
+    → Compiled tab (replicate 2048 0) (replicate 512 0) (replicate 4096 0) sz b heap output a output′ → Completes tab sz b heap output a output′
+small-fits {sz = sz} {b = b} t c X =
+    let l : length (replicate {A = ℕ} 2048 0) ≡ 2048 = length-replicate {A = ℕ} 2048 0 in
+    let m : length (replicate {A = ℕ} 512 0) ≡ 512 = length-replicate {A = ℕ} 512 0 in
+    let n : length (replicate {A = ℕ} 4096 0) ≡ 4096 = length-replicate {A = ℕ} 4096 0 in
+    X .says (omega (arith, l)) (record { places = omega (arith, m); enough = values-fit (sz .tokens) (b .calls) 63 (omega arith) c (omega (arith, n)) })
+
+pub wide-fits : {tab : List ℕ} {sz : Sizes} {b : Bounds} {heap output output′ : List ℤ} {a : Run.RunAnswer} → sz .tokens ≤ 2048 → b .calls ≤ 64
+    → Compiled tab (replicate 32768 0) (replicate 8192 0) (replicate 66561 0) sz b heap output a output′ → Completes tab sz b heap output a output′
+wide-fits {sz = sz} {b = b} t c X =
+    let l : length (replicate {A = ℕ} 32768 0) ≡ 32768 = length-replicate {A = ℕ} 32768 0 in
+    let m : length (replicate {A = ℕ} 8192 0) ≡ 8192 = length-replicate {A = ℕ} 8192 0 in
+    let n : length (replicate {A = ℕ} 66561 0) ≡ 66561 = length-replicate {A = ℕ} 66561 0 in
+    X .says (omega (arith, l)) (record { places = omega (arith, m); enough = values-fit (sz .tokens) (b .calls) 1024 (omega arith) c (omega (arith, n)) })
 
 pub performed : {s : List ℕ} {z : Sizes} {b : Bounds} {heap output : List ℤ} {tab table′ : List ℕ} {heap′ output′ : List ℤ} {a : Run.RunAnswer} → Known s z tab → 0 < z .tokens
     → Completes tab z b heap output a output′ → Performed s z b tab heap output a table′ heap′ output′

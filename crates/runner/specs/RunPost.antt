@@ -1,5 +1,5 @@
 -- What the functions of Run ensure.
-use Prim.Native.Nat.{ℕ, _<_}
+use Prim.Native.Nat.{ℕ, _*_, _≤_, _<_}
 use mathlib.Core.Path.{_≡_}
 use mathlib.Core.List.{List, _++_}
 use lib.ListN.{length, drop, replicate}
@@ -12,9 +12,9 @@ use Rattle.typecheck.specs.CheckPost.{Leaves}
 use Rattle.semantics.specs.Limits.{run}
 use Rattle.semantics.specs.Run.{Strips, refusal, Reports}
 use Rattle.semantics.specs.Run as Run
-use Rattle.vm.specs.declared.calls.Sizes.{Sizes}
+use Rattle.driver.specs.declared.calls.Sizes.{Sizes}
 use Rattle.interpreter.specs.declared.state.Bounds.{Bounds}
-use Rattle.interpreter.specs.Running.{limitsUnder}
+use Rattle.interpreter.specs.Running.{limitsUnder, Roomy}
 use Rattle.runner.specs.declared.run.RunAnswer.{RunAnswer}
 
 -- the code's answer as document 01 counts it
@@ -34,6 +34,10 @@ Performs (refused n p) b heap output a output′ = (a ≡ refusal n p) × (outpu
 -- an accepted lesson that Check left in the table is run
 pub record Completes (tab : List ℕ) (s : Sizes) (b : Bounds) (heap output : List ℤ) (a : Run.RunAnswer) (output′ : List ℤ) : Type 0 where
   pub says : (source : List ℕ) → Leaves (checking source) (found (s .tokens) (s .classes)) tab → Performs (checking source) b heap output a output′
+
+-- the same in this room for its code, its joined code and its values, where that is enough; an instruction is four words
+pub record Compiled (tab code fast values : List ℕ) (s : Sizes) (b : Bounds) (heap output : List ℤ) (a : Run.RunAnswer) (output′ : List ℤ) : Type 0 where
+  pub says : 16 * s .tokens ≤ length code → Roomy (s .tokens) (b .calls) fast values → Completes tab s b heap output a output′
 
 -- the accepted lesson of so many tokens that Check left in the table; of none nothing is known
 pub record Known (source : List ℕ) (s : Sizes) (tab : List ℕ) : Type 0 where

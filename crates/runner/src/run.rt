@@ -1,18 +1,18 @@
 // The operation Run of document 01: a lesson is checked, and an accepted one is run within its limits.
 use base::fill::zero_numbers;
 use base::fill::zero_words;
+use driver::calls::Sizes;
 use interpreter::execute::execute;
 use interpreter::state::Bounds;
 use typecheck::check::Found;
 use typecheck::check::find;
-use vm::calls::Sizes;
 use writer::prepare::prepare;
 ghost use Prim.Native.Nat.{_≤_, _<_};
 ghost use mathlib.Core.Path.{_≡_};
 ghost use lib.ListN.{length};
 ghost use Rattle.reader.specs.WalkPost.{Walkable};
 ghost use Rattle.semantics.specs.Run.{Runs, refusal};
-ghost use Rattle.runner.specs.RunPost.{answerOf, strips, Known, Completes, Performed};
+ghost use Rattle.runner.specs.RunPost.{answerOf, strips, Known, Compiled, Completes, Performed};
 
 // What Run answers: a result number and a position, the steps, the heap words and how many numbers were printed.
 pub struct RunAnswer {
@@ -36,15 +36,25 @@ fn refusal(number: u32, position: usize) -> RunAnswer
     }
 }
 
-// Writes the code of the accepted lesson that the table holds, and runs it.
-fn compiled(table: &[u32], s: Sizes, b: Bounds, heap: &mut [i32], output: &mut [i32]) -> RunAnswer
-    requires { ⌜ Walkable (now table) (s .tokens) × (s .classes ≤ 2048) × (length (now heap) ≤ 16384) × (b .budget < 4294967296) × (b .calls ≤ 64) ⌝ }
-    ensures { λ r. ⌜ Completes (now (table .entry)) s b (now (heap .entry)) (now (output .entry)) (answerOf r) (now (output .exit)) ⌝ }
+// Writes the code of the accepted lesson that the table holds, and runs it, in the room that is lent: four words for an instruction and four instructions for a token at most, a word
+// for each joined instruction, and the values of main and of each open call, of which a body keeps at most one for two tokens; one more may be pushed.
+fn compiled(
+    table: &[u32],
+    code: &mut [u32],
+    fast: &mut [u64],
+    values: &mut [u32],
+    s: Sizes,
+    b: Bounds,
+    heap: &mut [i32],
+    output: &mut [i32],
+) -> RunAnswer
+    requires { ⌜ Walkable (now table) (s .tokens) × (s .classes ≤ 2048) × (length (now heap) ≤ 16384) × (b .budget < 4294967296) × (b .calls ≤ 64)
+        × (length (now fast) ≤ 8192) × (length (now values) ≤ 200000) ⌝ }
+    ensures { λ r. ⌜ Compiled (now (table .entry)) (now (code .entry)) (now (fast .entry)) (now (values .entry)) s b (now (heap .entry)) (now (output .entry)) (answerOf r) (now (output .exit)) ⌝ }
 {
-    let mut code = [0u32; 32768];
     let mut entries = [0u32; 2048];
-    prepare(table, &mut code, &mut entries, s.tokens, s.classes);
-    let e = execute(table, &entries, &code, heap, output, s, b);
+    prepare(table, code, &mut entries, s.tokens, s.classes);
+    let e = execute(table, &entries, code, fast, values, heap, output, s, b);
     RunAnswer {
         number: e.number,
         position: e.position,
@@ -52,6 +62,42 @@ fn compiled(table: &[u32], s: Sizes, b: Bounds, heap: &mut [i32], output: &mut [
         words: e.words,
         printed: e.printed,
     }
+}
+
+// How many tokens a small lesson has at most.
+const SMALL: usize = 125;
+
+// A small lesson, in room that is enough for one: what is cleared for a run depends on the lesson.
+fn small(table: &[u32], s: Sizes, b: Bounds, heap: &mut [i32], output: &mut [i32]) -> RunAnswer
+    requires { ⌜ Walkable (now table) (s .tokens) × (s .classes ≤ 2048) × (length (now heap) ≤ 16384) × (b .budget < 4294967296) × (b .calls ≤ 64) × (s .tokens ≤ 125) ⌝ }
+    ensures { λ r. ⌜ Completes (now (table .entry)) s b (now (heap .entry)) (now (output .entry)) (answerOf r) (now (output .exit)) ⌝ }
+{
+    let mut code = [0u32; 2048];
+    let mut fast = [0u64; 512];
+    let mut values = [0u32; 4096];
+    compiled(table, &mut code, &mut fast, &mut values, s, b, heap, output)
+}
+
+// Any lesson.
+fn wide(table: &[u32], s: Sizes, b: Bounds, heap: &mut [i32], output: &mut [i32]) -> RunAnswer
+    requires { ⌜ Walkable (now table) (s .tokens) × (s .classes ≤ 2048) × (length (now heap) ≤ 16384) × (b .budget < 4294967296) × (b .calls ≤ 64) ⌝ }
+    ensures { λ r. ⌜ Completes (now (table .entry)) s b (now (heap .entry)) (now (output .entry)) (answerOf r) (now (output .exit)) ⌝ }
+{
+    let mut code = [0u32; 32768];
+    let mut fast = [0u64; 8192];
+    let mut values = [0u32; 66561];
+    compiled(table, &mut code, &mut fast, &mut values, s, b, heap, output)
+}
+
+// Runs the accepted lesson that the table holds.
+fn accepted(table: &[u32], s: Sizes, b: Bounds, heap: &mut [i32], output: &mut [i32]) -> RunAnswer
+    requires { ⌜ Walkable (now table) (s .tokens) × (s .classes ≤ 2048) × (length (now heap) ≤ 16384) × (b .budget < 4294967296) × (b .calls ≤ 64) ⌝ }
+    ensures { λ r. ⌜ Completes (now (table .entry)) s b (now (heap .entry)) (now (output .entry)) (answerOf r) (now (output .exit)) ⌝ }
+{
+    if s.tokens <= SMALL {
+        return small(table, s, b, heap, output);
+    }
+    wide(table, s, b, heap, output)
 }
 
 // Checks the lesson where no tokens are known of it, and then goes on with those of an accepted one: it is run. The call that checks clears the table and the heap strip.
@@ -70,7 +116,7 @@ fn perform(
         (now (table .exit)) (now (heap .exit)) (now (output .exit)) ⌝ }
 {
     if 0 < s.tokens {
-        return compiled(table, s, b, heap, output);
+        return accepted(table, s, b, heap, output);
     }
     let f = find(source, table);
     match f {

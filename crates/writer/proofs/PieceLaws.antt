@@ -1,10 +1,11 @@
 -- Pieces of code as the code writes them: one instruction, a piece behind another, and a piece behind a jump that is written last.
-use Prim.Native.Nat.{ℕ, suc, _≤_}
+use Prim.Native.Nat.{ℕ, suc, _+_, _*_, _≤_, _<_}
 use native.Mathlib.Omega.{arith}
-use mathlib.Core.Path.{_≡_, subst}
+use mathlib.Core.Path.{_≡_, refl, subst, _∙_}
 use mathlib.Core.List.{List, _∷_}
+use lib.ListN.{set}
 use Rattle.codegen.specs.Code.{Instruction}
-use Rattle.writer.specs.Words.{words, encode}
+use Rattle.writer.specs.Words.{words, encode, putAt}
 use Rattle.writer.specs.Emits.{behind, before, one}
 use Rattle.writer.specs.Posts.{room, PutPost, NextPost, Wrote}
 
@@ -26,3 +27,9 @@ pub over : (x : Instruction) (g : ℕ → Piece) (stop : ℕ → ℕ) {ν : List
 over x g stop {ν} {at} {n} {op} {a} {b} {d} {r} {j} {c} {c₁} {c₂} m v e p h l =
     let w : Wrote ν (g (suc at)) (stop (suc at)) (suc at) c c₁ j = subst (λ (i : ℕ). Wrote ν (g i) (stop i) i c c₁ j) (m .next h) v in
     record { ends = w .ends; code = rw (p .says h, e) (before x (omega (arith, w .ends)) (w .code)) }
+
+-- four words, one after another, are an instruction
+pub put-four : {at op a b d : ℕ} {c c₁ c₂ c₃ c₄ : List ℕ} → at < room → c₁ ≡ set c (4 * at) op → c₂ ≡ set c₁ (4 * at + 1) a → c₃ ≡ set c₂ (4 * at + 2) b → c₄ ≡ set c₃ (4 * at + 3) d
+    → PutPost at op a b d c c₄ (at + 1)
+unfolding putAt
+put-four l e f g h = record { within = omega arith; next = λ _. omega arith; says = λ _. h ∙ rw (g, f, e) refl }

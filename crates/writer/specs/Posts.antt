@@ -29,7 +29,6 @@ room = 8192
 pub record Writable (tab names code : List ℕ) (n left row at : ℕ) : Type 0 where
   pub walkable : Walkable tab n
   pub names-long : 4096 ≤ length names
-  pub code-long : 32768 ≤ length code
   pub few : left ≤ 2048
   pub low : row < 4294967296
   pub within : at ≤ room

@@ -20,7 +20,7 @@ fn of_class(
     row: usize,
     at: usize,
 ) -> usize
-    requires { ⌜ Walkable (now table) n × (4096 ≤ length (now names)) × (32768 ≤ length (now code)) × (2048 ≤ length (now entries)) × (classes ≤ 2048) × (at ≤ 8192) ⌝ }
+    requires { ⌜ Walkable (now table) n × (4096 ≤ length (now names)) × (2048 ≤ length (now entries)) × (classes ≤ 2048) × (at ≤ 8192) ⌝ }
     ensures { λ r. ⌜ ClassPost (now (table .entry)) n classes row at (now (names .entry)) (now (names .exit)) (now (code .entry)) (now (code .exit)) (now (entries .entry)) (now (entries .exit)) r ⌝ }
 {
     let first = word(table, 5, row);
@@ -44,7 +44,7 @@ pub fn each(
     row: usize,
     at: usize,
 )
-    requires { ⌜ Walkable (now table) n × (4096 ≤ length (now names)) × (32768 ≤ length (now code)) × (2048 ≤ length (now entries)) × (classes ≤ 2048) × (at ≤ 8192) ⌝ }
+    requires { ⌜ Walkable (now table) n × (4096 ≤ length (now names)) × (2048 ≤ length (now entries)) × (classes ≤ 2048) × (at ≤ 8192) ⌝ }
     ensures { λ _. ⌜ ClassesPost (now (table .entry)) n classes left row at (now (names .entry)) (now (code .entry)) (now (code .exit)) (now (entries .entry)) (now (entries .exit)) ⌝ }
 {
     if left == 0 {

@@ -1,21 +1,32 @@
-// Writes of code: four words for each instruction, and no write past the room.
+// Writes of code: four words for each instruction, and no write past the array.
 ghost use Prim.Native.Nat.{_≤_, _<_};
-ghost use lib.ListN.{length};
+ghost use mathlib.Core.Path.{_≡_};
+ghost use lib.ListN.{set};
 ghost use Rattle.writer.specs.Posts.{PutPost, NextPost};
 
 // How many instructions there is room for.
 pub const ROOM: usize = 8192;
 
+// One word, where the array reaches.
+fn put_word(code: &mut [u32], at: usize, word: usize)
+    requires { ⌜ word < 4294967296 ⌝ }
+    ensures { λ _. ⌜ now (code .exit) ≡ set (now (code .entry)) at word ⌝ }
+{
+    if at < code.len() {
+        code[at] = word as u32;
+    }
+}
+
 // One instruction; the answer is the place behind it.
 pub fn put(code: &mut [u32], at: usize, op: usize, a: usize, b: usize, c: usize) -> usize
-    requires { ⌜ (32768 ≤ length (now code)) × (at ≤ 8192) × (op < 4294967296) × (a < 4294967296) × (b < 4294967296) × (c < 4294967296) ⌝ }
+    requires { ⌜ (at ≤ 8192) × (op < 4294967296) × (a < 4294967296) × (b < 4294967296) × (c < 4294967296) ⌝ }
     ensures { λ r. ⌜ PutPost at op a b c (now (code .entry)) (now (code .exit)) r ⌝ }
 {
     if at < ROOM {
-        code[4 * at] = op as u32;
-        code[4 * at + 1] = a as u32;
-        code[4 * at + 2] = b as u32;
-        code[4 * at + 3] = c as u32;
+        put_word(code, 4 * at, op);
+        put_word(code, 4 * at + 1, a);
+        put_word(code, 4 * at + 2, b);
+        put_word(code, 4 * at + 3, c);
         return at + 1;
     }
     at

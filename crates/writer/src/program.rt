@@ -15,7 +15,7 @@ ghost use Rattle.writer.specs.Writing.{MainPost, Writes};
 
 // Main's statement, which stands in row 14 and sees no names, and the end.
 fn main_code(table: &[u32], names: &[u32], code: &mut [u32], n: usize) -> usize
-    requires { ⌜ Walkable (now table) n × (4096 ≤ length (now names)) × (32768 ≤ length (now code)) ⌝ }
+    requires { ⌜ Walkable (now table) n × (4096 ≤ length (now names)) ⌝ }
     ensures { λ r. ⌜ MainPost (now (table .entry)) (now (names .entry)) n (now (code .entry)) (now (code .exit)) r ⌝ }
 {
     let s = Scope {
@@ -36,7 +36,7 @@ pub fn write(
     n: usize,
     classes: usize,
 )
-    requires { ⌜ Walkable (now table) n × (4096 ≤ length (now names)) × (32768 ≤ length (now code)) × (2048 ≤ length (now entries)) × (classes ≤ 2048) ⌝ }
+    requires { ⌜ Walkable (now table) n × (4096 ≤ length (now names)) × (2048 ≤ length (now entries)) × (classes ≤ 2048) ⌝ }
     ensures { λ _. ⌜ Writes (now (table .entry)) n classes (now (code .entry)) (now (code .exit)) (now (entries .entry)) (now (entries .exit)) ⌝ }
 {
     let first = word(table, 6, 0);

@@ -8,7 +8,7 @@ use Rattle.runner.proofs.run.perform.Kinds as perform-kinds
 use Rattle.runner.proofs.run.+perform.Lts-perform as perform-lts
 use Rattle.base.proofs.fill.zero_numbers.Reads as zero-numbers-reads
 use Rattle.base.proofs.fill.zero_words.Reads as zero-words-reads
-use Rattle.runner.proofs.run.compiled.Reads as compiled-reads
+use Rattle.runner.proofs.run.accepted.Reads as accepted-reads
 use Rattle.runner.proofs.run.refusal.Reads as refusal-reads
 use Rattle.typecheck.proofs.check.find.Reads as find-reads
 use Rattle.runner.proofs.run.+perform.{statement}
@@ -26,11 +26,11 @@ abbrev perform-below : ℕ → In 4 perform-kinds.ps
 perform-below t = and 4 perform-kinds.ps (falls 4 perform-kinds.ps _<_ μ-perform t) perform.Pre
 
 abbrev perform-calls : ℕ → perform-lts.Claims
-perform-calls t = (compiled-reads.Asked, compiled-reads.Learnt, find-reads.Asked, find-reads.Learnt, perform-below t, perform.Post, zero-words-reads.Asked, zero-words-reads.Learnt, zero-numbers-reads.Asked, zero-numbers-reads.Learnt, refusal-reads.Asked, refusal-reads.Learnt)
+perform-calls t = (accepted-reads.Asked, accepted-reads.Learnt, find-reads.Asked, find-reads.Learnt, perform-below t, perform.Post, zero-words-reads.Asked, zero-words-reads.Learnt, zero-numbers-reads.Asked, zero-numbers-reads.Learnt, refusal-reads.Asked, refusal-reads.Learnt)
 
 module _ (t : ℕ) where
-  perform-compiled-requires : perform-lts.Need-compiled-requires (perform-calls t) (perform-at t) perform.Post
-  perform-compiled-requires c κs = let d = c .before .before .before .before .before .before .before in search (needs, accepted-few (d .pre .1 .4) (omega arith))
+  perform-accepted-requires : perform-lts.Need-accepted-requires (perform-calls t) (perform-at t) perform.Post
+  perform-accepted-requires c κs = let d = c .before .before .before .before .before .before .before in search (needs, accepted-few (d .pre .1 .4) (omega arith))
 
   perform-same-length : perform-lts.Need-same-length (perform-calls t) (perform-at t) perform.Post
   perform-same-length c = search needs
@@ -101,7 +101,7 @@ pub +perform-spec : {M : Type 1} → statement M
 +perform-spec = close μ-perform λ t. perform-lts.spec (perform-calls t)
     (perform-at t)
     perform.Post
-    (perform-compiled-requires t)
+    (perform-accepted-requires t)
     (perform-same-length t)
     (perform-same-length-2 t)
     (perform-same-length-3 t)

@@ -7,14 +7,8 @@ use Rattle.runner.proofs.run.compiled.Tie as tie
 slice-aggregate-prepare : tie.Need-slice-aggregate-prepare
 slice-aggregate-prepare c = search needs
 
-slice-aggregate-prepare-2 : tie.Need-slice-aggregate-prepare-2
-slice-aggregate-prepare-2 c = search needs
-
 prepare-requires : tie.Need-prepare-requires
 prepare-requires c κs = search needs
-
-slice-aggregate-execute : tie.Need-slice-aggregate-execute
-slice-aggregate-execute c = search needs
 
 execute-requires : tie.Need-execute-requires
 execute-requires c κs = search needs
@@ -25,6 +19,15 @@ same-length c = search needs
 same-length-2 : tie.Need-same-length-2
 same-length-2 c = search needs
 
+same-length-3 : tie.Need-same-length-3
+same-length-3 c = search needs
+
+same-length-4 : tie.Need-same-length-4
+same-length-4 c = search needs
+
+same-length-5 : tie.Need-same-length-5
+same-length-5 c = search needs
+
 returns : tie.Need-returns
 returns c = search completed
 
@@ -33,10 +36,11 @@ compiled-spec =
     tie.close
     (tie.spec
     slice-aggregate-prepare
-    slice-aggregate-prepare-2
     prepare-requires
-    slice-aggregate-execute
     execute-requires
     same-length
     same-length-2
+    same-length-3
+    same-length-4
+    same-length-5
     returns)

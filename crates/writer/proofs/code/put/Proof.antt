@@ -1,68 +1,42 @@
--- `put` meets its contract: four words are written.
+-- Four words are written, one after another.
 use native.Mathlib.Omega.{arith}
-use mathlib.Core.Path.{refl}
-use lib.ListN.{length-set}
-use Rattle.writer.specs.Words.{putAt}
+use Rattle.writer.proofs.PieceLaws.{put-four}
 use borrow.Author.Needs.{needs}
 use Rattle.writer.proofs.code.put.Statement.{statement}
 use Rattle.writer.proofs.code.put.Tie as tie
 
-cast-code : tie.Need-cast-code
-cast-code c = search needs
+mul-put-word : tie.Need-mul-put-word
+mul-put-word c = search needs
 
-mul-code : tie.Need-mul-code
-mul-code c = search needs
+put-word-requires : tie.Need-put-word-requires
+put-word-requires c κs = search needs
 
-mul-code-2 : tie.Need-mul-code-2
-mul-code-2 c = search needs
+mul-put-word-2 : tie.Need-mul-put-word-2
+mul-put-word-2 c = search needs
 
-slice-write-code : tie.Need-slice-write-code
-slice-write-code c = search needs
+add-put-word : tie.Need-add-put-word
+add-put-word c = search needs
 
-cast-code-2 : tie.Need-cast-code-2
-cast-code-2 c = search needs
+put-word-requires-2 : tie.Need-put-word-requires-2
+put-word-requires-2 c κs = search needs
 
-mul-code-3 : tie.Need-mul-code-3
-mul-code-3 c = search needs
+mul-put-word-3 : tie.Need-mul-put-word-3
+mul-put-word-3 c = search needs
 
-add-code : tie.Need-add-code
-add-code c = search needs
+add-put-word-2 : tie.Need-add-put-word-2
+add-put-word-2 c = search needs
 
-mul-code-4 : tie.Need-mul-code-4
-mul-code-4 c = search needs
+put-word-requires-3 : tie.Need-put-word-requires-3
+put-word-requires-3 c κs = search needs
 
-slice-write-code-2 : tie.Need-slice-write-code-2
-slice-write-code-2 c = simp length-set (omega arith)
+mul-put-word-4 : tie.Need-mul-put-word-4
+mul-put-word-4 c = search needs
 
-cast-code-3 : tie.Need-cast-code-3
-cast-code-3 c = search needs
+add-put-word-3 : tie.Need-add-put-word-3
+add-put-word-3 c = search needs
 
-mul-code-5 : tie.Need-mul-code-5
-mul-code-5 c = search needs
-
-add-code-2 : tie.Need-add-code-2
-add-code-2 c = search needs
-
-mul-code-6 : tie.Need-mul-code-6
-mul-code-6 c = search needs
-
-slice-write-code-3 : tie.Need-slice-write-code-3
-slice-write-code-3 c = simp length-set (omega arith)
-
-cast-code-4 : tie.Need-cast-code-4
-cast-code-4 c = search needs
-
-mul-code-7 : tie.Need-mul-code-7
-mul-code-7 c = search needs
-
-add-code-3 : tie.Need-add-code-3
-add-code-3 c = search needs
-
-mul-code-8 : tie.Need-mul-code-8
-mul-code-8 c = search needs
-
-slice-write-code-4 : tie.Need-slice-write-code-4
-slice-write-code-4 c = simp length-set (omega arith)
+put-word-requires-4 : tie.Need-put-word-requires-4
+put-word-requires-4 c κs = search needs
 
 add-result : tie.Need-add-result
 add-result c = search needs
@@ -71,8 +45,7 @@ same-length : tie.Need-same-length
 same-length c = search needs
 
 returns : tie.Need-returns
-unfolding putAt
-returns c = record { within = omega arith; next = λ h. omega arith; says = λ h. refl }
+returns c = search put-four
 
 returns-2 : tie.Need-returns-2
 returns-2 c = record { within = omega arith; next = λ h. absurd (omega arith); says = λ h. absurd (omega arith) }
@@ -81,25 +54,17 @@ pub put-spec : {M : Type 1} → statement M
 put-spec =
     tie.close
     (tie.spec
-    cast-code
-    mul-code
-    mul-code-2
-    slice-write-code
-    cast-code-2
-    mul-code-3
-    add-code
-    mul-code-4
-    slice-write-code-2
-    cast-code-3
-    mul-code-5
-    add-code-2
-    mul-code-6
-    slice-write-code-3
-    cast-code-4
-    mul-code-7
-    add-code-3
-    mul-code-8
-    slice-write-code-4
+    mul-put-word
+    put-word-requires
+    mul-put-word-2
+    add-put-word
+    put-word-requires-2
+    mul-put-word-3
+    add-put-word-2
+    put-word-requires-3
+    mul-put-word-4
+    add-put-word-3
+    put-word-requires-4
     add-result
     same-length
     returns

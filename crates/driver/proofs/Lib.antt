@@ -1,0 +1,4 @@
+-- Laws of calls, of how instructions move on, and of the turns and rounds of a run.
+pub mod CallLaws
+pub mod MoveLaws
+pub mod RoundLaws
