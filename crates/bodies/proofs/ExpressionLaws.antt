@@ -19,7 +19,7 @@ use Rattle.parser.specs.Tree.{Place, Name, Operator.and, Operator.less, Operato
 use Rattle.parser.specs.Tree.{Part.literal, Part.truth, Part.variable, Part.this, Part.newArray, Part.newObject, Part.negation, Part.binary, Part.element, Part.arrayLength, Part.call, Part.noArguments, Part.argument}
 use Rattle.parser.specs.Stream.{kindAt, startAt}
 use Rattle.parser.specs.Layout.{rowOf, rowVariables}
-use Rattle.parser.specs.Measure.{nodes}
+use Rattle.reader.specs.Counting.{covers}
 use Rattle.parser.specs.Post.{isAtom, kindIn}
 use Rattle.reader.specs.Holds.{Holds}
 use Rattle.reader.specs.Matches.{Matches, NameIs}
@@ -72,8 +72,8 @@ atom-name k e a b c d = name-kind k (rw (ne-eqb k 4 a, ne-eqb k 21 b, ne-eqb k 9
 -- PARTS
 
 -- an expression has a node, and it begins where its row says
-pub positive : (e : Expression) → 1 ≤ nodes e
-unfolding nodes
+pub positive : (e : Expression) → 1 ≤ covers e
+unfolding covers
 positive (literal p n) = omega arith
 positive (truth p b) = omega arith
 positive (variable p x) = omega arith
@@ -115,7 +115,7 @@ there ts (arrayLength p a) m = m .0 .there
 there ts (call p e f es) m = m .0 .there
 
 -- a part that column k of a node's row leads to
-pub part-in : {tab : List ℕ} {ts : List Token} (k row r : ℕ) {left : ℕ} → r ≡ row → r < absent → {s : Sort} {t : Part s} → col tab k r ≡ rowOf t → Holds tab t → Matches ts t → nodes t ≤ left
+pub part-in : {tab : List ℕ} {ts : List Token} (k row r : ℕ) {left : ℕ} → r ≡ row → r < absent → {s : Sort} {t : Part s} → col tab k r ≡ rowOf t → Holds tab t → Matches ts t → covers t ≤ left
     → PartAt tab ts (wordAt tab k row) left t
 part-in {tab} k row r e low c h m few = record { at = sym (word-in tab k r low c) ∙ ap (wordAt tab k) e; holds = h; matches = m; few = few }
 
@@ -244,10 +244,10 @@ module _ {tab : List ℕ} {s : Scope} {kind row : ℕ} where
       go ts G Γ i (call p e f es) k w at h m = absurd (omega (arith, k, is, m .0 .is))
 
   pub atom-this : kind ≡ 20 → {r : Judged} → ThisPost tab s row r → AtomPost tab s kind row r
-  unfolding Holds Matches judge nodes
+  unfolding Holds Matches judge covers
   atom-this is {r} f = record { says = λ ts G Γ i e left h k a. go ts G Γ i e (k ∙ ap (kindAt ts) (sym (h .at))) a (h .at) (h .holds) (h .matches) }
     where
-      one : (p : Place) → nodes (this p) ≤ 1
+      one : (p : Place) → covers (this p) ≤ 1
       one p = omega arith
 
       go : (ts : List Token) (G : List Class) (Γ : Context) → InScope tab ts G Γ s → (e : Expression) → kind ≡ kindAt ts (rowOf e) → isAtom kind ≡ true → rowOf e ≡ row → Holds tab e → Matches ts e
@@ -294,11 +294,11 @@ module _ {tab : List ℕ} {s : Scope} {kind row : ℕ} where
 
 -- `new C()`
 
-named : {tab : List ℕ} {ts : List Token} (row : ℕ) (p : Place) (c : Name) → PartAt tab ts row 1 (newObject p c) → (c .row ≡ row + 1) × NameIs ts (c .row) (c .text) × (startAt ts (c .row) ≡ c .start)
+named : {tab : List ℕ} {ts : List Token} (row : ℕ) (p : Place) (c : Name) {left : ℕ} → PartAt tab ts row left (newObject p c) → (c .row ≡ row + 1) × NameIs ts (c .row) (c .text) × (startAt ts (c .row) ≡ c .start)
 unfolding Matches
 named row p c h = (h .matches .1 ∙ ap (λ (j : ℕ). j + 1) (h .at), h .matches .2 .token, h .matches .2 .start)
 
-spells : {tab : List ℕ} {ts : List Token} {G : List Class} {n : ℕ} (row x : ℕ) → x ≡ wordAt tab 2 (row + 1) → World tab n ts G → (p : Place) (c : Name) → PartAt tab ts row 1 (newObject p c) → Spells ts (c .text) x
+spells : {tab : List ℕ} {ts : List Token} {G : List Class} {n : ℕ} (row x : ℕ) → x ≡ wordAt tab 2 (row + 1) → World tab n ts G → (p : Place) (c : Name) {left : ℕ} → PartAt tab ts row left (newObject p c) → Spells ts (c .text) x
 spells {tab} {ts} row x e₂ w p c h =
     let m = named row p c h in
     subst (Spells ts (c .text)) (ap (wordAt tab 2) (m .0) ∙ sym e₂) (name-word (w .tokens) (c .row) (m .1))
@@ -308,7 +308,7 @@ module _ {tab : List ℕ} {n row x : ℕ} (e₂ : x ≡ wordAt tab 2 (row + 1)) 
   unfolding judge
   object-known is =
       record {
-        says = λ s e ts G Γ i p c h.
+        says = λ s e ts G Γ i p c left h.
             let w = subst (λ (k : ℕ). World tab k ts G) e (i .world) in
             let sp = spells row x e₂ w p c h in
             rw (sym (f .says ts G w (class (c .text)) (code-class sp)) ∙ is) (well (code-class sp));
@@ -318,7 +318,7 @@ module _ {tab : List ℕ} {n row x : ℕ} (e₂ : x ≡ wordAt tab 2 (row + 1)) 
   unfolding judge
   object-unknown is {at₁} e₁ =
       record {
-        says = λ s e ts G Γ i p c h.
+        says = λ s e ts G Γ i p c left h.
             let w = subst (λ (k : ℕ). World tab k ts G) e (i .world) in
             let sp = spells row x e₂ w p c h in
             let m = named row p c h in
@@ -326,20 +326,20 @@ module _ {tab : List ℕ} {n row x : ℕ} (e₂ : x ≡ wordAt tab 2 (row + 1)) 
             rw (sym (f .says ts G w (class (c .text)) (code-class sp)) ∙ is, z) ill;
       }
 
+-- arguments that stand in a row cover a token
+no-arguments-left : (es : Part arguments) {row left : ℕ} → rowOf es ≡ row → covers es ≤ left → row < absent → left ≡ 0 → ⊥
+unfolding covers
+no-arguments-left noArguments at few near z = omega (arith, at)
+no-arguments-left (argument e es) at few near z = omega (arith, positive e)
+
 -- COUNTS
 
 eqb-suc : (i j : ℕ) → eqb i j ≡ eqb (1 + i) (suc j)
 eqb-suc i j = elim (ℕ-discrete i j) [ yes e ↦ rw (eq-eqb i j e, eq-eqb (1 + i) (suc j) (omega arith)) | no n ↦ rw (ne-eqb i j n, ne-eqb (1 + i) (suc j) (λ z. n (omega arith))) ]
 
 module _ {tab : List ℕ} {left a p : ℕ} where
-  pub count-none : left ≡ 0 → SameCount tab left a p true
-  unfolding arity nodes
-  count-none z = record { says = λ n ts few es h vs l. go es vs (h .few) (l .few) }
-    where
-      go : (es : Part arguments) (vs : List Variable) → nodes es ≤ left → length vs ≤ left → true ≡ eqb (arity es) (length vs)
-      go noArguments [] f g = refl
-      go noArguments (v ∷ vs) f g = absurd (omega arith)
-      go (argument e es) vs f g = absurd (omega (arith, positive e))
+  pub count-none : a < absent → left ≡ 0 → SameCount tab left a p false
+  count-none near z = record { says = λ n ts few es h vs l. absurd (no-arguments-left es (h .at) (h .few) near z) }
 
   pub count-ends : absent ≤ a → SameCount tab left a p (leb absent p)
   unfolding arity Matches
@@ -364,10 +364,10 @@ module _ {tab : List ℕ} {left a p : ℕ} where
         go ts few (argument e es) at (v ∷ vs) d (more-variables w c₃ c₆ s) = absurd (omega (arith, d, w .name .token .there))
 
     pub count-next : p < absent → {a′ p′ : ℕ} {r : Bool} → a′ ≡ wordAt tab 6 a → p′ ≡ wordAt tab 6 p → SameCount tab (left - 1) a′ p′ r → SameCount tab left a p r
-    unfolding arity Matches Holds nodes
+    unfolding arity Matches Holds covers
     count-next low {a′} {p′} {r} ea ep f = record { says = λ n ts few es h vs l. go n ts few es (h .at) (h .holds) (h .matches) (h .few) vs (l .at) (l .stand) (l .few) }
       where
-        go : (n : ℕ) (ts : List Token) → length ts ≤ 2048 → (es : Part arguments) → rowOf es ≡ a → Holds tab es → Matches ts es → nodes es ≤ left → (vs : List Variable) → rowVariables vs ≡ p
+        go : (n : ℕ) (ts : List Token) → length ts ≤ 2048 → (es : Part arguments) → rowOf es ≡ a → Holds tab es → Matches ts es → covers es ≤ left → (vs : List Variable) → rowVariables vs ≡ p
             → VariablesStand tab ts vs → length vs ≤ left → r ≡ eqb (arity es) (length vs)
         go n ts few noArguments at h m l vs d s g = absurd (omega (arith, at))
         go n ts few (argument e es) at h m l [] d s g = absurd (omega (arith, d))
@@ -401,10 +401,10 @@ module _ {tab : List ℕ} {s : Scope} {left row : ℕ} where
     expression-dot is f = record { says = λ ts G Γ i e h. f .says ts G Γ i e (fewer row left more h) (sym (own row kind i) ∙ is) }
 
     pub expression-not : k ≡ 29 → {r : Judged} → SinglePost tab s (left - 1) row 2049 2049 r → ExpressionPost tab s left row r
-    unfolding Holds Matches judge nodes
+    unfolding Holds Matches judge covers
     expression-not is {r} f = record { says = λ ts G Γ i e h. go ts G Γ i e (own row kind i ∙ ap (kindAt ts) (sym (h .at))) (h .at) (h .holds) (h .matches) (h .few) }
       where
-        go : (ts : List Token) (G : List Class) (Γ : Context) → InScope tab ts G Γ s → (e : Expression) → k ≡ kindAt ts (rowOf e) → rowOf e ≡ row → Holds tab e → Matches ts e → nodes e ≤ left
+        go : (ts : List Token) (G : List Class) (Γ : Context) → InScope tab ts G Γ s → (e : Expression) → k ≡ kindAt ts (rowOf e) → rowOf e ≡ row → Holds tab e → Matches ts e → covers e ≤ left
             → Judges ts (judge G Γ e) r
         go ts G Γ i (literal p n) q at h m few = absurd (omega (arith, q, is, m .0 .is))
         go ts G Γ i (truth p true) q at h m few = absurd (omega (arith, q, is, m .is))
@@ -424,10 +424,10 @@ module _ {tab : List ℕ} {s : Scope} {left row : ℕ} where
         go ts G Γ i (call p e f es) q at h m few = absurd (omega (arith, q, is, m .0 .is))
 
     pub expression-element : k ≡ 36 → {r : Judged} → PairPost tab s (left - 1) row 2050 2048 2048 r → ExpressionPost tab s left row r
-    unfolding Holds Matches judge nodes
+    unfolding Holds Matches judge covers
     expression-element is {r} f = record { says = λ ts G Γ i e h. go ts G Γ i e (own row kind i ∙ ap (kindAt ts) (sym (h .at))) (h .at) (h .holds) (h .matches) (h .few) }
       where
-        go : (ts : List Token) (G : List Class) (Γ : Context) → InScope tab ts G Γ s → (e : Expression) → k ≡ kindAt ts (rowOf e) → rowOf e ≡ row → Holds tab e → Matches ts e → nodes e ≤ left
+        go : (ts : List Token) (G : List Class) (Γ : Context) → InScope tab ts G Γ s → (e : Expression) → k ≡ kindAt ts (rowOf e) → rowOf e ≡ row → Holds tab e → Matches ts e → covers e ≤ left
             → Judges ts (judge G Γ e) r
         go ts G Γ i (literal p n) q at h m few = absurd (omega (arith, q, is, m .0 .is))
         go ts G Γ i (truth p true) q at h m few = absurd (omega (arith, q, is, m .is))
@@ -447,10 +447,10 @@ module _ {tab : List ℕ} {s : Scope} {left row : ℕ} where
         go ts G Γ i (call p e f es) q at h m few = absurd (omega (arith, q, is, m .0 .is))
 
     pub expression-and : k ≡ 24 → {a : Judged} → PairPost tab s (left - 1) row 2049 2049 2049 a → ExpressionPost tab s left row a
-    unfolding Holds Matches judge nodes
+    unfolding Holds Matches judge covers
     expression-and is {a} f = record { says = λ ts G Γ i e h. go ts G Γ i e (own row kind i ∙ ap (kindAt ts) (sym (h .at))) (h .at) (h .holds) (h .matches) (h .few) }
       where
-        go : (ts : List Token) (G : List Class) (Γ : Context) → InScope tab ts G Γ s → (e : Expression) → k ≡ kindAt ts (rowOf e) → rowOf e ≡ row → Holds tab e → Matches ts e → nodes e ≤ left
+        go : (ts : List Token) (G : List Class) (Γ : Context) → InScope tab ts G Γ s → (e : Expression) → k ≡ kindAt ts (rowOf e) → rowOf e ≡ row → Holds tab e → Matches ts e → covers e ≤ left
             → Judges ts (judge G Γ e) a
         go ts G Γ i (literal p n) q at h m few = absurd (omega (arith, q, is, m .0 .is))
         go ts G Γ i (truth p true) q at h m few = absurd (omega (arith, q, is, m .is))
@@ -470,10 +470,10 @@ module _ {tab : List ℕ} {s : Scope} {left row : ℕ} where
         go ts G Γ i (call p e f es) q at h m few = absurd (omega (arith, q, is, m .0 .is))
 
     pub expression-less : k ≡ 25 → {a : Judged} → PairPost tab s (left - 1) row 2048 2048 2049 a → ExpressionPost tab s left row a
-    unfolding Holds Matches judge nodes
+    unfolding Holds Matches judge covers
     expression-less is {a} f = record { says = λ ts G Γ i e h. go ts G Γ i e (own row kind i ∙ ap (kindAt ts) (sym (h .at))) (h .at) (h .holds) (h .matches) (h .few) }
       where
-        go : (ts : List Token) (G : List Class) (Γ : Context) → InScope tab ts G Γ s → (e : Expression) → k ≡ kindAt ts (rowOf e) → rowOf e ≡ row → Holds tab e → Matches ts e → nodes e ≤ left
+        go : (ts : List Token) (G : List Class) (Γ : Context) → InScope tab ts G Γ s → (e : Expression) → k ≡ kindAt ts (rowOf e) → rowOf e ≡ row → Holds tab e → Matches ts e → covers e ≤ left
             → Judges ts (judge G Γ e) a
         go ts G Γ i (literal p n) q at h m few = absurd (omega (arith, q, is, m .0 .is))
         go ts G Γ i (truth p true) q at h m few = absurd (omega (arith, q, is, m .is))
@@ -493,10 +493,10 @@ module _ {tab : List ℕ} {s : Scope} {left row : ℕ} where
         go ts G Γ i (call p e f es) q at h m few = absurd (omega (arith, q, is, m .0 .is))
 
     pub expression-sum : {b : Bool} → b ≡ isAtom k → b ≡ false → (k ≡ 14 → ⊥) → (k ≡ 31 → ⊥) → (k ≡ 29 → ⊥) → (k ≡ 36 → ⊥) → (k ≡ 24 → ⊥) → (k ≡ 25 → ⊥) → {a : Judged} → PairPost tab s (left - 1) row 2048 2048 2048 a → ExpressionPost tab s left row a
-    unfolding Holds Matches judge nodes
+    unfolding Holds Matches judge covers
     expression-sum ea other n₁ n₂ n₃ n₄ n₅ n₆ {a} f = record { says = λ ts G Γ i e h. go ts G Γ i e (own row kind i ∙ ap (kindAt ts) (sym (h .at))) (h .at) (h .holds) (h .matches) (h .few) }
       where
-        go : (ts : List Token) (G : List Class) (Γ : Context) → InScope tab ts G Γ s → (e : Expression) → k ≡ kindAt ts (rowOf e) → rowOf e ≡ row → Holds tab e → Matches ts e → nodes e ≤ left
+        go : (ts : List Token) (G : List Class) (Γ : Context) → InScope tab ts G Γ s → (e : Expression) → k ≡ kindAt ts (rowOf e) → rowOf e ≡ row → Holds tab e → Matches ts e → covers e ≤ left
             → Judges ts (judge G Γ e) a
         go ts G Γ i (literal p n) q at h m few = absurd (not-atom k (sym ea ∙ other) .0 (q ∙ m .0 .is))
         go ts G Γ i (truth p true) q at h m few = absurd (not-atom k (sym ea ∙ other) .1 (q ∙ m .is))
@@ -604,10 +604,10 @@ next {ts = ts} row kind i r e = kind ∙ kinds (i .world .tokens) (row + 1) ∙ 
 
 module _ {tab : List ℕ} {s : Scope} {left row k : ℕ} (kind : k ≡ kindIn tab (s .tokens) (row + 1)) where
   pub creation-array : k ≡ 11 → {a : Judged} → SinglePost tab s left row 2048 2050 a → CreationPost tab s left row a
-  unfolding Holds Matches judge nodes
+  unfolding Holds Matches judge covers
   creation-array is′ {a} f = record { says = λ ts G Γ i e h is. go ts G Γ i e (ap (kindAt ts) (h .at) ∙ is) (h .at) (h .holds) (h .matches) (h .few) }
     where
-      go : (ts : List Token) (G : List Class) (Γ : Context) → InScope tab ts G Γ s → (e : Expression) → kindAt ts (rowOf e) ≡ 14 → rowOf e ≡ row → Holds tab e → Matches ts e → nodes e ≤ left + 1
+      go : (ts : List Token) (G : List Class) (Γ : Context) → InScope tab ts G Γ s → (e : Expression) → kindAt ts (rowOf e) ≡ 14 → rowOf e ≡ row → Holds tab e → Matches ts e → covers e ≤ left + 1
           → Judges ts (judge G Γ e) a
       go ts G Γ i (literal p n) q at h m few = absurd (omega (arith, q, m .0 .is))
       go ts G Γ i (truth p true) q at h m few = absurd (omega (arith, q, m .is))
@@ -627,10 +627,10 @@ module _ {tab : List ℕ} {s : Scope} {left row k : ℕ} (kind : k ≡ kindIn ta
       go ts G Γ i (call p e f es) q at h m few = absurd (omega (arith, q, m .0 .is))
 
   pub creation-object : (k ≡ 11 → ⊥) → {a : Judged} → ObjectPost tab (s .tokens) row a → CreationPost tab s left row a
-  unfolding Holds Matches judge nodes
+  unfolding Holds Matches judge covers
   creation-object other {a} f = record { says = λ ts G Γ i e h is. go ts G Γ i e (ap (kindAt ts) (h .at) ∙ is) (h .at) (h .holds) (h .matches) (h .few) }
     where
-      go : (ts : List Token) (G : List Class) (Γ : Context) → InScope tab ts G Γ s → (e : Expression) → kindAt ts (rowOf e) ≡ 14 → rowOf e ≡ row → Holds tab e → Matches ts e → nodes e ≤ left + 1
+      go : (ts : List Token) (G : List Class) (Γ : Context) → InScope tab ts G Γ s → (e : Expression) → kindAt ts (rowOf e) ≡ 14 → rowOf e ≡ row → Holds tab e → Matches ts e → covers e ≤ left + 1
           → Judges ts (judge G Γ e) a
       go ts G Γ i (literal p n) q at h m few = absurd (omega (arith, q, m .0 .is))
       go ts G Γ i (truth p true) q at h m few = absurd (omega (arith, q, m .is))
@@ -638,7 +638,7 @@ module _ {tab : List ℕ} {s : Scope} {left row k : ℕ} (kind : k ≡ kindIn ta
       go ts G Γ i (variable p x) q at h m few = absurd (omega (arith, q, name-kind _ (m .named)))
       go ts G Γ i (this p) q at h m few = absurd (omega (arith, q, m .is))
       go ts G Γ i (newArray p e) q at h m few = absurd (other (next row kind i (p .row) at ∙ m .1 .is))
-      go ts G Γ i (newObject p c) q at h m few = f .says s refl ts G Γ i p c (record { at = at; holds = h; matches = m; few = omega arith })
+      go ts G Γ i (newObject p c) q at h m few = f .says s refl ts G Γ i p c (left + 1) (record { at = at; holds = h; matches = m; few = few })
       go ts G Γ i (negation p e) q at h m few = absurd (omega (arith, q, m .0 .is))
       go ts G Γ i (binary p and l r) q at h m few = absurd (omega (arith, q, m .0 .is))
       go ts G Γ i (binary p less l r) q at h m few = absurd (omega (arith, q, m .0 .is))
@@ -650,10 +650,10 @@ module _ {tab : List ℕ} {s : Scope} {left row k : ℕ} (kind : k ≡ kindIn ta
       go ts G Γ i (call p e f es) q at h m few = absurd (omega (arith, q, m .0 .is))
 
   pub dotted-length : k ≡ 12 → {r : Judged} → SinglePost tab s left row 2050 2048 r → DottedPost tab s left row r
-  unfolding Holds Matches judge nodes
+  unfolding Holds Matches judge covers
   dotted-length is′ {r} f = record { says = λ ts G Γ i e h is. go ts G Γ i e (ap (kindAt ts) (h .at) ∙ is) (h .at) (h .holds) (h .matches) (h .few) }
     where
-      go : (ts : List Token) (G : List Class) (Γ : Context) → InScope tab ts G Γ s → (e : Expression) → kindAt ts (rowOf e) ≡ 31 → rowOf e ≡ row → Holds tab e → Matches ts e → nodes e ≤ left + 1
+      go : (ts : List Token) (G : List Class) (Γ : Context) → InScope tab ts G Γ s → (e : Expression) → kindAt ts (rowOf e) ≡ 31 → rowOf e ≡ row → Holds tab e → Matches ts e → covers e ≤ left + 1
           → Judges ts (judge G Γ e) r
       go ts G Γ i (literal p n) q at h m few = absurd (omega (arith, q, m .0 .is))
       go ts G Γ i (truth p true) q at h m few = absurd (omega (arith, q, m .is))
@@ -673,10 +673,10 @@ module _ {tab : List ℕ} {s : Scope} {left row k : ℕ} (kind : k ≡ kindIn ta
       go ts G Γ i (call p e g es) q at h m few = absurd (omega (arith, is′, next row kind i (p .row) at, name-kind _ (m .2 .token .named), ap (kindAt ts) (m .1)))
 
   pub dotted-call : (k ≡ 12 → ⊥) → {r : Judged} → CallPost tab s left row r → DottedPost tab s left row r
-  unfolding Holds Matches judge nodes
+  unfolding Holds Matches judge covers
   dotted-call other {r} f = record { says = λ ts G Γ i e h is. go ts G Γ i e (ap (kindAt ts) (h .at) ∙ is) (h .at) (h .holds) (h .matches) (h .few) }
     where
-      go : (ts : List Token) (G : List Class) (Γ : Context) → InScope tab ts G Γ s → (e : Expression) → kindAt ts (rowOf e) ≡ 31 → rowOf e ≡ row → Holds tab e → Matches ts e → nodes e ≤ left + 1
+      go : (ts : List Token) (G : List Class) (Γ : Context) → InScope tab ts G Γ s → (e : Expression) → kindAt ts (rowOf e) ≡ 31 → rowOf e ≡ row → Holds tab e → Matches ts e → covers e ≤ left + 1
           → Judges ts (judge G Γ e) r
       go ts G Γ i (literal p n) q at h m few = absurd (omega (arith, q, m .0 .is))
       go ts G Γ i (truth p true) q at h m few = absurd (omega (arith, q, m .is))
@@ -701,7 +701,7 @@ module _ {tab : List ℕ} {s : Scope} {left row first : ℕ} (e₄ : first ≡ w
   -- the receiver
   object : {ts : List Token} {G : List Class} {Γ : Context} → InScope tab ts G Γ s → (p : Place) (e : Expression) (m : Name) (es : Part arguments)
       → PartAt tab ts row (left + 1) (Part.call p e m es) → PartAt tab ts first left e
-  unfolding Holds Matches nodes
+  unfolding Holds Matches covers
   object i p e m es h =
       rw e₄ (part-in 4 row (p .row) (h .at) (row-there (i .world .tokens) (p .row) (h .matches .0 .there)) (h .holds .0 .first) (h .holds .1) (h .matches .3) (omega (arith, h .few)))
 
@@ -758,7 +758,7 @@ name-start {tab} row lx p e m es h e₁ =
 -- the arguments of a call
 arguments-at : {tab : List ℕ} {n : ℕ} {ts : List Token} (row left : ℕ) → Lexemes tab n ts → (p : Place) (e : Expression) (m : Name) (es : Part arguments)
     → PartAt tab ts row (left + 1) (Part.call p e m es) → PartAt tab ts (wordAt tab 5 row) left es
-unfolding Holds Matches nodes
+unfolding Holds Matches covers
 arguments-at row left lx p e m es h =
     part-in 5 row (p .row) (h .at) (row-there lx (p .row) (h .matches .0 .there)) (h .holds .0 .second) (h .holds .2) (h .matches .4) (omega (arith, h .few, positive e))
 
@@ -862,13 +862,8 @@ module _ {tab : List ℕ} {s : Scope} {left row c x f : ℕ} (e₂ : x ≡ wordA
 -- ARGUMENTS
 
 module _ {tab : List ℕ} {s : Scope} {left row parameter : ℕ} where
-  pub arguments-none : left ≡ 0 → ArgumentsPost tab s left row parameter (Fine 0)
-  unfolding judge nodes
-  arguments-none z = record { says = λ ts G Γ i es h n vs l a. go G Γ es vs (h .few) }
-    where
-      go : (G : List Class) (Γ : Context) (es : Part arguments) (vs : List Variable) → nodes es ≤ left → Fine 0 ≡ settled (judge G Γ es vs)
-      go G Γ noArguments vs few = refl
-      go G Γ (argument e es) vs few = absurd (omega (arith, positive e))
+  pub arguments-none : row < absent → left ≡ 0 → {n p : ℕ} → ArgumentsPost tab s left row parameter (Refused n p)
+  arguments-none near z = record { says = λ ts G Γ i es h n vs l a. absurd (no-arguments-left es (h .at) (h .few) near z) }
 
   pub arguments-end : absent ≤ row → ArgumentsPost tab s left row parameter (Fine 0)
   unfolding judge Matches
@@ -881,8 +876,8 @@ module _ {tab : List ℕ} {s : Scope} {left row parameter : ℕ} where
   module _ (near : row < absent) {t want : ℕ} (e₃ : t ≡ wordAt tab 3 parameter) (type : TypeOf tab (s .tokens) t want) {v : Judged} (f : OperandPost tab s left row want v) where
     -- the first argument and its parameter
     one : {ts : List Token} {G : List Class} {Γ : Context} → InScope tab ts G Γ s → (e : Expression) (es : Part arguments) → rowOf e ≡ row → Holds tab (argument e es) → Matches ts (argument e es)
-        → nodes (argument e es) ≤ left → (w : Variable) (vs : List Variable) → w .name .row ≡ parameter → VariablesStand tab ts (w ∷ vs) → v ≡ settled (judge G Γ e >>= λ u. must G e (w .type .type) u)
-    unfolding Holds Matches nodes
+        → covers (argument e es) ≤ left → (w : Variable) (vs : List Variable) → w .name .row ≡ parameter → VariablesStand tab ts (w ∷ vs) → v ≡ settled (judge G Γ e >>= λ u. must G e (w .type .type) u)
+    unfolding Holds Matches covers
     one {ts} {G} {Γ} i e es at h m few w vs d (more-variables x c₃ c₆ st) =
         f .says ts G Γ i e (record { at = at; holds = h .0; matches = m .0; few = omega arith }) (w .type .type)
         (type .says ts (i .world .tokens) (w .type)
@@ -892,7 +887,7 @@ module _ {tab : List ℕ} {s : Scope} {left row parameter : ℕ} where
     unfolding judge arity
     arguments-refused {n} {p} is = record { says = λ ts G Γ i es h k vs l a. go ts G Γ i es (h .at) (h .holds) (h .matches) (h .few) vs (l .at) (l .stand) a }
       where
-        go : (ts : List Token) (G : List Class) (Γ : Context) → InScope tab ts G Γ s → (es : Part arguments) → rowOf es ≡ row → Holds tab es → Matches ts es → nodes es ≤ left → (vs : List Variable)
+        go : (ts : List Token) (G : List Class) (Γ : Context) → InScope tab ts G Γ s → (es : Part arguments) → rowOf es ≡ row → Holds tab es → Matches ts es → covers es ≤ left → (vs : List Variable)
             → rowVariables vs ≡ parameter → VariablesStand tab ts vs → arity es ≡ length vs → Refused n p ≡ settled (judge G Γ es vs)
         go ts G Γ i noArguments at h m few vs d st a = absurd (omega (arith, at))
         go ts G Γ i (argument e es) at h m few [] d st a = absurd (omega arith)
@@ -901,16 +896,16 @@ module _ {tab : List ℕ} {s : Scope} {left row parameter : ℕ} where
 
     pub arguments-next : {w : ℕ} → v ≡ Fine w → {next p : ℕ} {r : Judged} → next ≡ wordAt tab 6 row → p ≡ wordAt tab 6 parameter → ArgumentsPost tab s (left - 1) next p r
         → ArgumentsPost tab s left row parameter r
-    unfolding judge arity Holds Matches nodes
+    unfolding judge arity Holds Matches covers
     arguments-next is {next} {p} {r} e₆ e₆′ g = record { says = λ ts G Γ i es h k vs l a. go ts G Γ i es (h .at) (h .holds) (h .matches) (h .few) k vs (l .at) (l .stand) (l .few) a }
       where
-        after : (ts : List Token) (e : Expression) (es : Part arguments) → rowOf e ≡ row → Holds tab (argument e es) → Matches ts (argument e es) → nodes (argument e es) ≤ left
+        after : (ts : List Token) (e : Expression) (es : Part arguments) → rowOf e ≡ row → Holds tab (argument e es) → Matches ts (argument e es) → covers (argument e es) ≤ left
             → PartAt tab ts next (left - 1) es
         after ts e es at h m few =
             record { at = sym (word-in tab 6 (rowOf e) (omega (arith, at, near)) (h .1)) ∙ ap (wordAt tab 6) at ∙ sym e₆; holds = h .2; matches = m .1; few = omega (arith, positive e) }
 
         rest : (ts : List Token) (G : List Class) (Γ : Context) → InScope tab ts G Γ s → (e : Expression) (es : Part arguments) → rowOf e ≡ row → Holds tab (argument e es) → Matches ts (argument e es)
-            → nodes (argument e es) ≤ left → (k : ℕ) (w : Variable) (vs : List Variable) → w .name .row ≡ parameter → VariablesStand tab ts (w ∷ vs) → length (w ∷ vs) ≤ k
+            → covers (argument e es) ≤ left → (k : ℕ) (w : Variable) (vs : List Variable) → w .name .row ≡ parameter → VariablesStand tab ts (w ∷ vs) → length (w ∷ vs) ≤ k
             → arity es ≡ length vs → r ≡ settled (judge G Γ es vs)
         rest ts G Γ i e es at h m few k w vs d (more-variables x c₃ c₆ st) l a =
             g .says ts G Γ i es (after ts e es at h m few) k vs
@@ -921,7 +916,7 @@ module _ {tab : List ℕ} {s : Scope} {left row parameter : ℕ} where
             })
             a
 
-        go : (ts : List Token) (G : List Class) (Γ : Context) → InScope tab ts G Γ s → (es : Part arguments) → rowOf es ≡ row → Holds tab es → Matches ts es → nodes es ≤ left → (k : ℕ) (vs : List Variable)
+        go : (ts : List Token) (G : List Class) (Γ : Context) → InScope tab ts G Γ s → (es : Part arguments) → rowOf es ≡ row → Holds tab es → Matches ts es → covers es ≤ left → (k : ℕ) (vs : List Variable)
             → rowVariables vs ≡ parameter → VariablesStand tab ts vs → length vs ≤ k → arity es ≡ length vs → r ≡ settled (judge G Γ es vs)
         go ts G Γ i noArguments at h m few k vs d st l a = absurd (omega (arith, at))
         go ts G Γ i (argument e es) at h m few k [] d st l a = absurd (omega arith)

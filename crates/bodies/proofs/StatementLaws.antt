@@ -14,7 +14,7 @@ use Rattle.parser.specs.Tree.{Place, Sort.statements, Part, Expression, Stateme
 use Rattle.parser.specs.Tree.{Part.block, Part.conditional, Part.loop, Part.print, Part.assign, Part.assignElement, Part.noStatements, Part.sequence}
 use Rattle.parser.specs.Stream.{kindAt}
 use Rattle.parser.specs.Layout.{rowOf}
-use Rattle.parser.specs.Measure.{nodes}
+use Rattle.reader.specs.Counting.{covers}
 use Rattle.parser.specs.Post.{kindIn}
 use Rattle.reader.specs.Holds.{Holds}
 use Rattle.reader.specs.Matches.{Matches}
@@ -33,8 +33,8 @@ use Rattle.bodies.specs.StatementPost.{StatementPost, ListPost, Conditio
 use Rattle.bodies.proofs.ExpressionLaws.{judges-fine, judges-refused, part-in, few-tokens, goes, halts, own, next}
 
 -- a statement has a node
-positive : (t : Statement) → 1 ≤ nodes t
-unfolding nodes
+positive : (t : Statement) → 1 ≤ covers t
+unfolding covers
 positive (block p ss) = omega arith
 positive (conditional p e a b) = omega arith
 positive (loop p e a) = omega arith
@@ -55,11 +55,11 @@ there ts (assignElement p x i e) m = m .0 .there
 
 module _ (tab : List ℕ) (ts : List Token) (row left : ℕ) (p : Place) (x : List ℕ) (i e : Expression) (few : length ts ≤ 2048) (h : PartAt tab ts row (left + 1) (assignElement p x i e)) where
   index-at : PartAt tab ts (wordAt tab 4 row) left i
-  unfolding Holds Matches nodes
+  unfolding Holds Matches covers
   index-at = part-in 4 row (p .row) (h .at) (omega (arith, h .matches .0 .there)) (h .holds .0 .first) (h .holds .1) (h .matches .2) (omega (arith, h .few))
 
   value-at : PartAt tab ts (wordAt tab 5 row) left e
-  unfolding Holds Matches nodes
+  unfolding Holds Matches covers
   value-at = part-in 5 row (p .row) (h .at) (omega (arith, h .matches .0 .there)) (h .holds .0 .second) (h .holds .2) (h .matches .3) (omega (arith, h .few))
 
 module _ {tab : List ℕ} {s : Scope} {left row first : ℕ} (e₄ : first ≡ wordAt tab 4 row) {v : Judged} (f : OperandPost tab s left first 2048 v) where
@@ -100,7 +100,7 @@ no-whole row left kind is sc p x e h = omega (arith, is, next row kind sc (p .ro
 
 module _ {tab : List ℕ} {s : Scope} {left row target k : ℕ} (kind : k ≡ kindIn tab (s .tokens) (row + 1)) where
   pub assigned-whole : (k ≡ 36 → ⊥) → {first : ℕ} → first ≡ wordAt tab 4 row → {r : Judged} → OperandPost tab s left first target r → AssignedPost tab s left row target r
-  unfolding Holds Matches nodes
+  unfolding Holds Matches covers
   assigned-whole other {first} e₄ f =
       record {
         whole = λ ts G Γ sc p x e h t c.
@@ -165,7 +165,7 @@ module _ {tab : List ℕ} {s : Scope} {left row : ℕ} {v : Judged} (f : NamePos
 module _ {tab : List ℕ} {s : Scope} {left row second : ℕ} (e₅ : second ≡ wordAt tab 5 row) {v : Judged} (f : StatementPost tab s left second v) where
   branch-settled : (ts : List Token) (G : List Class) (Γ : Context) → InScope tab ts G Γ s → (p : Place) (e : Expression) (a b : Statement)
       → PartAt tab ts row (left + 1) (conditional p e a b) → v ≡ settled (judge G Γ a)
-  unfolding Holds Matches nodes
+  unfolding Holds Matches covers
   branch-settled ts G Γ sc p e a b h =
       f .says ts G Γ sc a
       (rw e₅ (part-in 5 row (p .row) (h .at) (row-there (sc .world .tokens) (p .row) (h .matches .0 .there)) (h .holds .0 .second) (h .holds .3) (h .matches .2) (omega (arith, h .few))))
@@ -174,7 +174,7 @@ module _ {tab : List ℕ} {s : Scope} {left row second : ℕ} (e₅ : second ≡
   branches-first is = record { says = λ ts G Γ sc p e a b h. rw (stops (judge G Γ a) (λ _. judge G Γ b) (branch-settled ts G Γ sc p e a b h) is) }
 
   pub branches-second : {w : ℕ} → v ≡ Fine w → {third : ℕ} → third ≡ wordAt tab 7 row → {r : Judged} → StatementPost tab s left third r → BranchesPost tab s left row r
-  unfolding Holds Matches nodes
+  unfolding Holds Matches covers
   branches-second is e₇ g =
       record {
         says = λ ts G Γ sc p e a b h.
@@ -186,7 +186,7 @@ module _ {tab : List ℕ} {s : Scope} {left row second : ℕ} (e₅ : second ≡
 module _ {tab : List ℕ} {s : Scope} {left row first : ℕ} (e₄ : first ≡ wordAt tab 4 row) {v : Judged} (f : OperandPost tab s left first 2049 v) where
   if-test : (ts : List Token) (G : List Class) (Γ : Context) → InScope tab ts G Γ s → (p : Place) (e : Expression) (a b : Statement)
       → PartAt tab ts row (left + 1) (conditional p e a b) → v ≡ settled (judge G Γ e >>= λ u. must G e boolean u)
-  unfolding Holds Matches nodes
+  unfolding Holds Matches covers
   if-test ts G Γ sc p e a b h =
       f .says ts G Γ sc e
       (rw e₄ (part-in 4 row (p .row) (h .at) (row-there (sc .world .tokens) (p .row) (h .matches .0 .there)) (h .holds .0 .first) (h .holds .2) (h .matches .1) (omega (arith, h .few))))
@@ -207,7 +207,7 @@ module _ {tab : List ℕ} {s : Scope} {left row first : ℕ} (e₄ : first ≡ w
 
   while-test : (ts : List Token) (G : List Class) (Γ : Context) → InScope tab ts G Γ s → (p : Place) (e : Expression) (a : Statement)
       → PartAt tab ts row (left + 1) (loop p e a) → v ≡ settled (judge G Γ e >>= λ u. must G e boolean u)
-  unfolding Holds Matches nodes
+  unfolding Holds Matches covers
   while-test ts G Γ sc p e a h =
       f .says ts G Γ sc e
       (rw e₄ (part-in 4 row (p .row) (h .at) (row-there (sc .world .tokens) (p .row) (h .matches .0 .there)) (h .holds .0 .first) (h .holds .1) (h .matches .1) (omega (arith, h .few))))
@@ -218,7 +218,7 @@ module _ {tab : List ℕ} {s : Scope} {left row first : ℕ} (e₄ : first ≡ w
   loop-refused is = record { says = λ ts G Γ sc p e a h. rw (halts (judge G Γ e) (must G e boolean) (judge G Γ a) (while-test ts G Γ sc p e a h) is) }
 
   pub loop-body : {w : ℕ} → v ≡ Fine w → {second : ℕ} → second ≡ wordAt tab 5 row → {r : Judged} → StatementPost tab s left second r → LoopPost tab s left row r
-  unfolding judge Holds Matches nodes
+  unfolding judge Holds Matches covers
   loop-body is e₅ g =
       record {
         says = λ ts G Γ sc p e a h.
@@ -235,10 +235,10 @@ module _ {tab : List ℕ} {s : Scope} {left row : ℕ} where
 
   module _ (more : left ≡ 0 → ⊥) {k : ℕ} (kind : k ≡ kindIn tab (s .tokens) row) where
     pub statement-block : k ≡ 38 → {first : ℕ} → first ≡ wordAt tab 4 row → {r : Judged} → ListPost tab s (left - 1) first r → StatementPost tab s left row r
-    unfolding judge Holds Matches nodes
+    unfolding judge Holds Matches covers
     statement-block is e₄ {r} f = record { says = λ ts G Γ sc t h. go ts G Γ sc t (own row kind sc ∙ ap (kindAt ts) (sym (h .at))) (h .at) (h .holds) (h .matches) (h .few) }
       where
-        go : (ts : List Token) (G : List Class) (Γ : Context) → InScope tab ts G Γ s → (t : Statement) → k ≡ kindAt ts (rowOf t) → rowOf t ≡ row → Holds tab t → Matches ts t → nodes t ≤ left
+        go : (ts : List Token) (G : List Class) (Γ : Context) → InScope tab ts G Γ s → (t : Statement) → k ≡ kindAt ts (rowOf t) → rowOf t ≡ row → Holds tab t → Matches ts t → covers t ≤ left
             → r ≡ settled (judge G Γ t)
         go ts G Γ sc (block q ss) q′ at h m few = f .says ts G Γ sc ss (rw e₄ (part-in 4 row (q .row) at (row-there (sc .world .tokens) (q .row) (m .0 .there)) (h .0 .first) (h .1) (m .1) (omega arith)))
         go ts G Γ sc (conditional q e a b) q′ at h m few = absurd (omega (arith, q′, is, m .0 .is))
@@ -248,10 +248,10 @@ module _ {tab : List ℕ} {s : Scope} {left row : ℕ} where
         go ts G Γ sc (assignElement q x i e) q′ at h m few = absurd (omega (arith, q′, is, name-kind _ (m .0 .named)))
 
     pub statement-if : k ≡ 10 → {r : Judged} → ConditionalPost tab s (left - 1) row r → StatementPost tab s left row r
-    unfolding judge Holds Matches nodes
+    unfolding judge Holds Matches covers
     statement-if is {r} f = record { says = λ ts G Γ sc t h. go ts G Γ sc t (own row kind sc ∙ ap (kindAt ts) (sym (h .at))) (h .at) (h .holds) (h .matches) (h .few) }
       where
-        go : (ts : List Token) (G : List Class) (Γ : Context) → InScope tab ts G Γ s → (t : Statement) → k ≡ kindAt ts (rowOf t) → rowOf t ≡ row → Holds tab t → Matches ts t → nodes t ≤ left
+        go : (ts : List Token) (G : List Class) (Γ : Context) → InScope tab ts G Γ s → (t : Statement) → k ≡ kindAt ts (rowOf t) → rowOf t ≡ row → Holds tab t → Matches ts t → covers t ≤ left
             → r ≡ settled (judge G Γ t)
         go ts G Γ sc (block q ss) q′ at h m few = absurd (omega (arith, q′, is, m .0 .is))
         go ts G Γ sc (conditional q e a b) q′ at h m few = f .says ts G Γ sc q e a b (record { at = at; holds = h; matches = m; few = omega arith })
@@ -261,10 +261,10 @@ module _ {tab : List ℕ} {s : Scope} {left row : ℕ} where
         go ts G Γ sc (assignElement q x i e) q′ at h m few = absurd (omega (arith, q′, is, name-kind _ (m .0 .named)))
 
     pub statement-while : k ≡ 23 → {r : Judged} → LoopPost tab s (left - 1) row r → StatementPost tab s left row r
-    unfolding judge Holds Matches nodes
+    unfolding judge Holds Matches covers
     statement-while is {r} f = record { says = λ ts G Γ sc t h. go ts G Γ sc t (own row kind sc ∙ ap (kindAt ts) (sym (h .at))) (h .at) (h .holds) (h .matches) (h .few) }
       where
-        go : (ts : List Token) (G : List Class) (Γ : Context) → InScope tab ts G Γ s → (t : Statement) → k ≡ kindAt ts (rowOf t) → rowOf t ≡ row → Holds tab t → Matches ts t → nodes t ≤ left
+        go : (ts : List Token) (G : List Class) (Γ : Context) → InScope tab ts G Γ s → (t : Statement) → k ≡ kindAt ts (rowOf t) → rowOf t ≡ row → Holds tab t → Matches ts t → covers t ≤ left
             → r ≡ settled (judge G Γ t)
         go ts G Γ sc (block q ss) q′ at h m few = absurd (omega (arith, q′, is, m .0 .is))
         go ts G Γ sc (conditional q e a b) q′ at h m few = absurd (omega (arith, q′, is, m .0 .is))
@@ -274,10 +274,10 @@ module _ {tab : List ℕ} {s : Scope} {left row : ℕ} where
         go ts G Γ sc (assignElement q x i e) q′ at h m few = absurd (omega (arith, q′, is, name-kind _ (m .0 .named)))
 
     pub statement-print : k ≡ 19 → {first : ℕ} → first ≡ wordAt tab 4 row → {r : Judged} → OperandPost tab s (left - 1) first 2048 r → StatementPost tab s left row r
-    unfolding judge Holds Matches nodes
+    unfolding judge Holds Matches covers
     statement-print is e₄ {r} f = record { says = λ ts G Γ sc t h. go ts G Γ sc t (own row kind sc ∙ ap (kindAt ts) (sym (h .at))) (h .at) (h .holds) (h .matches) (h .few) }
       where
-        go : (ts : List Token) (G : List Class) (Γ : Context) → InScope tab ts G Γ s → (t : Statement) → k ≡ kindAt ts (rowOf t) → rowOf t ≡ row → Holds tab t → Matches ts t → nodes t ≤ left
+        go : (ts : List Token) (G : List Class) (Γ : Context) → InScope tab ts G Γ s → (t : Statement) → k ≡ kindAt ts (rowOf t) → rowOf t ≡ row → Holds tab t → Matches ts t → covers t ≤ left
             → r ≡ settled (judge G Γ t)
         go ts G Γ sc (block q ss) q′ at h m few = absurd (omega (arith, q′, is, m .0 .is))
         go ts G Γ sc (conditional q e a b) q′ at h m few = absurd (omega (arith, q′, is, m .0 .is))
@@ -287,10 +287,10 @@ module _ {tab : List ℕ} {s : Scope} {left row : ℕ} where
         go ts G Γ sc (assignElement q x i e) q′ at h m few = absurd (omega (arith, q′, is, name-kind _ (m .0 .named)))
 
     pub statement-assignment : (k ≡ 38 → ⊥) → (k ≡ 10 → ⊥) → (k ≡ 23 → ⊥) → (k ≡ 19 → ⊥) → {r : Judged} → AssignmentPost tab s (left - 1) row r → StatementPost tab s left row r
-    unfolding judge Holds Matches nodes
+    unfolding judge Holds Matches covers
     statement-assignment n₁ n₂ n₃ n₄ {r} f = record { says = λ ts G Γ sc t h. go ts G Γ sc t (own row kind sc ∙ ap (kindAt ts) (sym (h .at))) (h .at) (h .holds) (h .matches) (h .few) }
       where
-        go : (ts : List Token) (G : List Class) (Γ : Context) → InScope tab ts G Γ s → (t : Statement) → k ≡ kindAt ts (rowOf t) → rowOf t ≡ row → Holds tab t → Matches ts t → nodes t ≤ left
+        go : (ts : List Token) (G : List Class) (Γ : Context) → InScope tab ts G Γ s → (t : Statement) → k ≡ kindAt ts (rowOf t) → rowOf t ≡ row → Holds tab t → Matches ts t → covers t ≤ left
             → r ≡ settled (judge G Γ t)
         go ts G Γ sc (block q ss) q′ at h m few = absurd (n₁ (q′ ∙ m .0 .is))
         go ts G Γ sc (conditional q e a b) q′ at h m few = absurd (n₂ (q′ ∙ m .0 .is))
@@ -302,13 +302,13 @@ module _ {tab : List ℕ} {s : Scope} {left row : ℕ} where
 -- LISTS
 
 module _ {tab : List ℕ} {s : Scope} {left row : ℕ} where
-  pub list-none : left ≡ 0 → ListPost tab s left row (Fine 0)
-  unfolding judge nodes
-  list-none z = record { says = λ ts G Γ sc ss h. go G Γ ss (h .few) }
+  pub list-none : row < absent → left ≡ 0 → {n p : ℕ} → ListPost tab s left row (Refused n p)
+  unfolding covers
+  list-none near z = record { says = λ ts G Γ sc ss h. absurd (go ss (h .at) (h .few)) }
     where
-      go : (G : List Class) (Γ : Context) (ss : Part statements) → nodes ss ≤ left → Fine 0 ≡ settled (judge G Γ ss)
-      go G Γ noStatements few = refl
-      go G Γ (sequence t ss) few = absurd (omega (arith, positive t))
+      go : (ss : Part statements) → rowOf ss ≡ row → covers ss ≤ left → ⊥
+      go noStatements at few = omega (arith, at)
+      go (sequence t ss) at few = omega (arith, positive t)
 
   pub list-end : absent ≤ row → ListPost tab s left row (Fine 0)
   unfolding judge Matches
@@ -320,20 +320,20 @@ module _ {tab : List ℕ} {s : Scope} {left row : ℕ} where
 
   module _ (near : row < absent) {v : Judged} (f : StatementPost tab s left row v) where
     pub list-refused : {n p : ℕ} → v ≡ Refused n p → ListPost tab s left row (Refused n p)
-    unfolding judge Holds Matches nodes
+    unfolding judge Holds Matches covers
     list-refused {n} {p} is = record { says = λ ts G Γ sc ss h. go ts G Γ sc ss (h .at) (h .holds) (h .matches) (h .few) }
       where
-        go : (ts : List Token) (G : List Class) (Γ : Context) → InScope tab ts G Γ s → (ss : Part statements) → rowOf ss ≡ row → Holds tab ss → Matches ts ss → nodes ss ≤ left
+        go : (ts : List Token) (G : List Class) (Γ : Context) → InScope tab ts G Γ s → (ss : Part statements) → rowOf ss ≡ row → Holds tab ss → Matches ts ss → covers ss ≤ left
             → Refused n p ≡ settled (judge G Γ ss)
         go ts G Γ sc noStatements at h m few = absurd (omega (arith, at))
         go ts G Γ sc (sequence t ss) at h m few =
             rw (stops (judge G Γ t) (λ _. judge G Γ ss) (f .says ts G Γ sc t (record { at = at; holds = h .0; matches = m .0; few = omega arith })) is)
 
     pub list-next : {w : ℕ} → v ≡ Fine w → {after : ℕ} → after ≡ wordAt tab 6 row → {r : Judged} → ListPost tab s (left - 1) after r → ListPost tab s left row r
-    unfolding judge Holds Matches nodes
+    unfolding judge Holds Matches covers
     list-next is {after} e₆ {r} g = record { says = λ ts G Γ sc ss h. go ts G Γ sc ss (h .at) (h .holds) (h .matches) (h .few) }
       where
-        go : (ts : List Token) (G : List Class) (Γ : Context) → InScope tab ts G Γ s → (ss : Part statements) → rowOf ss ≡ row → Holds tab ss → Matches ts ss → nodes ss ≤ left → r ≡ settled (judge G Γ ss)
+        go : (ts : List Token) (G : List Class) (Γ : Context) → InScope tab ts G Γ s → (ss : Part statements) → rowOf ss ≡ row → Holds tab ss → Matches ts ss → covers ss ≤ left → r ≡ settled (judge G Γ ss)
         go ts G Γ sc noStatements at h m few = absurd (omega (arith, at))
         go ts G Γ sc (sequence t ss) at h m few =
             rw (goes-on (judge G Γ t) (λ _. judge G Γ ss) (f .says ts G Γ sc t (record { at = at; holds = h .0; matches = m .0; few = omega arith })) is)

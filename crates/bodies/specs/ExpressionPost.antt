@@ -76,7 +76,7 @@ module _ (tab : List ℕ) (s : Scope) where
 
 -- `new C()`, in a table of n tokens
 pub record ObjectPost (tab : List ℕ) (n row : ℕ) (r : Judged) : Type 0 where
-  pub says : (s : Scope) → s .tokens ≡ n → (ts : List Token) (G : List Class) (Γ : Context) → InScope tab ts G Γ s → (p : Place) (c : Name) → PartAt tab ts row 1 (newObject p c)
+  pub says : (s : Scope) → s .tokens ≡ n → (ts : List Token) (G : List Class) (Γ : Context) → InScope tab ts G Γ s → (p : Place) (c : Name) (left : ℕ) → PartAt tab ts row left (newObject p c)
       → Judges ts (judge G Γ (newObject p c)) r
 
 pub record SameCount (tab : List ℕ) (left a p : ℕ) (r : Bool) : Type 0 where

@@ -7,7 +7,7 @@ use lib.ListN.{length}
 use Rattle.lexer.specs.Tokens.{Token}
 use Rattle.parser.specs.Tree.{Sort, Part, Variable, Class}
 use Rattle.parser.specs.Layout.{rowOf}
-use Rattle.parser.specs.Measure.{nodes}
+use Rattle.reader.specs.Counting.{covers}
 use Rattle.reader.specs.Holds.{Holds}
 use Rattle.reader.specs.Matches.{Matches}
 use Rattle.reader.specs.WalkPost.{Walkable}
@@ -32,12 +32,12 @@ pub record InScope (tab : List ℕ) (ts : List Token) (G : List Class) (Γ : Con
   pub given-listed : ListedAt tab (s .tokens) ts (s .parameters) given
   pub own-listed : ListedAt tab (s .tokens) ts (s .locals) own
 
--- a part lies in a row, and no more than `left` tokens are its nodes'
+-- a part lies in a row, and covers at most `left` tokens
 pub record PartAt (tab : List ℕ) (ts : List Token) (row left : ℕ) {s : Sort} (t : Part s) : Type 0 where
   pub at : rowOf t ≡ row
   pub holds : Holds tab t
   pub matches : Matches ts t
-  pub few : nodes t ≤ left
+  pub few : covers t ≤ left
 
 -- the type of what a name means, by number
 pub data Means (ts : List Token) : Option Meaning → ℕ → Type 0 where

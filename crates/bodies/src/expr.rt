@@ -1,6 +1,7 @@
-// Expressions are judged in a cycle: an expression, its parts, the arguments of a call. `left` is how many tokens may still be covered by nodes.
+// Expressions are judged in a cycle: an expression, its parts, the arguments of a call. `left` is how many tokens may still be covered: a part covers fewer than its whole.
 use crate::scope::Scope;
 use crate::scope::name_type;
+use lookup::answer::BROKEN;
 use lookup::answer::Judged;
 use lookup::chain::fits;
 use lookup::rows::ABSENT;
@@ -82,13 +83,13 @@ fn same_count(table: &[u32], left: usize, a: usize, p: usize) -> bool
     requires { ⌜ 16384 ≤ length (now table) ⌝ }
     ensures { λ r. ⌜ SameCount (now (table .entry)) left a p r ⌝ }
 {
-    if left == 0 {
-        return true;
-    }
     if ABSENT <= a {
         return ABSENT <= p;
     }
     if ABSENT <= p {
+        return false;
+    }
+    if left == 0 {
         return false;
     }
     same_count(table, left - 1, word(table, 6, a), word(table, 6, p))
@@ -100,7 +101,7 @@ pub fn expression(table: &[u32], index: &[u32], s: Scope, left: usize, row: usiz
     ensures { λ r. ⌜ ExpressionPost (now (table .entry)) s left row r ⌝ }
 {
     if left == 0 {
-        return Judged::Refused(0, 0);
+        return Judged::Refused(BROKEN, 0);
     }
     let k = kind(table, s.tokens, row);
     if is_atom(k) {
@@ -282,11 +283,11 @@ fn arguments(
     requires { ⌜ Judgeable (now table) (now index) s × (row < 4294967296) × (left ≤ s .tokens) ⌝ }
     ensures { λ r. ⌜ ArgumentsPost (now (table .entry)) s left row parameter r ⌝ }
 {
-    if left == 0 {
-        return Judged::Fine(0);
-    }
     if ABSENT <= row {
         return Judged::Fine(0);
+    }
+    if left == 0 {
+        return Judged::Refused(BROKEN, 0);
     }
     let want = type_of(table, s.tokens, word(table, 3, parameter));
     let a = operand(table, index, s, left, row, want);

@@ -2,6 +2,7 @@
 use crate::expr::name;
 use crate::expr::operand;
 use crate::scope::Scope;
+use lookup::answer::BROKEN;
 use lookup::answer::Judged;
 use lookup::chain::fits;
 use lookup::rows::ABSENT;
@@ -59,7 +60,7 @@ pub fn single(table: &[u32], index: &[u32], s: Scope, left: usize, row: usize) -
     ensures { λ r. ⌜ StatementPost (now (table .entry)) s left row r ⌝ }
 {
     if left == 0 {
-        return Judged::Refused(0, 0);
+        return Judged::Refused(BROKEN, 0);
     }
     let k = kind(table, s.tokens, row);
     if k == kinds::OPEN_BRACE {
@@ -118,11 +119,11 @@ pub fn list(table: &[u32], index: &[u32], s: Scope, left: usize, row: usize) -> 
     requires { ⌜ Judgeable (now table) (now index) s × (row < 4294967296) × (left ≤ s .tokens) ⌝ }
     ensures { λ r. ⌜ ListPost (now (table .entry)) s left row r ⌝ }
 {
-    if left == 0 {
-        return Judged::Fine(0);
-    }
     if ABSENT <= row {
         return Judged::Fine(0);
+    }
+    if left == 0 {
+        return Judged::Refused(BROKEN, 0);
     }
     let a = single(table, index, s, left, row);
     match a {

@@ -15,7 +15,7 @@ use Rattle.base.specs.Outcome.{Outcome, accepted, refused, _>>=_}
 use Rattle.base.specs.Table.{col}
 use Rattle.lexer.specs.Tokens.{Token}
 use Rattle.parser.specs.Tree.{Name, Class}
-use Rattle.parser.specs.Layout.{rowParent}
+use Rattle.parser.specs.Layout.{rowParent, rowClasses}
 use Rattle.reader.specs.Matches.{ParentMatches}
 use Rattle.checker.specs.ClassTable.{classNamed}
 use Rattle.checker.specs.Declarations.{knownParent, knownParents, fields, heads, declarations}
@@ -23,7 +23,7 @@ use Rattle.typing.specs.Choices.{bind-assoc}
 use Rattle.lookup.specs.declared.answer.Judged.{Judged}
 use Rattle.lookup.specs.declared.answer.Judged.the-variants.{Fine, Refused}
 use Rattle.lookup.specs.Standing.{absent, wordAt, Lexemes, Spells, a-name, ClassStands, ClassesStand, more-classes, World}
-use Rattle.lookup.specs.StandingLaws.{word-in, start-word, name-word, row-there, ClassAt, no-class, a-class, class-at}
+use Rattle.lookup.specs.StandingLaws.{word-in, start-word, name-word, row-there, ClassAt, no-class, a-class, class-at, none-left}
 use Rattle.lookup.specs.Lookups.{Above}
 use Rattle.lookup.specs.Answers.{settled, goes-on, stops}
 use Rattle.declarations.specs.Marking.{Below}
@@ -91,13 +91,8 @@ known-class none start e = absurd (false≢true e)
 known-class (some k) start e = refl
 
 module _ {tab : List ℕ} {left row : ℕ} where
-  pub parents-none-left : left ≡ 0 → ParentsJudged tab left row (Fine 0)
-  unfolding knownParents
-  parents-none-left e = record { says = λ n ts G w ks a. go G ks (a .few) }
-    where
-      go : (G ks : List Class) → length ks ≤ left → Fine 0 ≡ settled (knownParents G ks)
-      go G [] few = refl
-      go G (k ∷ ks) few = absurd (omega arith)
+  pub parents-none-left : row < absent → left ≡ 0 → {number p : ℕ} → ParentsJudged tab left row (Refused number p)
+  parents-none-left near e = record { says = λ n ts G w ks a. absurd (none-left rowClasses refl ks (a .here) (a .few) near e) }
 
   pub parents-absent : absent ≤ row → ParentsJudged tab left row (Fine 0)
   unfolding knownParents
@@ -175,13 +170,8 @@ unfolding declarations
 declarations-more G k ks = bind-assoc (fields G [] (k .fields)) (λ _. heads G k [] (k .methods)) (λ _. declarations G ks)
 
 module _ {tab : List ℕ} {n classes left row : ℕ} where
-  pub declarations-none-left : left ≡ 0 → DeclarationsJudged tab n classes left row (Fine 0)
-  unfolding declarations
-  declarations-none-left e = record { says = λ ts G w l ks a own. go G ks (a .few) }
-    where
-      go : (G ks : List Class) → length ks ≤ left → Fine 0 ≡ settled (declarations G ks)
-      go G [] few = refl
-      go G (k ∷ ks) few = absurd (omega arith)
+  pub declarations-none-left : row < absent → left ≡ 0 → {number p : ℕ} → DeclarationsJudged tab n classes left row (Refused number p)
+  declarations-none-left near e = record { says = λ ts G w l ks a own. absurd (none-left rowClasses refl ks (a .here) (a .few) near e) }
 
   pub declarations-absent : absent ≤ row → DeclarationsJudged tab n classes left row (Fine 0)
   unfolding declarations

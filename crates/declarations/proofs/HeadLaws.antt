@@ -14,7 +14,7 @@ use Rattle.base.specs.Outcome.{Outcome, accepted, refused, _>>=_}
 use Rattle.base.specs.Tests.{apart}
 use Rattle.lexer.specs.Tokens.{Token}
 use Rattle.parser.specs.Tree.{Variable, Method, Class}
-use Rattle.parser.specs.Layout.{rowVariables}
+use Rattle.parser.specs.Layout.{rowVariables, rowMethods}
 use Rattle.checker.specs.ClassTable.{Found, classNamed, chain, nearestMethod}
 use Rattle.checker.specs.Declarations.{knownType, variables, sameTypes, redeclares, redeclaration, newMethod, heads}
 use Rattle.checker.specs.Typing.{methodName}
@@ -22,7 +22,7 @@ use Rattle.typing.specs.Choices.{none-some}
 use Rattle.lookup.specs.declared.answer.Judged.{Judged}
 use Rattle.lookup.specs.declared.answer.Judged.the-variants.{Fine, Refused}
 use Rattle.lookup.specs.Standing.{absent, wordAt, Lexemes, Spells, Codes, VariablesStand, no-variables, MethodStands, World, chainFrom, parentName}
-use Rattle.lookup.specs.StandingLaws.{word-in, row-there, same-codes, other-codes}
+use Rattle.lookup.specs.StandingLaws.{word-in, row-there, same-codes, other-codes, none-left}
 use Rattle.lookup.specs.ChainLaws.{chain-some, found-stands}
 use Rattle.lookup.specs.Lookups.{TypeOf, Fits, rowFound, FindsMethod}
 use Rattle.lookup.specs.Answers.{settled, goes-on, stops}
@@ -41,14 +41,8 @@ type-code : {tab : List ℕ} {n : ℕ} {ts : List Token} → Lexemes tab n ts �
 type-code {ts = ts} lx {v} d e₃ h = h .says ts lx (v .type) (sym (d .type) ∙ sym e₃) (d .matches .type)
 
 module _ {tab : List ℕ} {n left a b : ℕ} where
-  pub types-none-left : left ≡ 0 → TypesCompared tab n left a b true
-  unfolding sameTypes
-  types-none-left e = record { says = λ ts lx vs ws d s f r few few′. go vs ws few few′ }
-    where
-      go : (vs ws : List Variable) → length vs ≤ left → length ws ≤ left → true ≡ sameTypes vs ws
-      go [] [] few few′ = refl
-      go [] (w ∷ ws) few few′ = absurd (omega arith)
-      go (v ∷ vs) ws few few′ = absurd (omega arith)
+  pub types-none-left : a < absent → left ≡ 0 → TypesCompared tab n left a b false
+  types-none-left near e = record { says = λ ts lx vs ws d s f r few few′. absurd (none-left rowVariables refl vs d few near e) }
 
   pub types-first-ends : absent ≤ a → TypesCompared tab n left a b (leb absent b)
   unfolding sameTypes
@@ -287,13 +281,8 @@ heads-rest lx a e₆ marked =
     record { here = sym (f .next) ∙ sym e₆; stand = f .rest; few = omega (arith, a .few); marked = marked }
 
 module _ {tab : List ℕ} {n classes left parent stamp row : ℕ} {before : List ℕ} where
-  pub heads-none-left : left ≡ 0 → HeadsJudged tab n classes left parent stamp row before before (Fine 0)
-  unfolding heads
-  heads-none-left e = record { below = λ bound high b. b; says = λ ts G w l k p earlier ms a. go G k earlier ms (a .few) }
-    where
-      go : (G : List Class) (k : Class) (earlier : List (List ℕ)) (ms : List Method) → length ms ≤ left → Fine 0 ≡ settled (heads G k earlier ms)
-      go G k earlier [] few = refl
-      go G k earlier (m ∷ ms) few = absurd (omega arith)
+  pub heads-none-left : row < absent → left ≡ 0 → {number p : ℕ} → HeadsJudged tab n classes left parent stamp row before before (Refused number p)
+  heads-none-left near e = record { below = λ bound high b. b; says = λ ts G w l k p earlier ms a. absurd (none-left rowMethods refl ms (a .here) (a .few) near e) }
 
   pub heads-absent : absent ≤ row → HeadsJudged tab n classes left parent stamp row before before (Fine 0)
   unfolding heads

@@ -14,12 +14,13 @@ use borrow.Author.Tests.{le-leb, lt-leb, leb-true, leb-false}
 use Rattle.base.specs.Choice.{option}
 use Rattle.lexer.specs.Tokens.{Token}
 use Rattle.parser.specs.Tree.{Name, Class}
+use Rattle.parser.specs.Layout.{rowClasses}
 use Rattle.checker.specs.ClassTable.{classNamed, endsWithin}
 use Rattle.checker.specs.Declarations.{endingChains}
 use Rattle.lookup.specs.declared.answer.Judged.{Judged}
 use Rattle.lookup.specs.declared.answer.Judged.the-variants.{Fine, Refused}
 use Rattle.lookup.specs.Standing.{absent, wordAt, Lexemes, Spells, Numbers, no-name, a-name, ClassStands, World, parentName}
-use Rattle.lookup.specs.StandingLaws.{start-word, name-word, row-there, ClassAt, no-class, a-class, class-at}
+use Rattle.lookup.specs.StandingLaws.{start-word, name-word, row-there, ClassAt, no-class, a-class, class-at, none-left}
 use Rattle.lookup.specs.Lookups.{Above}
 use Rattle.lookup.specs.Answers.{settled}
 use Rattle.declarations.specs.Judgements.{ClassesAt, ChainsJudged}
@@ -166,13 +167,8 @@ class-number : {tab : List ℕ} {n : ℕ} {ts : List Token} → Lexemes tab n ts
 class-number {tab} {ts = ts} lx k at s e₂ = subst (Spells ts (k .name .text)) (ap (wordAt tab 2) at ∙ sym e₂) (name-word lx (k .name .row) (s .named .token))
 
 module _ {tab : List ℕ} {classes left row : ℕ} where
-  pub chains-none-left : left ≡ 0 → ChainsJudged tab classes left row (Fine 0)
-  unfolding endingChains
-  chains-none-left e = record { says = λ n ts G w l ks a. go G ks (a .few) }
-    where
-      go : (G ks : List Class) → length ks ≤ left → Fine 0 ≡ settled (endingChains G ks)
-      go G [] few = refl
-      go G (k ∷ ks) few = absurd (omega arith)
+  pub chains-none-left : row < absent → left ≡ 0 → {number p : ℕ} → ChainsJudged tab classes left row (Refused number p)
+  chains-none-left near e = record { says = λ n ts G w l ks a. absurd (none-left rowClasses refl ks (a .here) (a .few) near e) }
 
   pub chains-absent : absent ≤ row → ChainsJudged tab classes left row (Fine 0)
   unfolding endingChains

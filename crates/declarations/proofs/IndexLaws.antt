@@ -40,7 +40,7 @@ use Rattle.typing.specs.Programs.{names-sound, class-found}
 use Rattle.lookup.specs.declared.answer.Judged.{Judged}
 use Rattle.lookup.specs.declared.answer.Judged.the-variants.{Fine, Refused}
 use Rattle.lookup.specs.Standing.{absent, wordAt, Lexemes, Spells, Indexed, rowClass}
-use Rattle.lookup.specs.StandingLaws.{word-in, start-word, name-word, name-kind, row-there, one-name, same-names, other-names}
+use Rattle.lookup.specs.StandingLaws.{word-in, start-word, name-word, name-kind, row-there, one-name, same-names, other-names, none-left}
 use Rattle.lookup.specs.Answers.{settled}
 use Rattle.declarations.specs.Earlier.{onto}
 use Rattle.declarations.specs.Indexing.{wiped, cleared, entered, Named, none-named, more-named, Kept, Shown, EntriesMade, Ready, IndexMade}
@@ -247,14 +247,8 @@ index-none none e h f = refl
 index-none (some k) e h f = absurd (omega (arith, e, f k refl))
 
 module _ {tab : List ℕ} {main left row : ℕ} where
-  pub entries-none-left : left ≡ 0 → EntriesMade main left row tab (Fine 0) tab
-  unfolding distinctClasses
-  entries-none-left e = record { says = λ n ts lx top t js h ks d named few. go ts (onto (top ∷ []) (map className js)) js h ks few }
-    where
-      go : (ts : List Token) (earlier : List (List ℕ)) (js : List Class) → Shown tab ts js → (ks : List Class) → length ks ≤ left
-          → (Fine 0 ≡ settled (distinctClasses earlier ks)) × (distinctClasses earlier ks ≡ accepted tt → Kept ts tab tab × Indexed tab ts (js ++ ks))
-      go ts earlier js h [] few = (refl, λ _. (kept-same, subst (Indexed tab ts) (sym (append-nil js)) (h .index)))
-      go ts earlier js h (k ∷ ks) few = absurd (omega arith)
+  pub entries-none-left : row < absent → left ≡ 0 → {number p : ℕ} → EntriesMade main left row tab (Refused number p) tab
+  entries-none-left near e = record { says = λ n ts lx top t js h ks d named few. absurd (none-left rowClasses refl ks d few near e) }
 
   pub entries-absent : absent ≤ row → EntriesMade main left row tab (Fine 0) tab
   unfolding distinctClasses
@@ -398,7 +392,7 @@ module _ {n : ℕ} {before : List ℕ} (rd : Reading) (f : Filling before rd) (c
         own = class-found (p .classes) (distinct-rest (names-sound (p .main .text) (p .classes) d));
         statement = h .statement;
         matches = match .statement;
-        nodes = omega (arith, count, facts .few-nodes);
+        statement-covers = omega (arith, count, facts .covered);
         row = facts .row;
       }
 

@@ -7,12 +7,11 @@ use lib.ListN.{length}
 use Rattle.lexer.specs.Tokens.{Token}
 use Rattle.parser.specs.Tree.{Sort.statement, Variable, Method, Class, Program}
 use Rattle.parser.specs.Layout.{rowOf}
-use Rattle.parser.specs.Measure.{nodes}
 use Rattle.parser.specs.Grammar.{DerivesMethod, DerivesMethods, DerivesClass, DerivesClasses, DerivesProgram}
 use Rattle.parser.specs.Grammar.{DerivesMethod.a-method, DerivesMethods.no-method, DerivesMethods.more-methods, DerivesClass.a-class-declaration, DerivesClasses.no-class, DerivesClasses.more-classes, DerivesProgram.a-program}
 use Rattle.reader.specs.Order.{first-row}
 use Rattle.reader.specs.Stored.{parent-order}
-use Rattle.reader.specs.Counting.{tree-nodes}
+use Rattle.reader.specs.Counting.{covers, tree-covers}
 use Rattle.reader.specs.Holds.{HoldsVariables, HoldsMethod, HoldsMethods, HoldsClass, HoldsClasses}
 use Rattle.reader.specs.Matches.{VariablesMatch, MethodMatches, MethodsMatch, ClassMatches, ClassesMatch}
 use Rattle.lookup.specs.Standing.{VariablesStand, MethodStands, MethodsStand, ClassStands, ClassesStand}
@@ -37,14 +36,14 @@ module _ {tab : List ℕ} {n : ℕ} {ts : List Token} where
         return = h .return;
         parameters = variables-stand ps (m .parameters) (h .parameters);
         locals = variables-stand ls (m .locals) (h .locals);
-        few-parameters = omega (arith, head-count head, formals-count fs, variables-count vs, tree-nodes ss, tree-nodes v);
-        few-locals = omega (arith, head-count head, formals-count fs, variables-count vs, tree-nodes ss, tree-nodes v);
+        few-parameters = omega (arith, head-count head, formals-count fs, variables-count vs, tree-covers ss, tree-covers v);
+        few-locals = omega (arith, head-count head, formals-count fs, variables-count vs, tree-covers ss, tree-covers v);
         body = h .body;
         body-matches = m .body;
-        body-nodes = omega (arith, head-count head, formals-count fs, variables-count vs, tree-nodes ss, tree-nodes v);
+        body-covers = omega (arith, head-count head, formals-count fs, variables-count vs, tree-covers ss, tree-covers v);
         value = h .value;
         value-matches = m .value;
-        value-nodes = omega (arith, head-count head, formals-count fs, variables-count vs, tree-nodes ss, tree-nodes v);
+        value-covers = omega (arith, head-count head, formals-count fs, variables-count vs, tree-covers ss, tree-covers v);
       }
 
   methods-stand : {i j : ℕ} {ms : List Method} → DerivesMethods ts i j ms → j ≤ n → MethodsMatch ts ms → HoldsMethods tab ms → MethodsStand tab n ts ms
@@ -77,7 +76,7 @@ module _ {tab : List ℕ} {n : ℕ} {ts : List Token} where
 pub record Derived (ts : List Token) (p : Program) : Type 0 where
   pub main : p .main .row ≡ 1
   pub row : rowOf (p .statement) ≡ 14
-  pub few-nodes : nodes (p .statement) ≤ length ts
+  pub covered : covers (p .statement) ≤ length ts
   pub few-classes : length (p .classes) ≤ length ts
   pub from : ℕ
   pub classes : DerivesClasses ts from (length ts) (p .classes)
@@ -86,7 +85,7 @@ pub derived : {ts : List Token} {p : Program} → DerivesProgram ts p → Derive
 derived (a-program {j = j} _ d _ _ cs) = record {
   main = refl;
   row = first-row d;
-  few-nodes = omega (arith, tree-nodes d, classes-count cs);
+  covered = omega (arith, tree-covers d, classes-count cs);
   few-classes = omega (arith, classes-count cs);
   from = j + 2;
   classes = cs;

@@ -12,11 +12,13 @@ use Rattle.base.specs.Codes.{variablesMost}
 use Rattle.base.specs.Outcome.{Outcome, accepted, refused, _>>=_}
 use Rattle.lexer.specs.Tokens.{Token}
 use Rattle.parser.specs.Tree.{Variable, Class}
+use Rattle.parser.specs.Layout.{rowVariables}
 use Rattle.checker.specs.ClassTable.{known}
 use Rattle.checker.specs.Declarations.{occurs, textOf, knownType, fields, variables}
 use Rattle.lookup.specs.declared.answer.Judged.{Judged}
 use Rattle.lookup.specs.declared.answer.Judged.the-variants.{Fine, Refused}
 use Rattle.lookup.specs.Standing.{absent, wordAt, Lexemes, Spells, World}
+use Rattle.lookup.specs.StandingLaws.{none-left}
 use Rattle.lookup.specs.Lookups.{TypeOf, Knows, Repeated}
 use Rattle.lookup.specs.Answers.{settled, goes-on, stops}
 use Rattle.declarations.specs.Marking.{Marked, MarkPost}
@@ -50,13 +52,8 @@ fields-rest lx a e₆ m =
     record { here = sym (f .next) ∙ sym e₆; stand = f .rest; few = omega (arith, a .few); marked = m }
 
 module _ {tab : List ℕ} {n left stamp row : ℕ} {before : List ℕ} where
-  pub fields-none-left : left ≡ 0 → FieldsJudged tab n left stamp row before before (Fine 0)
-  unfolding fields
-  fields-none-left e = record { below = λ bound high b. b; says = λ ts G w earlier vs a. go G earlier vs (a .few) }
-    where
-      go : (G : List Class) (earlier : List (List ℕ)) (vs : List Variable) → length vs ≤ left → Fine 0 ≡ settled (fields G earlier vs)
-      go G earlier [] few = refl
-      go G earlier (v ∷ vs) few = absurd (omega arith)
+  pub fields-none-left : row < absent → left ≡ 0 → {number p : ℕ} → FieldsJudged tab n left stamp row before before (Refused number p)
+  fields-none-left near e = record { below = λ bound high b. b; says = λ ts G w earlier vs a. absurd (none-left rowVariables refl vs (a .here) (a .few) near e) }
 
   pub fields-absent : absent ≤ row → FieldsJudged tab n left stamp row before before (Fine 0)
   unfolding fields
@@ -208,13 +205,8 @@ variables-more G earlier v vs =
     tests-then (knownType G (v .type)) (occurs (textOf v) earlier) (ltb (length earlier) variablesMost) (v .name .start) (variables G (textOf v ∷ earlier) vs)
 
 module _ {tab : List ℕ} {n left others before first index row : ℕ} where
-  pub variables-none-left : left ≡ 0 → VariablesJudged tab n left others before first index row (Fine 0)
-  unfolding variables
-  variables-none-left e = record { says = λ ts G w ps l us vs a few. go G (onto (map textOf ps) (map textOf us)) vs few }
-    where
-      go : (G : List Class) (earlier : List (List ℕ)) (vs : List Variable) → length vs ≤ left → Fine 0 ≡ settled (variables G earlier vs)
-      go G earlier [] few = refl
-      go G earlier (v ∷ vs) few = absurd (omega arith)
+  pub variables-none-left : row < absent → left ≡ 0 → {number p : ℕ} → VariablesJudged tab n left others before first index row (Refused number p)
+  variables-none-left near e = record { says = λ ts G w ps l us vs a few. absurd (none-left rowVariables refl vs (a .here) few near e) }
 
   pub variables-absent : absent ≤ row → VariablesJudged tab n left others before first index row (Fine 0)
   unfolding variables

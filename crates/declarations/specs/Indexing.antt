@@ -14,7 +14,7 @@ use Rattle.lexer.specs.Tokens.{Token}
 use Rattle.parser.specs.Tree.{Class, Program}
 use Rattle.parser.specs.Stream.{kindAt}
 use Rattle.parser.specs.Layout.{rowOf, rowClasses}
-use Rattle.parser.specs.Measure.{nodes}
+use Rattle.reader.specs.Counting.{covers}
 use Rattle.parser.specs.Read.{Reading}
 use Rattle.reader.specs.Holds.{Holds}
 use Rattle.reader.specs.Matches.{NameMatches, Matches}
@@ -75,7 +75,7 @@ pub record Ready (tab : List ℕ) (n : ℕ) (ts : List Token) (p : Program) : Ty
   pub own : Own (p .classes) (p .classes)
   pub statement : Holds tab (p .statement)
   pub matches : Matches ts (p .statement)
-  pub nodes : nodes (p .statement) ≤ n
+  pub statement-covers : covers (p .statement) ≤ n
   pub row : rowOf (p .statement) ≡ 14
 
 -- 20, and where that accepts, the table is ready

@@ -2,6 +2,7 @@
 use crate::heads::heads;
 use crate::heights::height;
 use crate::variables::fields;
+use lookup::answer::BROKEN;
 use lookup::answer::Judged;
 use lookup::chain::above;
 use lookup::rows::ABSENT;
@@ -31,11 +32,11 @@ pub fn parents(table: &[u32], left: usize, row: usize) -> Judged
     requires { ⌜ 16384 ≤ length (now table) ⌝ }
     ensures { λ r. ⌜ ParentsJudged (now (table .entry)) left row r ⌝ }
 {
-    if left == 0 {
-        return Judged::Fine(0);
-    }
     if ABSENT <= row {
         return Judged::Fine(0);
+    }
+    if left == 0 {
+        return Judged::Refused(BROKEN, 0);
     }
     if is_orphan(table, row) {
         return Judged::Refused(21, word(table, 1, word(table, 3, row)));
@@ -48,11 +49,11 @@ pub fn chains(table: &[u32], heights: &mut [u32], classes: usize, left: usize, r
     requires { ⌜ (16384 ≤ length (now table)) × (2048 ≤ length (now heights)) × (classes ≤ 2048) × HeightsRight (now table) (now heights) ⌝ }
     ensures { λ r. ⌜ ChainsJudged (now (table .entry)) classes left row r ⌝ }
 {
-    if left == 0 {
-        return Judged::Fine(0);
-    }
     if ABSENT <= row {
         return Judged::Fine(0);
+    }
+    if left == 0 {
+        return Judged::Refused(BROKEN, 0);
     }
     if height(table, heights, classes, word(table, 2, row)) == 0 {
         return Judged::Refused(22, word(table, 1, row));
@@ -110,11 +111,11 @@ pub fn declarations(
         × (stamp + 2 * left ≤ 4098) ⌝ }
     ensures { λ r. ⌜ DeclarationsJudged (now (table .entry)) n classes left row r ⌝ }
 {
-    if left == 0 {
-        return Judged::Fine(0);
-    }
     if ABSENT <= row {
         return Judged::Fine(0);
+    }
+    if left == 0 {
+        return Judged::Refused(BROKEN, 0);
     }
     let m = members(table, index, marks, n, classes, stamp, row);
     match m {

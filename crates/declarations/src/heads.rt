@@ -2,6 +2,7 @@
 use crate::marks::mark;
 use crate::variables::is_known;
 use crate::variables::variables;
+use lookup::answer::BROKEN;
 use lookup::answer::Judged;
 use lookup::chain::fits;
 use lookup::rows::ABSENT;
@@ -19,13 +20,13 @@ fn same_types(table: &[u32], n: usize, left: usize, a: usize, b: usize) -> bool
     requires { ⌜ Walkable (now table) n ⌝ }
     ensures { λ r. ⌜ TypesCompared (now (table .entry)) n left a b r ⌝ }
 {
-    if left == 0 {
-        return true;
-    }
     if ABSENT <= a {
         return ABSENT <= b;
     }
     if ABSENT <= b {
+        return false;
+    }
+    if left == 0 {
         return false;
     }
     if type_of(table, n, word(table, 3, a)) == type_of(table, n, word(table, 3, b)) {
@@ -138,11 +139,11 @@ pub fn heads(
     requires { ⌜ Walkable (now table) n × MembersIndexed (now table) n (now index) × (2048 ≤ length (now marks)) ⌝ }
     ensures { λ r. ⌜ HeadsJudged (now (table .entry)) n classes left parent stamp row (now (marks .entry)) (now (marks .exit)) r ⌝ }
 {
-    if left == 0 {
-        return Judged::Fine(0);
-    }
     if ABSENT <= row {
         return Judged::Fine(0);
+    }
+    if left == 0 {
+        return Judged::Refused(BROKEN, 0);
     }
     let h = head(table, index, marks, n, classes, parent, stamp, row);
     match h {

@@ -1,4 +1,5 @@
 // The index of the classes: column 7 of the row that is the number of a name leads to the class of that name.
+use lookup::answer::BROKEN;
 use lookup::answer::Judged;
 use lookup::rows::ABSENT;
 use lookup::rows::word;
@@ -46,11 +47,11 @@ fn entries(table: &mut [u32], main: usize, left: usize, row: usize) -> Judged
     requires { ⌜ 16384 ≤ length (now table) ⌝ }
     ensures { λ r. ⌜ EntriesMade main left row (now (table .entry)) r (now (table .exit)) ⌝ }
 {
-    if left == 0 {
-        return Judged::Fine(0);
-    }
     if ABSENT <= row {
         return Judged::Fine(0);
+    }
+    if left == 0 {
+        return Judged::Refused(BROKEN, 0);
     }
     let x = word(table, 2, row);
     if x == main {

@@ -1,6 +1,7 @@
 // Fields, parameters and locals: each has a known type and a new name. A list of parameters or locals begins at `first`, and `index` of its members stand
 // before `row`.
 use crate::marks::mark;
+use lookup::answer::BROKEN;
 use lookup::answer::Judged;
 use lookup::member::repeated;
 use lookup::rows::ABSENT;
@@ -35,11 +36,11 @@ pub fn fields(
     requires { ⌜ Walkable (now table) n × (2048 ≤ length (now marks)) ⌝ }
     ensures { λ r. ⌜ FieldsJudged (now (table .entry)) n left stamp row (now (marks .entry)) (now (marks .exit)) r ⌝ }
 {
-    if left == 0 {
-        return Judged::Fine(0);
-    }
     if ABSENT <= row {
         return Judged::Fine(0);
+    }
+    if left == 0 {
+        return Judged::Refused(BROKEN, 0);
     }
     let t = word(table, 3, row);
     if is_known(table, n, t) {
@@ -95,11 +96,11 @@ pub fn variables(
     requires { ⌜ Walkable (now table) n × (before ≤ 2048) × (index + left ≤ 4096) ⌝ }
     ensures { λ r. ⌜ VariablesJudged (now (table .entry)) n left others before first index row r ⌝ }
 {
-    if left == 0 {
-        return Judged::Fine(0);
-    }
     if ABSENT <= row {
         return Judged::Fine(0);
+    }
+    if left == 0 {
+        return Judged::Refused(BROKEN, 0);
     }
     let v = variable(table, n, others, before, first, index, row);
     match v {

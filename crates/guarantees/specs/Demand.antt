@@ -17,8 +17,8 @@ use Rattle.soundness.specs.Soundness.{EndsWell}
 use Rattle.soundness.specs.Reachable.{Reach}
 use Rattle.soundness.specs.Space.{tasksOf, valuesOf}
 use Rattle.soundness.specs.Demand as Machine
-use Rattle.guarantees.specs.Literals.{literals-fit}
-use Rattle.guarantees.specs.Accepted.{allowed, small}
+use Rattle.acceptance.specs.Accepted.{allowed}
+use Rattle.guarantees.specs.Literals.{small, literals-fit}
 
 module _ (s : List ℕ) (p : Program) (a : checking s ≡ accepted p) where
   -- its literals are words

@@ -1,4 +1,3 @@
 -- What holds of every source that Check accepts.
 pub mod Literals
-pub mod Accepted
 pub mod Demand

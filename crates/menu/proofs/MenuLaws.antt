@@ -127,25 +127,21 @@ module _ {tab : List ℕ} {classes : ℕ} {before : List ℕ} where
 
 -- THE ANSWER
 
-typed : (s : List ℕ) (p : Program) → checking s ≡ accepted p → ProgramTyped p
-unfolding checking
-typed s p e = let r = bound (reading s) (λ r. judged (r .tree)) e in let t = program-agrees (r .0 .tree) p .0 (r .2) in subst ProgramTyped (sym (t .0)) (t .1)
-
-module _ (s : List ℕ) (f : Found) (middle before : List ℕ) (l : Leaves (checking s) f middle) where
+module _ (s : List ℕ) (f : Found) (middle before : List ℕ) (l : Leaves s (checking s) f middle) where
   pub answer-found : {n k : ℕ} → f ≡ found n k → {r : CheckAnswer} {after : List ℕ} → Fills middle k before (listed r after) → listed r after ≡ listing (checking s) before
-  answer-found {n} {k} is {r} {after} g = go (checking s) refl l
+  answer-found {n} {k} is {r} {after} g = go (checking s) l
     where
-      go : (w : Outcome Program) → checking s ≡ w → Leaves w f middle → listed r after ≡ listing w before
-      go (accepted p) e h =
+      go : (w : Outcome Program) → Leaves s w f middle → listed r after ≡ listing w before
+      go (accepted p) h =
           let z = h .answer in
           let c : length (p .classes) ≡ k = cc in
-          g .says (length (h .stream)) (h .stream) p (h .ready) (h .derived) (typed s p e) c
-      go (refused m q) e h = let z = h in apart (cc)
+          g .says (length (h .stream)) (h .stream) p (h .ready) (h .derived) (h .typed) c
+      go (refused m q) h = let z = h in apart (cc)
 
   pub answer-unfit : {n q : ℕ} → f ≡ unfit n q → listed (record { number = n; position = q; classes = 0 }) before ≡ listing (checking s) before
   answer-unfit {n} {q} is = go (checking s) l
     where
-      go : (w : Outcome Program) → Leaves w f middle → listed (record { number = n; position = q; classes = 0 }) before ≡ listing w before
+      go : (w : Outcome Program) → Leaves s w f middle → listed (record { number = n; position = q; classes = 0 }) before ≡ listing w before
       go (accepted p) h = let z = h .answer in apart (cc)
       go (refused m p) h = let z = h in let a : n ≡ m = cc in let b : q ≡ p = cc in rw (a, b)
 

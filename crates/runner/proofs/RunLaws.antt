@@ -18,12 +18,11 @@ use Rattle.checker.specs.Check.{checking}
 use Rattle.typecheck.specs.declared.check.Found.{Found}
 use Rattle.typecheck.specs.declared.check.Found.the-variants.{Program as found, Refused as unfit}
 use Rattle.writer.specs.Preparing.{Accepted, Prepares}
-use Rattle.typecheck.specs.CheckPost.{Leaves}
+use Rattle.typecheck.specs.CheckPost.{Checked, Leaves}
 use Rattle.driver.specs.declared.calls.Sizes.{Sizes}
 use Rattle.semantics.specs.Run.{Strips, refusal, RunMeets, Runs}
 use Rattle.semantics.specs.Run as Run
-use Rattle.guarantees.specs.Accepted.{allowed}
-use Rattle.guarantees.specs.Demand.{fits}
+use Rattle.guarantees.specs.Literals.{small, literals-fit}
 use Rattle.interpreter.specs.declared.state.Bounds.{Bounds}
 use Rattle.interpreter.specs.declared.report.Ended.{Ended}
 use Rattle.interpreter.specs.Running.{Runnable, Roomy, Executed}
@@ -36,7 +35,7 @@ use Rattle.runner.specs.RunPost.{strips, Completes, Compiled, Performs, 
 pub accepted-few : {s : List ℕ} {z : Sizes} {tab : List ℕ} → Known s z tab → 0 < z .tokens → (z .tokens ≤ 2048) × (z .classes ≤ 2048)
 accepted-few {s} {z} {tab} k l = by (checking s) (k .says l)
   where
-    by : (v : Outcome Program) → Leaves v (found (z .tokens) (z .classes)) tab → (z .tokens ≤ 2048) × (z .classes ≤ 2048)
+    by : (v : Outcome Program) → Leaves s v (found (z .tokens) (z .classes)) tab → (z .tokens ≤ 2048) × (z .classes ≤ 2048)
     by (accepted p) a =
         let e = a .answer in
         let t : length (a .stream) ≡ z .tokens = cc in
@@ -58,10 +57,10 @@ statement-nodes p = omega (arith, some-nodes (p .statement))
     some-nodes (assignElement q y i e) = omega arith
 
 -- it has a token
-pub accepted-some : (s tab : List ℕ) {tokens classes : ℕ} {f : Found} → Leaves (checking s) f tab → f ≡ found tokens classes → 0 < tokens
+pub accepted-some : (s tab : List ℕ) {tokens classes : ℕ} {f : Found} → Leaves s (checking s) f tab → f ≡ found tokens classes → 0 < tokens
 accepted-some s tab {tokens} {classes} {f} h q = by (checking s) h
   where
-    by : (v : Outcome Program) → Leaves v f tab → 0 < tokens
+    by : (v : Outcome Program) → Leaves s v f tab → 0 < tokens
     by (accepted p) a =
         let e = a .answer in
         let t : length (a .stream) ≡ tokens = cc in
@@ -69,9 +68,10 @@ accepted-some s tab {tokens} {classes} {f} h q = by (checking s) h
     by (refused n i) a = let e = a in apart (cc)
 
 -- an accepted lesson can be run
-runnable : (s : List ℕ) (p : Program) (tokens classes : ℕ) (tab code code′ entries entries′ : List ℕ) → checking s ≡ accepted p → Accepted p (found tokens classes) tab code code′ entries entries′
-    → 16 * tokens ≤ length code → 2048 ≤ length entries → Runnable tab code′ entries′ (record { tokens = tokens; classes = classes }) p
-runnable s p tokens classes tab code code′ entries entries′ e a long many =
+runnable : (s : List ℕ) (p : Program) (tokens classes : ℕ) (tab code code′ entries entries′ : List ℕ) → Checked s p (found tokens classes) tab
+    → Accepted p (found tokens classes) tab code code′ entries entries′ → 16 * tokens ≤ length code → 2048 ≤ length entries
+    → Runnable tab code′ entries′ (record { tokens = tokens; classes = classes }) p
+runnable s p tokens classes tab code code′ entries entries′ h a long many =
     let z = a .answer in
     let t : tokens ≡ length (a .stream) = cc in
     let c : classes ≡ length (p .classes) = cc in
@@ -84,9 +84,9 @@ runnable s p tokens classes tab code code′ entries entries′ e a long many =
       entries-room = many;
       tokens = t;
       classes = c;
-      typed = allowed s p e .typed;
-      fits = fits s p e;
-      shallow = allowed s p e .shallow;
+      typed = h .typed;
+      fits = literals-fit (small s (h .stream) (h .lexed)) (h .derived);
+      shallow = h .shallow;
     }
 
 -- WHAT IS PERFORMED
@@ -94,15 +94,15 @@ runnable s p tokens classes tab code code′ entries entries′ e a long many =
 pub completed : (tab code fast values : List ℕ) (sz : Sizes) (b : Bounds) (heap output : List ℤ) {code′ entries′ : List ℕ} {x : Ended} {output′ : List ℤ}
     → Prepares (sz .tokens) (sz .classes) tab code code′ (replicate 2048 0) entries′ → Executed tab code′ entries′ fast values sz b heap output x output′
     → Compiled tab code fast values sz b heap output (record { number = x .number; position = x .position; steps = x .steps; words = x .words; printed = x .printed }) output′
-completed tab code fast values sz b heap output {code′} {entries′} {x} {output′} w E = record { says = λ long roomy. record { says = λ s h. by long roomy s (checking s) refl h } }
+completed tab code fast values sz b heap output {code′} {entries′} {x} {output′} w E = record { says = λ long roomy. record { says = λ s h. by long roomy s (checking s) h } }
   where
-    by : 16 * sz .tokens ≤ length code → Roomy (sz .tokens) (b .calls) fast values → (s : List ℕ) (v : Outcome Program) → checking s ≡ v → Leaves v (found (sz .tokens) (sz .classes)) tab
+    by : 16 * sz .tokens ≤ length code → Roomy (sz .tokens) (b .calls) fast values → (s : List ℕ) (v : Outcome Program) → Leaves s v (found (sz .tokens) (sz .classes)) tab
         → Performs v b heap output (record { number = x .number; position = x .position; steps = x .steps; words = x .words; printed = x .printed }) output′
-    by long roomy s (accepted p) e h =
+    by long roomy s (accepted p) h =
         let many : length (replicate {A = ℕ} 2048 0) ≡ 2048 = length-replicate {A = ℕ} 2048 0 in
-        let r = E .says p (runnable s p (sz .tokens) (sz .classes) tab code code′ (replicate 2048 0) entries′ e (w .says p h) long (omega (arith, many))) roomy in
+        let r = E .says p (runnable s p (sz .tokens) (sz .classes) tab code code′ (replicate 2048 0) entries′ h (w .says (h .stream) p (record { answer = h .answer; ready = h .ready; derived = h .derived })) long (omega (arith, many))) roomy in
         (record { ending = r .ending; steps = r .steps; words = r .words; printed = r .printed }, r .strip)
-    by long roomy s (refused n i) e h = let z = h in apart (cc)
+    by long roomy s (refused n i) h = let z = h in apart (cc)
 
 -- room for the values of so many tokens in main and 64 calls
 values-fit : (tokens calls k : ℕ) {n : ℕ} → (tokens + 1) / 2 ≤ k → calls ≤ 64 → 65 * k < n → (calls + 1) * ((tokens + 1) / 2) < n
@@ -130,10 +130,10 @@ pub performed : {s : List ℕ} {z : Sizes} {b : Bounds} {heap output : List ℤ}
 performed {s} k l C = record { performs = C .says s (k .says l); clears = λ e. absurd (omega (arith, l, e)) }
 
 refuses-so : (s : List ℕ) (b : Bounds) (heap output : List ℤ) (tab : List ℕ) {n p : ℕ} {f : Found} {a : Run.RunAnswer}
-    → Leaves (checking s) f tab → f ≡ unfit n p → a ≡ refusal n p → Performs (checking s) b heap output a output
+    → Leaves s (checking s) f tab → f ≡ unfit n p → a ≡ refusal n p → Performs (checking s) b heap output a output
 refuses-so s b heap output tab {n} {p} {f} {a} h q e = by (checking s) h
   where
-    by : (v : Outcome Program) → Leaves v f tab → Performs v b heap output a output
+    by : (v : Outcome Program) → Leaves s v f tab → Performs v b heap output a output
     by (accepted p) c = let z = c .answer in apart (cc)
     by (refused k i) c = let z = c in let x : n ≡ k = cc in let y : p ≡ i = cc in (e ∙ rw (x, y), refl)
 
@@ -143,7 +143,7 @@ cleared : (table table₁ : List ℕ) (heap heap₁ : List ℤ) {table₂ : List
 cleared table table₁ heap heap₁ lt lh et eh = (et ∙ ap (λ (n : ℕ). replicate n 0) lt, eh ∙ ap (λ (n : ℕ). replicate n (pos 0)) lh)
 
 pub unperformed : (s : List ℕ) (z : Sizes) (b : Bounds) (table table₁ : List ℕ) (heap output : List ℤ) {table₂ : List ℕ} {heap₂ : List ℤ} {n p : ℕ} {f : Found} {a : Run.RunAnswer}
-    → Leaves (checking s) f table₁ → f ≡ unfit n p → length table₁ ≡ length table → table₂ ≡ replicate (length table₁) 0 → heap₂ ≡ replicate (length heap) (pos 0) → a ≡ refusal n p
+    → Leaves s (checking s) f table₁ → f ≡ unfit n p → length table₁ ≡ length table → table₂ ≡ replicate (length table₁) 0 → heap₂ ≡ replicate (length heap) (pos 0) → a ≡ refusal n p
     → Performed s z b table heap output a table₂ heap₂ output
 unperformed s z b table table₁ heap output h q lt et eh e =
     record { performs = refuses-so s b heap output table₁ h q e; clears = λ _. cleared table table₁ heap heap lt refl et eh }
@@ -154,8 +154,8 @@ pub checked : {s : List ℕ} {z y : Sizes} {b : Bounds} (table table₁ table₂
 checked table table₁ table₂ {heap} {heap₁} h lt lh et eh = record { performs = h .performs; clears = λ _. cleared table table₂ heap heap₁ lt lh et eh }
 
 -- what Check found is known of the lesson
-pub now-known : (s tab : List ℕ) {tokens classes : ℕ} {f : Found} → Leaves (checking s) f tab → f ≡ found tokens classes → Known s (record { tokens = tokens; classes = classes }) tab
-now-known s tab h q = record { says = λ _. subst (λ (y : Found). Leaves (checking s) y tab) q h }
+pub now-known : (s tab : List ℕ) {tokens classes : ℕ} {f : Found} → Leaves s (checking s) f tab → f ≡ found tokens classes → Known s (record { tokens = tokens; classes = classes }) tab
+now-known s tab h q = record { says = λ _. subst (λ (y : Found). Leaves s (checking s) y tab) q h }
 
 -- of no tokens nothing is known
 pub nothing-known : (s tab : List ℕ) (classes : ℕ) → Known s (record { tokens = 0; classes = classes }) tab

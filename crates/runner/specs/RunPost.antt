@@ -33,7 +33,7 @@ Performs (refused n p) b heap output a output′ = (a ≡ refusal n p) × (outpu
 
 -- an accepted lesson that Check left in the table is run
 pub record Completes (tab : List ℕ) (s : Sizes) (b : Bounds) (heap output : List ℤ) (a : Run.RunAnswer) (output′ : List ℤ) : Type 0 where
-  pub says : (source : List ℕ) → Leaves (checking source) (found (s .tokens) (s .classes)) tab → Performs (checking source) b heap output a output′
+  pub says : (source : List ℕ) → Leaves source (checking source) (found (s .tokens) (s .classes)) tab → Performs (checking source) b heap output a output′
 
 -- the same in this room for its code, its joined code and its values, where that is enough; an instruction is four words
 pub record Compiled (tab code fast values : List ℕ) (s : Sizes) (b : Bounds) (heap output : List ℤ) (a : Run.RunAnswer) (output′ : List ℤ) : Type 0 where
@@ -41,7 +41,7 @@ pub record Compiled (tab code fast values : List ℕ) (s : Sizes) (b : Bounds) (
 
 -- the accepted lesson of so many tokens that Check left in the table; of none nothing is known
 pub record Known (source : List ℕ) (s : Sizes) (tab : List ℕ) : Type 0 where
-  pub says : 0 < s .tokens → Leaves (checking source) (found (s .tokens) (s .classes)) tab
+  pub says : 0 < s .tokens → Leaves source (checking source) (found (s .tokens) (s .classes)) tab
 
 -- what is right for what Check finds is performed; the call that checks clears the table and the heap strip
 pub record Performed (source : List ℕ) (s : Sizes) (b : Bounds) (table : List ℕ) (heap output : List ℤ) (a : Run.RunAnswer) (table′ : List ℕ) (heap′ output′ : List ℤ) : Type 0 where

@@ -15,7 +15,7 @@ use Rattle.checker.specs.Check.{body, bodies, classBodies, allBodies}
 use Rattle.lookup.specs.declared.answer.Judged.{Judged}
 use Rattle.lookup.specs.declared.answer.Judged.the-variants.{Fine, Refused}
 use Rattle.lookup.specs.Standing.{absent, wordAt, Lexemes, Spells, no-name, a-name, VariablesStand, no-variables, more-variables, MethodStands, MethodsStand, more-methods, ClassStands, ClassesStand, more-classes, World, ListedAt}
-use Rattle.lookup.specs.StandingLaws.{word-in, row-there, name-word}
+use Rattle.lookup.specs.StandingLaws.{word-in, row-there, name-word, none-left}
 use Rattle.lookup.specs.Lookups.{TypeOf, Many, many-none, many-more, Counts}
 use Rattle.lookup.specs.Answers.{settled, goes-on, stops}
 use Rattle.declarations.specs.Judgements.{VariablesJudged}
@@ -36,7 +36,7 @@ module _ {tab : List ℕ} {s : Scope} {row first : ℕ} (e₄ : first ≡ wordAt
         at = sym (word-in tab 4 (m .name .row + 1) (row-there (sc .world .tokens) (m .name .row + 1) (st .after .there)) (st .start)) ∙ ap (λ (i : ℕ). wordAt tab 4 (i + 1)) at ∙ sym e₄;
         holds = st .body;
         matches = st .body-matches;
-        few = st .body-nodes;
+        few = st .body-covers;
       })
 
   pub carried-refused : {n p : ℕ} → v ≡ Refused n p → CarriedJudged tab s row (Refused n p)
@@ -59,7 +59,7 @@ module _ {tab : List ℕ} {s : Scope} {row first : ℕ} (e₄ : first ≡ wordAt
               at = sym (word-in tab 5 (m .name .row + 1) (row-there (sc .world .tokens) (m .name .row + 1) (st .after .there)) (st .return)) ∙ ap (λ (i : ℕ). wordAt tab 5 (i + 1)) at ∙ sym e₅;
               holds = st .value;
               matches = st .value-matches;
-              few = st .value-nodes;
+              few = st .value-covers;
             })
             (m .result .type) (type .says ts (sc .world .tokens) (m .result) d (st .head .type)));
       }
@@ -120,13 +120,8 @@ module _ {tab : List ℕ} {n classes owner row parameters locals before : ℕ} (
 -- METHODS
 
 module _ {tab : List ℕ} {n classes left owner row : ℕ} where
-  pub methods-none : left ≡ 0 → MethodsJudged tab n classes left owner row (Fine 0)
-  unfolding bodies
-  methods-none z = record { says = λ ts G w l c sp ms at st few. go G c ms few }
-    where
-      go : (G : List Class) (c : List ℕ) (ms : List Method) → length ms ≤ left → Fine 0 ≡ settled (bodies G c ms)
-      go G c [] few = refl
-      go G c (m ∷ ms) few = absurd (omega arith)
+  pub methods-none : row < absent → left ≡ 0 → {number p : ℕ} → MethodsJudged tab n classes left owner row (Refused number p)
+  methods-none near z = record { says = λ ts G w l c sp ms at st few. absurd (none-left rowMethods refl ms at few near z) }
 
   pub methods-end : absent ≤ row → MethodsJudged tab n classes left owner row (Fine 0)
   unfolding bodies
@@ -167,13 +162,8 @@ class-settled {tab} row owner first near e₂ e₅ f ts G w l k at s =
     (k .methods) (sym (word-in tab 5 (k .name .row) (omega (arith, at, near)) (s .second)) ∙ ap (wordAt tab 5) at ∙ sym e₅) (s .methods) (s .few-methods)
 
 module _ {tab : List ℕ} {n classes left row : ℕ} where
-  pub classes-none : left ≡ 0 → ClassesJudged tab n classes left row (Fine 0)
-  unfolding classBodies
-  classes-none z = record { says = λ ts G w l ks h. go G ks (h .few) }
-    where
-      go : (G ks : List Class) → length ks ≤ left → Fine 0 ≡ settled (classBodies G ks)
-      go G [] few = refl
-      go G (k ∷ ks) few = absurd (omega arith)
+  pub classes-none : row < absent → left ≡ 0 → {number p : ℕ} → ClassesJudged tab n classes left row (Refused number p)
+  classes-none near z = record { says = λ ts G w l ks h. absurd (none-left rowClasses refl ks (h .here) (h .few) near z) }
 
   pub classes-end : absent ≤ row → ClassesJudged tab n classes left row (Fine 0)
   unfolding classBodies
@@ -225,7 +215,7 @@ module _ {tab : List ℕ} {n classes : ℕ} {v : Judged} (f : StatementPost tab 
         given-listed = none-listed tab n ts;
         own-listed = none-listed tab n ts;
       })
-      (p .statement) (record { at = h .row; holds = h .statement; matches = h .matches; few = h .nodes })
+      (p .statement) (record { at = h .row; holds = h .statement; matches = h .matches; few = h .statement-covers })
 
   pub bodies-main : {k p : ℕ} → v ≡ Refused k p → BodiesJudged tab n classes (Refused k p)
   unfolding allBodies

@@ -10,8 +10,10 @@ use Rattle.base.specs.Lists.{getD-replicate-same}
 use Rattle.base.specs.Outcome.{Outcome, accepted, refused, _>>=_}
 use Rattle.base.specs.Tests.{apart}
 use Rattle.lexer.specs.Tokens.{Token}
+use Rattle.lexer.specs.RowLaws.{token-of}
 use Rattle.parser.specs.Tree.{Class, Program}
-use Rattle.parser.specs.Grammar.{DerivesProgram}
+use Rattle.parser.specs.Stream.{nameAt}
+use Rattle.parser.specs.Grammar.{DerivesProgram, a-program}
 use Rattle.parser.specs.Layout.{rowClasses}
 use Rattle.parser.specs.Read.{Reading, reading, tableAfter}
 use Rattle.reader.specs.declared.read.Filled.{Filled}
@@ -19,6 +21,8 @@ use Rattle.reader.specs.declared.read.Filled.the-variants.{Tree, Refused as not
 use Rattle.reader.specs.ReadPost.{Fills}
 use Rattle.checker.specs.Declarations.{distinctClasses, knownParents, endingChains, declarations}
 use Rattle.checker.specs.Check.{allBodies, judged, checking, checkAnswer, check, Checks}
+use Rattle.typing.specs.Agreement.{program-acyclic}
+use Rattle.acceptance.specs.Accepted.{reading-of, allowed}
 use Rattle.lookup.specs.declared.answer.Judged.{Judged}
 use Rattle.lookup.specs.declared.answer.Judged.the-variants.{Fine, Refused}
 use Rattle.lookup.specs.Standing.{absent, wordAt, Lexemes, ClassesStand, no-classes, more-classes}
@@ -32,7 +36,7 @@ use Rattle.typecheck.specs.declared.check.Found.{Found}
 use Rattle.typecheck.specs.declared.check.Found.the-variants.{Program as found, Refused as unfit}
 use Rattle.typecheck.specs.declared.check.CheckAnswer.{CheckAnswer}
 use Rattle.typecheck.specs.MethodPost.{BodiesJudged}
-use Rattle.typecheck.specs.CheckPost.{Holding, Leaves, contentsOf, ContentsJudged, chainsOn, ChainedJudged, parentsOn, IndexedJudged, TreeJudged, answerOf, Told}
+use Rattle.typecheck.specs.CheckPost.{told, Holding, Settles, Checked, Leaves, contentsOf, ContentsJudged, chainsOn, ChainedJudged, parentsOn, IndexedJudged, TreeJudged, answerOf}
 
 -- before the first list of members no name has a stamp
 pub zeros-below : (m : ℕ) → Below 1 (replicate m 0)
@@ -109,11 +113,10 @@ module _ {tab : List ℕ} {n first : ℕ} (e₆ : first ≡ wordAt tab 6 0) {v :
           says = λ ts p h d. rw (known-told ts p h, goes-on (chainsOn p) (λ _. accepted p) (later-told ts p h) is′) (holding ts p h d);
         }
       where
-        holding : (ts : List Token) (p : Program) → Ready tab n ts p → DerivesProgram ts p → Holding p (found n classes) tab
+        holding : (ts : List Token) (p : Program) → Ready tab n ts p → DerivesProgram ts p → Holding ts p (found n classes) tab
         holding ts p h d =
             let l = h .world .tokens .count in
             record {
-              stream = ts;
               answer = rw (l, counted ts p h);
               ready = subst (λ (k : ℕ). Ready tab k ts p) (sym l) h;
               derived = d;
@@ -151,22 +154,55 @@ module _ {n : ℕ} {before middle : List ℕ} {v : Judged} (f : IndexMade n befo
 
 -- THE SOURCE
 
+-- what is told of a finding that is right is what Check answers
+told-right : (s : List ℕ) (v : Outcome Program) (f : Found) (tab : List ℕ) → Leaves s v f tab → told f ≡ checkAnswer v
+told-right s (accepted p) f tab h = ap told (h .answer)
+told-right s (refused n q) f tab h = ap told h
+
+-- main's names are those of tokens 1 and 11
+main-names : {ts : List Token} {p : Program} → DerivesProgram ts p → (p .main ≡ nameAt ts 1) × (p .parameter ≡ nameAt ts 11)
+main-names (a-program h d e₁ e₂ ks) = (refl, refl)
+
+promised : (s : List ℕ) (d : Reading) (p : Program) {r : Found} (after : List ℕ) → reading s ≡ accepted d → judged (d .tree) ≡ accepted p → Holding (d .stream) p r after
+    → Checked s p r after
+unfolding checking
+promised s d p after e q h =
+    let R = reading-of s d e in
+    let A = allowed s p (ap (λ (o : Outcome Reading). o >>= λ x. judged (x .tree)) e ∙ q) in
+    record {
+      stream = d .stream;
+      lexed = R .lexed;
+      names = λ i t g n. token-of s (d .stream) (R .lexed) i t g .named n;
+      answer = h .answer;
+      ready = h .ready;
+      derived = h .derived;
+      main = main-names (h .derived) .0;
+      parameter = main-names (h .derived) .1;
+      shallow = A .shallow;
+      typed = A .typed;
+      ends = λ c g. program-acyclic (A .typed) .ends c g;
+    }
+
 module _ (s : List ℕ) (a : Filled) (middle : List ℕ) (f : Fills (reading s) a middle) where
-  pub find-refused : (after : List ℕ) {n q : ℕ} → a ≡ notRead n q → Leaves (checking s) (unfit n q) after
+  pub find-refused : (after : List ℕ) {n q : ℕ} → a ≡ notRead n q → Leaves s (checking s) (unfit n q) after
   unfolding checking
   find-refused after {n} {q} is = go (reading s) f
     where
-      go : (o : Outcome Reading) → Fills o a middle → Leaves (o >>= λ r. judged (r .tree)) (unfit n q) after
+      go : (o : Outcome Reading) → Fills o a middle → Leaves s (o >>= λ r. judged (r .tree)) (unfit n q) after
       go (accepted r) h = let z = h .0 in apart (cc)
       go (refused k p) h = let z = h in cc
 
-  pub find-tree : {after : List ℕ} {n m : ℕ} → a ≡ Tree n m → {r : Found} → TreeJudged n middle r after → Leaves (checking s) r after
+  pub find-tree : {after : List ℕ} {n m : ℕ} → a ≡ Tree n m → {r : Found} → TreeJudged n middle r after → Leaves s (checking s) r after
   unfolding checking
-  find-tree {after} {n} {m} is {r} g = go (reading s) f
+  find-tree {after} {n} {m} is {r} g = go (reading s) refl f
     where
-      go : (o : Outcome Reading) → Fills o a middle → Leaves (o >>= λ d. judged (d .tree)) r after
-      go (accepted d) h = let z = h .0 in let l : length (d .stream) ≡ n = cc in g .says d (h .1) l
-      go (refused k p) h = let z = h in apart (cc)
+      go : (o : Outcome Reading) → reading s ≡ o → Fills o a middle → Leaves s (o >>= λ d. judged (d .tree)) r after
+      go (accepted d) e h = let z = h .0 in let l : length (d .stream) ≡ n = cc in by (judged (d .tree)) refl (g .says d (h .1) l)
+        where
+          by : (v : Outcome Program) → judged (d .tree) ≡ v → Settles (d .stream) v r after → Leaves s v r after
+          by (accepted p) q x = promised s d p after e q x
+          by (refused k p) q x = x
+      go (refused k p) e h = let z = h in apart (cc)
 
   -- the bound that the table's functions ask for
   pub find-few : {n m : ℕ} → a ≡ Tree n m → n ≤ 2048
@@ -177,11 +213,11 @@ module _ (s : List ℕ) (a : Filled) (middle : List ℕ) (f : Fills (reading s) 
       go (refused k p) h = let z = h in apart (cc)
 
   -- what is told of it
-  pub answer-refused : {n q : ℕ} → a ≡ notRead n q → {x : CheckAnswer} → Told (unfit n q) (answerOf x) → answerOf x ≡ checkAnswer (checking s)
-  answer-refused is t = t .says (checking s) [] (find-refused [] is)
+  pub answer-refused : {n q : ℕ} → a ≡ notRead n q → {x : CheckAnswer} → answerOf x ≡ told (unfit n q) → answerOf x ≡ checkAnswer (checking s)
+  answer-refused {n} {q} is t = t ∙ told-right s (checking s) (unfit n q) [] (find-refused [] is)
 
-  pub answer-tree : {after : List ℕ} {n m : ℕ} → a ≡ Tree n m → {r : Found} → TreeJudged n middle r after → {x : CheckAnswer} → Told r (answerOf x) → answerOf x ≡ checkAnswer (checking s)
-  answer-tree {after} is g t = t .says (checking s) after (find-tree is g)
+  pub answer-tree : {after : List ℕ} {n m : ℕ} → a ≡ Tree n m → {r : Found} → TreeJudged n middle r after → {x : CheckAnswer} → answerOf x ≡ told r → answerOf x ≡ checkAnswer (checking s)
+  answer-tree {after} is {r} g t = t ∙ told-right s (checking s) r after (find-tree is g)
 
 -- THE OPERATION
 
@@ -198,16 +234,8 @@ module _ (s table : List ℕ) where
 
 -- THE ANSWER
 
-pub told-found : {f : Found} {n k : ℕ} → f ≡ found n k → {r : CheckAnswer} → r .number ≡ 0 → r .position ≡ 0 → r .classes ≡ k → Told f (answerOf r)
-told-found {f} {n} {k} is {r} e₁ e₂ e₃ = record { says = go }
-  where
-    go : (w : Outcome Program) (tab : List ℕ) → Leaves w f tab → answerOf r ≡ checkAnswer w
-    go (accepted p) tab h = let z = h .answer in let c : length (p .classes) ≡ k = cc in rw (e₁, e₂, e₃, c)
-    go (refused m q) tab h = let z = h in apart (cc)
+pub told-found : {f : Found} {n k : ℕ} → f ≡ found n k → {r : CheckAnswer} → r .number ≡ 0 → r .position ≡ 0 → r .classes ≡ k → answerOf r ≡ told f
+told-found is e₁ e₂ e₃ = rw (is, e₁, e₂, e₃)
 
-pub told-unfit : {f : Found} {n q : ℕ} → f ≡ unfit n q → {r : CheckAnswer} → r .number ≡ n → r .position ≡ q → r .classes ≡ 0 → Told f (answerOf r)
-told-unfit {f} {n} {q} is {r} e₁ e₂ e₃ = record { says = go }
-  where
-    go : (w : Outcome Program) (tab : List ℕ) → Leaves w f tab → answerOf r ≡ checkAnswer w
-    go (accepted p) tab h = let z = h .answer in apart (cc)
-    go (refused m p) tab h = let z = h in let a : n ≡ m = cc in let b : q ≡ p = cc in rw (e₁, e₂, e₃, a, b)
+pub told-unfit : {f : Found} {n q : ℕ} → f ≡ unfit n q → {r : CheckAnswer} → r .number ≡ n → r .position ≡ q → r .classes ≡ 0 → answerOf r ≡ told f
+told-unfit is e₁ e₂ e₃ = rw (is, e₁, e₂, e₃)

@@ -1,17 +1,26 @@
 -- What the functions of Check ensure: the answer of the definition, and where it accepts, the tokens, the tree and the index of the classes in the table.
 use Prim.Native.Nat.{ℕ}
 use mathlib.Core.Path.{_≡_}
+use mathlib.Core.Bool.{true}
 use mathlib.Core.List.{List}
-use lib.ListN.{length}
+use mathlib.Core.Option.{none, some}
+use lib.ListN.{length, getElem?, drop}
+use Rattle.base.specs.Codes.{success}
 use Rattle.base.specs.Outcome.{Outcome, accepted, refused, _>>=_}
-use Rattle.lexer.specs.Tokens.{Token}
-use Rattle.parser.specs.Tree.{Program}
+use Rattle.lexer.specs.Bytes.{isNamePart}
+use Rattle.lexer.specs.Kinds.{isName}
+use Rattle.lexer.specs.Tokens.{Token, run, tokens}
+use Rattle.parser.specs.Tree.{Class, Program}
+use Rattle.parser.specs.Stream.{nameAt}
+use Rattle.parser.specs.Measure.{programDeep}
 use Rattle.parser.specs.Grammar.{DerivesProgram}
 use Rattle.parser.specs.Layout.{rowClasses}
 use Rattle.parser.specs.Read.{Reading}
 use Rattle.reader.specs.ReadPost.{Filling}
+use Rattle.checker.specs.ClassTable.{classNamed}
+use Rattle.checker.specs.Typing.{Ends, ProgramTyped}
 use Rattle.checker.specs.Declarations.{knownParents, endingChains, declarations}
-use Rattle.checker.specs.Check.{allBodies, judged, CheckAnswer as SpecAnswer, checkAnswer}
+use Rattle.checker.specs.Check.{allBodies, judged, CheckAnswer as SpecAnswer}
 use Rattle.lookup.specs.declared.answer.Judged.{Judged}
 use Rattle.lookup.specs.Answers.{settled}
 use Rattle.declarations.specs.Indexing.{Ready}
@@ -19,17 +28,41 @@ use Rattle.typecheck.specs.declared.check.Found.{Found}
 use Rattle.typecheck.specs.declared.check.Found.the-variants.{Program as found, Refused as unfit}
 use Rattle.typecheck.specs.declared.check.CheckAnswer.{CheckAnswer}
 
--- the answer where a source was accepted, and what the table then holds
-pub record Holding (p : Program) (r : Found) (tab : List ℕ) : Type 0 where
+-- what Check answers in each case: of an accepted source 0 and the number of its classes, of a refused one the refusal
+abbrev pub told : Found → SpecAnswer
+told (found tokens classes) = record { number = success; position = 0; classes = classes }
+told (unfit number position) = record { number = number; position = position; classes = 0 }
+
+-- of an accepted program with these tokens, the answer and what the table then holds
+pub record Holding (ts : List Token) (p : Program) (r : Found) (tab : List ℕ) : Type 0 where
+  pub answer : r ≡ found (length ts) (length (p .classes))
+  pub ready : Ready tab (length ts) ts p
+  pub derived : DerivesProgram ts p
+
+-- the answers and tables that are right for what is found of a tree with these tokens
+abbrev pub Settles : List Token → Outcome Program → Found → List ℕ → Type 0
+Settles ts (accepted p) r tab = Holding ts p r tab
+Settles ts (refused n q) r tab = r ≡ unfit n q
+
+-- What Check promises of an accepted source, to Menu and to Run: the tokens are those of the source, and a name's text is the run of its bytes from its start; the table holds them
+-- and the program that the grammar derives from them, whose main class is named by token 1 and main's parameter by token 11; no node is too deep, the rules hold, and chains end.
+pub record Checked (s : List ℕ) (p : Program) (r : Found) (tab : List ℕ) : Type 0 where
   pub stream : List Token
+  pub lexed : tokens s ≡ accepted stream
+  pub names : (i : ℕ) (t : Token) → getElem? stream i ≡ some t → isName (t .kind) ≡ true → t .text ≡ run isNamePart (drop (t .start) s)
   pub answer : r ≡ found (length stream) (length (p .classes))
   pub ready : Ready tab (length stream) stream p
   pub derived : DerivesProgram stream p
+  pub main : p .main ≡ nameAt stream 1
+  pub parameter : p .parameter ≡ nameAt stream 11
+  pub shallow : programDeep p ≡ none
+  pub typed : ProgramTyped p
+  pub ends : (c : List ℕ) {k : Class} → classNamed (p .classes) c ≡ some k → Ends (p .classes) c
 
--- the answers and tables that are right for what Check finds
-abbrev pub Leaves : Outcome Program → Found → List ℕ → Type 0
-Leaves (accepted p) r tab = Holding p r tab
-Leaves (refused n q) r tab = r ≡ unfit n q
+-- the answers and tables that are right for what Check finds of a source
+abbrev pub Leaves : List ℕ → Outcome Program → Found → List ℕ → Type 0
+Leaves s (accepted p) r tab = Checked s p r tab
+Leaves s (refused n q) r tab = r ≡ unfit n q
 
 -- declarations and bodies; chains before these; parents before these
 abbrev pub contentsOf : Program → Outcome (Unit {0})
@@ -48,15 +81,11 @@ pub record ChainedJudged (tab : List ℕ) (n classes first : ℕ) (r : Judged) :
   pub says : (ts : List Token) (p : Program) → Ready tab n ts p → length (p .classes) ≡ classes → rowClasses (p .classes) ≡ first → r ≡ settled (chainsOn p)
 
 pub record IndexedJudged (tab : List ℕ) (n : ℕ) (r : Found) : Type 0 where
-  pub says : (ts : List Token) (p : Program) → Ready tab n ts p → DerivesProgram ts p → Leaves (parentsOn p) r tab
+  pub says : (ts : List Token) (p : Program) → Ready tab n ts p → DerivesProgram ts p → Settles ts (parentsOn p) r tab
 
 pub record TreeJudged (n : ℕ) (before : List ℕ) (r : Found) (after : List ℕ) : Type 0 where
-  pub says : (rd : Reading) → Filling before rd → length (rd .stream) ≡ n → Leaves (judged (rd .tree)) r after
+  pub says : (rd : Reading) → Filling before rd → length (rd .stream) ≡ n → Settles (rd .stream) (judged (rd .tree)) r after
 
 -- the code's answer as document 01 counts it
 abbrev pub answerOf : CheckAnswer → SpecAnswer
 answerOf a = record { number = a .number; position = a .position; classes = a .classes }
-
--- an answer that is right where Check finds this
-pub record Told (f : Found) (a : SpecAnswer) : Type 0 where
-  pub says : (v : Outcome Program) (tab : List ℕ) → Leaves v f tab → a ≡ checkAnswer v

@@ -16,7 +16,8 @@ ghost use Prim.Native.Nat.{_≤_, _<_};
 ghost use lib.ListN.{length};
 ghost use Rattle.reader.specs.WalkPost.{Walkable};
 ghost use Rattle.checker.specs.Check.{checking, checkAnswer, Checks};
-ghost use Rattle.typecheck.specs.CheckPost.{ContentsJudged, ChainedJudged, IndexedJudged, TreeJudged, Leaves, Told, answerOf};
+ghost use Rattle.typecheck.specs.CheckPost as CheckPost;
+ghost use Rattle.typecheck.specs.CheckPost.{ContentsJudged, ChainedJudged, IndexedJudged, TreeJudged, Leaves, answerOf};
 
 // The tokens and the classes of an accepted source; or a refusal and its position.
 pub enum Found {
@@ -94,7 +95,7 @@ fn tree(table: &mut [u32], n: usize) -> Found
 // Check, with the table left filled.
 pub fn find(source: &[u8], table: &mut [u32]) -> Found
     requires { ⌜ 16384 ≤ length (now table) ⌝ }
-    ensures { λ r. ⌜ Leaves (checking (now (source .entry))) r (now (table .exit)) ⌝ }
+    ensures { λ r. ⌜ Leaves (now (source .entry)) (checking (now (source .entry))) r (now (table .exit)) ⌝ }
 {
     let f = fill(source, table);
     match f {
@@ -105,7 +106,7 @@ pub fn find(source: &[u8], table: &mut [u32]) -> Found
 
 // What Check answers of what was found.
 fn told(f: Found) -> CheckAnswer
-    ensures { λ r. ⌜ Told f (answerOf r) ⌝ }
+    ensures { λ r. ⌜ answerOf r ≡ CheckPost.told f ⌝ }
 {
     match f {
         Found::Program(_tokens, classes) => CheckAnswer {

@@ -3,6 +3,7 @@ use bodies::expr::operand;
 use bodies::scope::Scope;
 use bodies::stmt;
 use declarations::variables::variables;
+use lookup::answer::BROKEN;
 use lookup::answer::Judged;
 use lookup::member::count;
 use lookup::rows::ABSENT;
@@ -66,11 +67,11 @@ fn methods(
     requires { ⌜ Walkable (now table) n × MembersIndexed (now table) n (now index) ⌝ }
     ensures { λ r. ⌜ MethodsJudged (now (table .entry)) n classes left owner row r ⌝ }
 {
-    if left == 0 {
-        return Judged::Fine(0);
-    }
     if ABSENT <= row {
         return Judged::Fine(0);
+    }
+    if left == 0 {
+        return Judged::Refused(BROKEN, 0);
     }
     let b = body(table, index, n, classes, owner, row);
     match b {
@@ -92,11 +93,11 @@ fn all(table: &[u32], index: &[u32], n: usize, classes: usize, left: usize, row:
     requires { ⌜ Walkable (now table) n × MembersIndexed (now table) n (now index) ⌝ }
     ensures { λ r. ⌜ ClassesJudged (now (table .entry)) n classes left row r ⌝ }
 {
-    if left == 0 {
-        return Judged::Fine(0);
-    }
     if ABSENT <= row {
         return Judged::Fine(0);
+    }
+    if left == 0 {
+        return Judged::Refused(BROKEN, 0);
     }
     let m = methods(
         table,

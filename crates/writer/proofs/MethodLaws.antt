@@ -1,6 +1,7 @@
 -- What writing methods returns meets its contract: the parameters and locals of a method make the scope in which its body and its value are written.
 use Prim.Native.Nat.{ℕ, suc, _+_, _-_, _≤_, _<_}
 use native.Mathlib.Omega.{arith}
+use Rattle.reader.specs.Counting.{nodes-covered}
 use mathlib.Core.Path.{_≡_, refl, sym, ap, _∙_}
 use mathlib.Core.List.{List, [], _∷_}
 use lib.ListN.{length, set}
@@ -51,8 +52,8 @@ method-wrote {tab} {names} {n} {row} {at} {p} {l} {first} {a} {second} {b} {r} {
               };
           sizes = w .sizes;
         } in
-        let x : PartAt tab ts first n (F .body) = record { at = sym (word tab 4 e₄′ is′ near′ (h .start)); holds = h .body; matches = h .body-matches; few = h .body-nodes } in
-        let y : PartAt tab ts second n (F .value) = record { at = sym (word tab 5 e₅′ is′ near′ (h .return)); holds = h .value; matches = h .value-matches; few = h .value-nodes } in
+        let x : PartAt tab ts first n (F .body) = record { at = sym (word tab 4 e₄′ is′ near′ (h .start)); holds = h .body; matches = h .body-matches; few = omega (arith, h .body-covers, nodes-covered (F .body)) } in
+        let y : PartAt tab ts second n (F .value) = record { at = sym (word tab 5 e₅′ is′ near′ (h .return)); holds = h .value; matches = h .value-matches; few = omega (arith, h .value-covers, nodes-covered (F .value)) } in
         let u = f .says ts G (contextOf d F) sees (F .body) x (omega (arith, grows (F .value) (middle F at))) in
         let v = g .says ts G (contextOf d F) sees (F .value) y (rw (u .ends) (omega arith)) in
         next-to (λ j k. emit G (contextOf d F) (F .value) j (return ∷ k)) (λ j. suc (end (F .value) j)) u

@@ -13,13 +13,13 @@ use Rattle.writer.specs.Preparing.{Prepares}
 pub prepared : {n k : ℕ} {tab code code′ entries entries′ : List ℕ} → Writes tab n k code code′ entries entries′ → Prepares n k tab code code′ entries entries′
 prepared {n} {k} {tab} {code} {code′} {entries} {entries′} g =
     record {
-      says = λ p h.
+      says = λ ts p h.
           let z = h .answer in
-          let a : n ≡ length (h .stream) = cc in
+          let a : n ≡ length ts = cc in
           let b : length (p .classes) ≡ k = cc in
-          let r = subst (λ (i : ℕ). Writes tab i k code code′ entries entries′) a g .says (h .stream) p (h .ready) (h .derived) b in
+          let r = subst (λ (i : ℕ). Writes tab i k code code′ entries entries′) a g .says ts p (h .ready) (h .derived) b in
           record {
-            stream = h .stream;
+            stream = ts;
             answer = h .answer;
             world = h .ready .world;
             derived = h .derived;

@@ -3,7 +3,6 @@ use Prim.Native.Nat.{ℕ, suc, _≤_}
 use mathlib.Core.Path.{_≡_}
 use mathlib.Core.List.{List}
 use lib.ListN.{length}
-use Rattle.base.specs.Outcome.{accepted}
 use Rattle.lexer.specs.Tokens.{Token}
 use Rattle.lexer.specs.Rows.{firstNamed}
 use Rattle.parser.specs.Tree.{Program}
@@ -11,7 +10,7 @@ use Rattle.parser.specs.Grammar.{DerivesProgram}
 use Rattle.lookup.specs.Standing.{World}
 use Rattle.typecheck.specs.declared.check.Found.{Found}
 use Rattle.typecheck.specs.declared.check.Found.the-variants.{Program as found}
-use Rattle.typecheck.specs.CheckPost.{Leaves}
+use Rattle.typecheck.specs.CheckPost.{Holding}
 use Rattle.codegen.specs.Compile.{end, compile}
 use Rattle.writer.specs.Words.{store}
 use Rattle.writer.specs.Classes.{enteredClasses}
@@ -27,4 +26,4 @@ pub record Accepted (p : Program) (r : Found) (tab code code′ entries entries�
 
 -- what is written of the program that Check left in the table
 pub record Prepares (n k : ℕ) (tab code code′ entries entries′ : List ℕ) : Type 0 where
-  pub says : (p : Program) → Leaves (accepted p) (found n k) tab → Accepted p (found n k) tab code code′ entries entries′
+  pub says : (ts : List Token) (p : Program) → Holding ts p (found n k) tab → Accepted p (found n k) tab code code′ entries entries′

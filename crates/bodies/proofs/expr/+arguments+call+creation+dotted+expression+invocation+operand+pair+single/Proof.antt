@@ -160,10 +160,10 @@ single-calls t = (word-reads.Asked, word-reads.Learnt, operand-below t, operand.
 
 module _ (t : ℕ) where
   arguments-returns : arguments-lts.Need-returns (arguments-calls t) (arguments-at t) arguments.Post
-  arguments-returns c = search arguments-none
+  arguments-returns c = search arguments-end
 
   arguments-returns-2 : arguments-lts.Need-returns-2 (arguments-calls t) (arguments-at t) arguments.Post
-  arguments-returns-2 c = search arguments-end
+  arguments-returns-2 c = search arguments-none
 
   arguments-word-requires : arguments-lts.Need-word-requires (arguments-calls t) (arguments-at t) arguments.Post
   arguments-word-requires c κs = search needs

@@ -28,13 +28,13 @@ same-count-calls t = (word-reads.Asked, word-reads.Learnt, same-count-below t, s
 
 module _ (t : ℕ) where
   same-count-returns : same-count-lts.Need-returns (same-count-calls t) (same-count-at t) same-count.Post
-  same-count-returns c = search count-none
+  same-count-returns c = search count-ends
 
   same-count-returns-2 : same-count-lts.Need-returns-2 (same-count-calls t) (same-count-at t) same-count.Post
-  same-count-returns-2 c = search count-ends
+  same-count-returns-2 c = search count-short
 
   same-count-returns-3 : same-count-lts.Need-returns-3 (same-count-calls t) (same-count-at t) same-count.Post
-  same-count-returns-3 c = search count-short
+  same-count-returns-3 c = search count-none
 
   same-count-sub-same-count : same-count-lts.Need-sub-same-count (same-count-calls t) (same-count-at t) same-count.Post
   same-count-sub-same-count c = search needs

@@ -138,10 +138,10 @@ module _ (t : ℕ) where
   conditional-returns-2 c = search conditional-refused
 
   list-returns : list-lts.Need-returns (list-calls t) (list-at t) list.Post
-  list-returns c = search list-none
+  list-returns c = search list-end
 
   list-returns-2 : list-lts.Need-returns-2 (list-calls t) (list-at t) list.Post
-  list-returns-2 c = search list-end
+  list-returns-2 c = search list-none
 
   list-single-requires : list-lts.Need-single-requires (list-calls t) (list-at t) list.Post
   list-single-requires c κs = search needs

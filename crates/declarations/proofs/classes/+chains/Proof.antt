@@ -26,10 +26,10 @@ chains-calls t = (word-reads.Asked, word-reads.Learnt, height-reads.Asked, heigh
 
 module _ (t : ℕ) where
   chains-returns : chains-lts.Need-returns (chains-calls t) (chains-at t) chains.Post
-  chains-returns c = search chains-none-left
+  chains-returns c = search chains-absent
 
   chains-returns-2 : chains-lts.Need-returns-2 (chains-calls t) (chains-at t) chains.Post
-  chains-returns-2 c = search chains-absent
+  chains-returns-2 c = search chains-none-left
 
   chains-word-requires : chains-lts.Need-word-requires (chains-calls t) (chains-at t) chains.Post
   chains-word-requires c κs = search needs

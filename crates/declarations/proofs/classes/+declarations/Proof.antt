@@ -33,10 +33,10 @@ declarations-calls t = (members-reads.Asked, members-reads.Learnt, word-reads.As
 
 module _ (t : ℕ) where
   declarations-returns : declarations-lts.Need-returns (declarations-calls t) (declarations-at t) declarations.Post
-  declarations-returns c = search declarations-none-left
+  declarations-returns c = search declarations-absent
 
   declarations-returns-2 : declarations-lts.Need-returns-2 (declarations-calls t) (declarations-at t) declarations.Post
-  declarations-returns-2 c = search declarations-absent
+  declarations-returns-2 c = search declarations-none-left
 
   declarations-members-requires : declarations-lts.Need-members-requires (declarations-calls t) (declarations-at t) declarations.Post
   declarations-members-requires c κs = search needs

@@ -27,10 +27,10 @@ parents-calls t = (is-orphan-reads.Asked, is-orphan-reads.Learnt, word-reads.Ask
 
 module _ (t : ℕ) where
   parents-returns : parents-lts.Need-returns (parents-calls t) (parents-at t) parents.Post
-  parents-returns c = search parents-none-left
+  parents-returns c = search parents-absent
 
   parents-returns-2 : parents-lts.Need-returns-2 (parents-calls t) (parents-at t) parents.Post
-  parents-returns-2 c = search parents-absent
+  parents-returns-2 c = search parents-none-left
 
   parents-is-orphan-requires : parents-lts.Need-is-orphan-requires (parents-calls t) (parents-at t) parents.Post
   parents-is-orphan-requires c κs = search needs

@@ -27,10 +27,10 @@ heads-calls t = (head-reads.Asked, head-reads.Learnt, word-reads.Asked, word-rea
 
 module _ (t : ℕ) where
   heads-returns : heads-lts.Need-returns (heads-calls t) (heads-at t) heads.Post
-  heads-returns c = search heads-none-left
+  heads-returns c = search heads-absent
 
   heads-returns-2 : heads-lts.Need-returns-2 (heads-calls t) (heads-at t) heads.Post
-  heads-returns-2 c = search heads-absent
+  heads-returns-2 c = search heads-none-left
 
   heads-head-requires : heads-lts.Need-head-requires (heads-calls t) (heads-at t) heads.Post
   heads-head-requires c κs = search needs

@@ -29,13 +29,13 @@ same-types-calls t = (word-reads.Asked, word-reads.Learnt, type-of-reads.Asked, 
 
 module _ (t : ℕ) where
   same-types-returns : same-types-lts.Need-returns (same-types-calls t) (same-types-at t) same-types.Post
-  same-types-returns c = search types-none-left
+  same-types-returns c = search types-first-ends
 
   same-types-returns-2 : same-types-lts.Need-returns-2 (same-types-calls t) (same-types-at t) same-types.Post
-  same-types-returns-2 c = search types-first-ends
+  same-types-returns-2 c = search types-second-ends
 
   same-types-returns-3 : same-types-lts.Need-returns-3 (same-types-calls t) (same-types-at t) same-types.Post
-  same-types-returns-3 c = search types-second-ends
+  same-types-returns-3 c = search types-none-left
 
   same-types-word-requires : same-types-lts.Need-word-requires (same-types-calls t) (same-types-at t) same-types.Post
   same-types-word-requires c κs = search needs

@@ -27,10 +27,10 @@ entries-calls t = (word-reads.Asked, word-reads.Learnt, enter-reads.Asked, enter
 
 module _ (t : ℕ) where
   entries-returns : entries-lts.Need-returns (entries-calls t) (entries-at t) entries.Post
-  entries-returns c = search entries-none-left
+  entries-returns c = search entries-absent
 
   entries-returns-2 : entries-lts.Need-returns-2 (entries-calls t) (entries-at t) entries.Post
-  entries-returns-2 c = search entries-absent
+  entries-returns-2 c = search entries-none-left
 
   entries-word-requires : entries-lts.Need-word-requires (entries-calls t) (entries-at t) entries.Post
   entries-word-requires c κs = search needs
@@ -72,7 +72,7 @@ module _ (t : ℕ) where
   entries-same-length-3 c = search needs
 
   entries-returns-5 : entries-lts.Need-returns-5 (entries-calls t) (entries-at t) entries.Post
-  entries-returns-5 c = entries-next (c .before .before .before .before .before .before .before .before .before .before .before .before .before .before .before .before .before .before .before .pre .1) (c .before .before .before .before .before .before .before .before .before .before .before .before .before .before .before .before .before .if1 .left) (c .before .before .before .before .before .before .before .before .before .before .before .before .before .before .before .before .if2 .left) (c .before .before .before .before .before .before .before .before .before .before .before .before .before .before .word .ensures .0) (c .before .before .before .before .before .before .before .before .before .before .before .before .before .if3 .left) (c .before .before .before .before .before .before .before .before .before .before .before .word3 .ensures .0) (c .before .before .before .before .before .before .before .before .before .before .if4 .left) (c .before .before .before .before .before .before .before .before .enter .ensures) (c .before .before .before .word5 .ensures .0) (c .before .before .entries .ensures)
+  entries-returns-5 c = entries-next (c .before .before .before .before .before .before .before .before .before .before .before .before .before .before .before .before .before .before .before .pre .1) (c .before .before .before .before .before .before .before .before .before .before .before .before .before .before .before .before .if2 .left) (c .before .before .before .before .before .before .before .before .before .before .before .before .before .before .before .before .before .if1 .left) (c .before .before .before .before .before .before .before .before .before .before .before .before .before .before .word .ensures .0) (c .before .before .before .before .before .before .before .before .before .before .before .before .before .if3 .left) (c .before .before .before .before .before .before .before .before .before .before .before .word3 .ensures .0) (c .before .before .before .before .before .before .before .before .before .before .if4 .left) (c .before .before .before .before .before .before .before .before .enter .ensures) (c .before .before .before .word5 .ensures .0) (c .before .before .entries .ensures)
 
 pub +entries-spec : {M : Type 1} → statement M
 +entries-spec =

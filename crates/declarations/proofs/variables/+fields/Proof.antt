@@ -28,10 +28,10 @@ fields-calls t = (word-reads.Asked, word-reads.Learnt, is-known-reads.Asked, is-
 
 module _ (t : ℕ) where
   fields-returns : fields-lts.Need-returns (fields-calls t) (fields-at t) fields.Post
-  fields-returns c = search fields-none-left
+  fields-returns c = search fields-absent
 
   fields-returns-2 : fields-lts.Need-returns-2 (fields-calls t) (fields-at t) fields.Post
-  fields-returns-2 c = search fields-absent
+  fields-returns-2 c = search fields-none-left
 
   fields-word-requires : fields-lts.Need-word-requires (fields-calls t) (fields-at t) fields.Post
   fields-word-requires c κs = search needs

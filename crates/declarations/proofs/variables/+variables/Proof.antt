@@ -28,10 +28,10 @@ variables-calls t = (variable-reads.Asked, variable-reads.Learnt, word-reads.Ask
 
 module _ (t : ℕ) where
   variables-returns : variables-lts.Need-returns (variables-calls t) (variables-at t) variables.Post
-  variables-returns c = search variables-none-left
+  variables-returns c = search variables-absent
 
   variables-returns-2 : variables-lts.Need-returns-2 (variables-calls t) (variables-at t) variables.Post
-  variables-returns-2 c = search variables-absent
+  variables-returns-2 c = search variables-none-left
 
   variables-variable-requires : variables-lts.Need-variable-requires (variables-calls t) (variables-at t) variables.Post
   variables-variable-requires c κs = search needs

@@ -26,10 +26,10 @@ all-calls t = (word-reads.Asked, word-reads.Learnt, methods-reads.Asked, methods
 
 module _ (t : ℕ) where
   all-returns : all-lts.Need-returns (all-calls t) (all-at t) all.Post
-  all-returns c = search classes-none
+  all-returns c = search classes-end
 
   all-returns-2 : all-lts.Need-returns-2 (all-calls t) (all-at t) all.Post
-  all-returns-2 c = search classes-end
+  all-returns-2 c = search classes-none
 
   all-word-requires : all-lts.Need-word-requires (all-calls t) (all-at t) all.Post
   all-word-requires c κs = search needs

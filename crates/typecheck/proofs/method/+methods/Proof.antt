@@ -26,10 +26,10 @@ methods-calls t = (body-reads.Asked, body-reads.Learnt, word-reads.Asked, word-r
 
 module _ (t : ℕ) where
   methods-returns : methods-lts.Need-returns (methods-calls t) (methods-at t) methods.Post
-  methods-returns c = search methods-none
+  methods-returns c = search methods-end
 
   methods-returns-2 : methods-lts.Need-returns-2 (methods-calls t) (methods-at t) methods.Post
-  methods-returns-2 c = search methods-end
+  methods-returns-2 c = search methods-none
 
   methods-body-requires : methods-lts.Need-body-requires (methods-calls t) (methods-at t) methods.Post
   methods-body-requires c κs = search needs

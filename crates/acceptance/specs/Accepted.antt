@@ -7,17 +7,14 @@ use mathlib.Core.Bool.{true≢false}
 use mathlib.Core.Option.{Option, none, some}
 use native.Mathlib.Omega.{arith}
 use native.Mathlib.Decide.{decLt}
-use lib.ListN.{length, List·getD-eq-default}
+use lib.ListN.{length}
 use lib.Dec.{ltb}
 use borrow.Author.Tests.{lt-ltb}
 use Rattle.base.specs.Choice.{option}
 use Rattle.base.specs.Codes.{sourceMost, tooDeep}
-use Rattle.base.specs.Lists.{get-getD}
 use Rattle.base.specs.Outcome.{Outcome, accepted, refused}
 use Rattle.lexer.specs.Tokens.{Token, tokens}
-use Rattle.lexer.specs.RowLaws.{token-of}
 use Rattle.parser.specs.Tree.{Program}
-use Rattle.parser.specs.Stream.{tokenAt, noMore}
 use Rattle.parser.specs.Parse.{Parsed, ok, bad, out, parse}
 use Rattle.parser.specs.Grammar.{DerivesProgram}
 use Rattle.parser.specs.Measure.{programDeep}
@@ -28,7 +25,6 @@ use Rattle.checker.specs.Typing.{ProgramTyped}
 use Rattle.reader.specs.ReadingLaws.{proper, read-well}
 use Rattle.typing.specs.Agreement.{program-agrees}
 use Rattle.typing.specs.Choices.{bound, failed, refused-accepted}
-use Rattle.guarantees.specs.Literals.{SmallLiterals}
 
 -- what document 01 allows: a source that is not too long, whose tokens are the yield of a derivation of the program p, of depth at most 64, well typed
 pub record Allowed (s : List ℕ) (p : Program) : Type 0 where
@@ -38,14 +34,6 @@ pub record Allowed (s : List ℕ) (p : Program) : Type 0 where
   pub derived : DerivesProgram stream p
   pub shallow : programDeep p ≡ none
   pub typed : ProgramTyped p
-
--- TOKENS OF A SOURCE
-module _ (s : List ℕ) (ts : List Token) (e : tokens s ≡ accepted ts) where
-  pub small : SmallLiterals ts
-  small i k = elim (decLt i (length ts)) [
-    | yes l ↦ token-of s ts e i (tokenAt ts i) (get-getD ts i noMore l) .literal k
-    | no l ↦ absurd (omega (arith, sym (ap (λ (t : Token). t .kind) (List·getD-eq-default ts noMore (omega arith))) ∙ k))
-  ]
 
 -- READ, taken apart
 pub record ReadAs (s : List ℕ) (r : Reading) : Type 0 where
@@ -67,7 +55,7 @@ shallow-of q {p} e = go (programDeep q) refl e
     go none d e = (d, cc)
     go (some x) d e = absurd (refused-accepted e)
 
-reading-of : (s : List ℕ) (r : Reading) → reading s ≡ accepted r → ReadAs s r
+pub reading-of : (s : List ℕ) (r : Reading) → reading s ≡ accepted r → ReadAs s r
 unfolding reading
 reading-of s r e =
     let a = failed (ltb sourceMost (length s)) _ _ _ e in

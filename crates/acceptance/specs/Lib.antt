@@ -1,0 +1,2 @@
+-- What is accepted.
+pub mod Accepted

@@ -1,0 +1,1 @@
+// Theorems only, in specs/: a source is accepted exactly when grammar, bounds and typing rules allow it.
