@@ -4,7 +4,7 @@ use mathlib.Core.Path.{_≡_, refl}
 use mathlib.Core.List.{List, [], _∷_}
 use lib.IntN.{pos}
 use Rattle.base.specs.Bytes.{bytes}
-use Rattle.rows.specs.Ends.{Row, row, endOf, found, expected, refusedAt, ends, usual}
+use Rattle.semantics.specs.Ends.{Row, row, endOf, found, expected, refusedAt, ends, usual}
 use Rattle.rows.specs.Further.{declaring}
 
 abbrev pub endlessRows : List Row

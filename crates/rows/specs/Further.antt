@@ -5,7 +5,7 @@ use mathlib.Core.List.{List, [], _∷_, _++_}
 use lib.IntN.{pos}
 use lib.ListN.{replicate}
 use Rattle.base.specs.Bytes.{bytes}
-use Rattle.rows.specs.Ends.{Row, row, endOf, found, expected, refusedAt, ends, limits, usual, printing}
+use Rattle.semantics.specs.Ends.{Row, row, endOf, found, expected, refusedAt, ends, limits, usual, printing}
 
 -- the frame with the expression 1, 68 bytes long, then classes
 abbrev pub declaring : List ℕ → List ℕ
@@ -45,18 +45,7 @@ furtherRows =
     row (printing (bytes "new A().m()") ++ bytes " class A{}") usual (refusedAt 32 71) ∷
     -- the count is tested before the arguments
     row (printing (bytes "new A().m(1,x)") ++ bytes " class A{public int m(int y){return y;}}") usual (refusedAt 33 71) ∷
-    -- null is tested after the arguments: the array is made
-    row (printing (bytes "new A().m()") ++ bytes " class A{A n;public int m(){return n.k(new int[3].length);}public int k(int x){return x;}}") usual
-    (ends 40 113 8 6 []) ∷
     row (printing (bytes "new A().m()") ++ bytes " class A{public int m(){return this.m();}}") (limits 100000 2) (ends 52 109 7 1 []) ∷
-    -- the method is the object's own, not that of the declared type
-    row (printing (bytes "new C().k(new B())") ++ bytes " class A{public int m(){return 1;}} class B extends A{public int m(){return 2;}} class C{public int k(A a){return a.m();}}")
-    usual (ends 0 0 7 2 (pos 2 ∷ [])) ∷
-    -- the object holds both fields x, and a method's name x means the one seen from its own class
-    row (printing (bytes "new B().b()") ++ bytes " class A{int x;public int a(){return x;}} class B extends A{int x;public int b(){x=5;return this.a()*10+x;}}")
-    usual (ends 0 0 12 3 (pos 5 ∷ [])) ∷
-    -- four tests, three rounds, and one step for the `while` itself
-    row (printing (bytes "new A().m()") ++ bytes " class A{public int m(){int i;while(i<3)i=i+1;return i;}}") usual (ends 0 0 29 1 (pos 3 ∷ [])) ∷
     []
 
 pub further : found furtherRows ≡ expected furtherRows

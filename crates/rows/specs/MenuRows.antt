@@ -6,7 +6,7 @@ use mathlib.Core.List.{List, [], _∷_, map}
 use Rattle.base.specs.Bytes.{bytes}
 use Rattle.checker.specs.Check.{CheckAnswer}
 use Rattle.menu.specs.Menu.{mayStand, earliest, writing, menuOrder, positions, Listing, menu}
-use Rattle.rows.specs.Ends.{endOf}
+use Rattle.semantics.specs.Ends.{endOf}
 use Rattle.rows.specs.Further.{declaring}
 
 -- classes after the frame; a strip; Menu's answer, and the strip afterwards

@@ -4,7 +4,7 @@ use mathlib.Core.Path.{_≡_, refl}
 use mathlib.Core.List.{List, [], _∷_, _++_}
 use lib.IntN.{pos}
 use Rattle.base.specs.Bytes.{bytes}
-use Rattle.rows.specs.Ends.{Row, row, endOf, found, expected, refusedAt, ends, limits, usual, printing}
+use Rattle.semantics.specs.Ends.{Row, row, endOf, found, expected, refusedAt, ends, limits, usual, printing}
 
 abbrev pub refutingRows : List Row
 refutingRows =

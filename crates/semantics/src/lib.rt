@@ -1,1 +1,1 @@
-// Definitions only, in specs/: the machine, and the operation Run.
+// Definitions only, in specs/: the machine, and the operation Run; and rows computed with them.

@@ -10,10 +10,10 @@ use lib.Dec.{ltb}
 use Rattle.base.specs.Choice.{if_then_else_}
 use Rattle.base.specs.Codes.{nullReference, indexOutOfRange}
 use Rattle.parser.specs.Tree.{Place, Class}
-use Rattle.checker.specs.ClassTable.{Context, Meaning, Meaning.ofRow, Meaning.ofObject, meaning}
+use Rattle.checker.specs.ClassTable.{Context, Meaning, Meaning.ofRow, Meaning.ofObject, meaning, meaningType}
 use Rattle.typing.specs.Choices.{by-test}
 use Rattle.semantics.specs.Machine.{Value, Value.number, Value.flag, Value.null, Value.arrayAt, Value.objectAt, Cell, Cell.object, Cell.array, Cell.slot, Call, Call.frame, Core, Request, Request.fault, Request.stuck}
-use Rattle.semantics.specs.Machine.{need, pop, popMany, asNumber, asFlag, asArray, asObject, asSlot, asObjectCell, asArrayCell, innermost, cellAt, inArray, readMeaning, readName, writeMeaning, writeName}
+use Rattle.semantics.specs.Machine.{need, require, pop, popMany, asNumber, asFlag, asArray, asObject, asSlot, asObjectCell, asArrayCell, innermost, cellAt, inArray, readMeaning, readName, ofKind, writeMeaning, writeName}
 use Rattle.semantics.specs.Limits.{Meters, Ending, Outcome, next, stop, Report, sizeOf, report, after}
 
 pub record Closed (Q : Request Core → Type 0) : Type 0 where
@@ -24,6 +24,9 @@ module _ {Q : Request Core → Type 0} (q : Closed Q) where
   pub need-by : {A : Type 0} (o : Option A) (k : A → Request Core) → ((a : A) → o ≡ some a → Q (k a)) → Q (need o k)
   need-by none k f = q .at-stuck
   need-by (some a) k f = f a refl
+
+  pub require-by : (b : Bool) (k : Unit {0} → Request Core) → Q (k tt) → Q (require b k)
+  require-by b k f = by-test Q b k _ (λ _. f) (λ _. q .at-stuck)
 
   pub pop-by : (vs : List Value) (k : Value → List Value → Request Core) → ((v : Value) (ws : List Value) → Q (k v ws)) → Q (pop vs k)
   pop-by [] k f = q .at-stuck
@@ -109,8 +112,8 @@ module _ {Q : Request Core → Type 0} (q : Closed Q) where
       → ((ds : List Call) (g : List Cell) → length ds ≡ length cs → length g ≡ length h → Q (k ds g)) → Q (writeName G cs h x v k)
   unfolding writeName
   write-by G cs h x v k f =
-      innermost-by cs _ (λ a Γ xs ds e. need-by (meaning G Γ x) _ (λ m _.
-      write-meaning-by a Γ xs ds h m v k (λ es g l n. f es g (rw e l) n)))
+      innermost-by cs _ (λ a Γ xs ds e. need-by (meaning G Γ x) _ (λ m _. require-by (ofKind (meaningType m) v) _
+      (write-meaning-by a Γ xs ds h m v k (λ es g l n. f es g (rw e l) n))))
 
 -- what holds of a turn's outcome passes on to the report: of the run that goes on, or of the end
 pub after-by : (P : Outcome Core → Type 0) (Q : Report → Type 0) (k : Core → Meters → Report) (c : Core) (m : Meters) → ((d : Core) (n : Meters) → P (next d n) → Q (k d n))

@@ -3,7 +3,7 @@ use Prim.Native.Nat.{ℕ, zero, suc, _+_, _-_, _*_, _^_, _≤_, _<_}
 use native.Mathlib.Omega.{arith}
 use mathlib.Core.List.{List, [], _∷_}
 use lib.ListN.{length, getElem?}
-use lib.Dec.{ltb, leb, eqb}
+use lib.Dec.{ltb, leb}
 use borrow.Author.Tests.{ltb-true}
 use Rattle.parser.specs.Tree.{Expression, Statement, Class, Program}
 use Rattle.parser.specs.Tree.{Part.literal, Part.truth, Part.variable, Part.this, Part.newArray, Part.newObject, Part.negation, Part.binary, Part.element, Part.arrayLength, Part.call, Part.noArguments, Part.argument}
@@ -12,10 +12,10 @@ use Rattle.checker.specs.ClassTable.{classNamed, methodOf}
 use Rattle.typing.specs.Choices.{by-test}
 use Rattle.semantics.specs.Machine.{Value, Cell, Call, Core, Core.core, Request, Request.charge, Request.allocate, Request.enter, Request.output, Request.move, Request.fault, Request.done, Request.stuck}
 use Rattle.semantics.specs.Machine.{Task, Task.evaluate, Task.execute, Task.operand, Task.operate, Task.confirm, Task.negate, Task.index, Task.fetch, Task.measure, Task.makeArray, Task.makeObject, Task.invoke, Task.branch, Task.decide, Task.again, Task.show, Task.store, Task.newElement, Task.storeElement, Task.continue, Task.perform, Task.leave}
-use Rattle.semantics.specs.Machine.{isAnd, apply, begin, beginStatement, second, callMethod, nextArgument, nextStatement, nextOfBody, newArrayOf, newObjectOf, go, plan, start}
+use Rattle.semantics.specs.Machine.{ofKind, ofKinds, isAnd, apply, begin, beginStatement, second, callMethod, nextArgument, nextStatement, nextOfBody, newArrayOf, newObjectOf, go, plan, start}
 use Rattle.semantics.specs.Limits.{Limits, Meters, meters, Outcome, next, stop, guard, sizeOf, runWith, run}
 use Rattle.soundness.specs.Results.{Over}
-use Rattle.soundness.specs.Continuations.{Closed, need-by, pop-by, popMany-by, number-by, flag-by, array-by, object-by, object-cell-by, array-cell-by, choice-by, innermost-by, cell-by, in-array-by, read-by, write-by, after-by}
+use Rattle.soundness.specs.Continuations.{Closed, need-by, require-by, pop-by, popMany-by, number-by, flag-by, array-by, object-by, object-cell-by, array-cell-by, choice-by, innermost-by, cell-by, in-array-by, read-by, write-by, after-by}
 
 -- a call whose parts are done turns into the body of its method, so it weighs more
 abbrev pub weight : Task → ℕ
@@ -39,8 +39,8 @@ weight (store x) = 1
 weight (newElement p e) = 1
 weight (storeElement p) = 1
 weight (continue ss) = 1
-weight (perform ss e) = 1
-weight leave = 1
+weight (perform ss e t) = 1
+weight (leave t) = 1
 
 abbrev pub load : List Task → ℕ
 load [] = 0
@@ -112,7 +112,7 @@ module _ (w : ℕ) where
   task-pays G (invoke p m n noArguments) ts vs cs h l =
       popMany-by closed n [] vs _ (λ given vs. pop-by closed vs _ (λ x vs. object-by closed p x _ (λ a. need-by closed (getElem? h a) _ (λ o _.
       object-cell-by closed o _ (λ c. need-by closed (methodOf G c m) _ (λ F _.
-      choice-by closed (eqb (length given) (length (F .method .parameters))) _ _ (omega arith) tt))))))
+      require-by closed (ofKinds (F .method .parameters) given) _ (omega arith)))))))
   task-pays G (invoke p m n (argument e es)) ts vs cs h l = begin-pays G e (invoke p m n es ∷ ts) vs cs h l
   task-pays G (branch s t) ts vs cs h l =
       pop-by closed vs _ (λ x vs. flag-by closed x _ (λ b.
@@ -128,9 +128,9 @@ module _ (w : ℕ) where
       array-by closed p x _ (λ a. in-array-by closed p h a i _ (cell-by closed h a i _ (λ _. omega arith))))))))
   task-pays G (continue noStatements) ts vs cs h l = omega arith
   task-pays G (continue (sequence s ss)) ts vs cs h l = begin-statement-pays G s (continue ss ∷ ts) vs cs h (omega arith)
-  task-pays G (perform noStatements e) ts vs cs h l = begin-pays G e (leave ∷ ts) vs cs h l
-  task-pays G (perform (sequence s ss) e) ts vs cs h l = begin-statement-pays G s (perform ss e ∷ ts) vs cs h (omega arith)
-  task-pays G leave ts vs cs h l = innermost-by closed cs _ (λ a Γ xs ds _. omega arith)
+  task-pays G (perform noStatements e t) ts vs cs h l = begin-pays G e (leave t ∷ ts) vs cs h l
+  task-pays G (perform (sequence s ss) e t) ts vs cs h l = begin-statement-pays G s (perform ss e t ∷ ts) vs cs h (omega arith)
+  task-pays G (leave t) ts vs cs h l = pop-by closed vs _ (λ v _. require-by closed (ofKind t v) _ (innermost-by closed cs _ (λ a Γ xs ds _. omega arith)))
 
 plan-pays : (G : List Class) (c : Core) → Pays (loadOf c) (plan G c)
 unfolding plan

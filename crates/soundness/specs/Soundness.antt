@@ -2,20 +2,19 @@
 use Prim.Native.Nat.{ℕ, zero, suc, _+_, _*_, _^_, _<_}
 use native.Mathlib.Nat.{zero-add, add-zero}
 use native.Mathlib.Omega.{arith}
-use mathlib.Core.Bool.{true, false, true≢false}
+use mathlib.Core.Bool.{Bool, true, false, true≢false}
 use mathlib.Core.List.{List, [], _∷_, _++_, map, map-append, reverseAux}
 use mathlib.Core.Logic.{_⊎_, inl, inr}
 use mathlib.Core.Option.{Option, some, Option·some-injective}
 use mathlib.Core.Path.{_≡_, refl, sym, ap, _∙_, subst}
-use lib.ListN.{length, getElem?, set, length-map}
-use lib.Dec.{ltb, leb, eqb}
-use borrow.Author.Tests.{ltb-true, eq-eqb}
-use Rattle.base.specs.Choice.{if_then_else_}
-use Rattle.base.specs.Lists.{All, All2, all2-nil, all2-cons, all2-append, all2-length, all2-map, all2-at, all2-set, Related, get-map}
+use lib.ListN.{length, getElem?, set}
+use lib.Dec.{ltb, leb}
+use borrow.Author.Tests.{ltb-true}
+use Rattle.base.specs.Lists.{All, All2, all2-nil, all2-cons, all2-append, all2-map, all2-at, all2-set, Related, get-map}
 use Rattle.base.specs.WordLaws.{add-below, sub-below, mul-below}
 use Rattle.parser.specs.Tree.{Place, Operator, Operator.and, Operator.less, Operator.plus, Operator.minus, Operator.times, Part, Expression, Statement, Ty, Ty.int, Ty.boolean, Ty.intArray, Ty.class, Variable, Method, Class, Program}
 use Rattle.parser.specs.Tree.{Sort.arguments}
-use Rattle.checker.specs.ClassTable.{Slot, Found, Context, meaning, classNamed, variableNamed, fieldsOf}
+use Rattle.checker.specs.ClassTable.{Slot, Found, Context, meaning, meaningType, classNamed, variableNamed, fieldsOf}
 use Rattle.checker.specs.Judge.{operandType, resultType, arity}
 use Rattle.checker.specs.Typing.{Sub, sub-same, sub-trans, HasMethod, HasName, of-variable, of-field, typeOf, ClassTyped, Redeclares, ProgramTyped}
 use Rattle.checker.specs.Typing.{HasType, t-literal, t-truth, t-variable, t-this, t-new-array, t-new-object, t-negation, t-binary, t-element, t-length, t-call, HaveTypes, t-none, t-more}
@@ -28,7 +27,7 @@ use Rattle.typing.specs.ClassTableLaws.{stands-up, every-method, method-up, met
 use Rattle.semantics.specs.Machine.{Value, Value.objectAt, Cell, Cell.slot, Call, Call.frame, Core, initial}
 use Rattle.semantics.specs.Machine.{Request, Request.charge, Request.allocate, Request.enter, Request.output, Request.move, Request.fault, Request.done, Request.stuck}
 use Rattle.semantics.specs.Machine.{Task, Task.fetch, Task.measure, Task.makeArray, Task.makeObject, Task.storeElement, Task.leave}
-use Rattle.semantics.specs.Machine.{need, pop, popMany, innermost, asSlot, asObjectCell, asArrayCell, inArray, readMeaning, readName, writeMeaning, writeName, isAnd, apply, begin, beginStatement, second, callMethod, nextArgument, nextStatement, nextOfBody, newArrayOf, newObjectOf, opened, go, plan, start}
+use Rattle.semantics.specs.Machine.{need, require, ofKind, ofKinds, pop, popMany, innermost, asSlot, asObjectCell, asArrayCell, inArray, readMeaning, readName, writeMeaning, writeName, isAnd, apply, begin, beginStatement, second, callMethod, nextArgument, nextStatement, nextOfBody, newArrayOf, newObjectOf, opened, go, plan, start}
 use Rattle.semantics.specs.Limits.{Limits, Meters, meters, Ending, ended, wentWrong, unfinished, Outcome, next, stop, guard, sizeOf, runWith, run}
 use Rattle.soundness.specs.Results.{by-null, by-index, by-size, Finish, by-success, by-fault, ByLimit, by-budget, by-heap, by-calls, by-output, Over}
 use Rattle.soundness.specs.Continuations.{after-by}
@@ -57,6 +56,19 @@ applied plus a b e = (_, refl, v-number (add-below a b))
 applied minus a b e = (_, refl, v-number (sub-below a b))
 applied times a b e = (_, refl, v-number (mul-below a b))
 
+-- a value of a type is of its kind, and so are values for a list of parameters
+kind-typed : {G : List Class} {σ : List CellType} {v : Value} {t : Ty} → ValueTyped G σ v t → ofKind t v ≡ true
+kind-typed (v-number l) = refl
+kind-typed v-flag = refl
+kind-typed v-no-array = refl
+kind-typed v-no-object = refl
+kind-typed (v-array e) = refl
+kind-typed (v-object e c) = refl
+
+kinds-typed : {G : List Class} {σ : List CellType} {given : List Value} (ps : List Variable) → All2 (ValueTyped G σ) given (map typeOf ps) → ofKinds ps given ≡ true
+kinds-typed [] all2-nil = refl
+kinds-typed (p ∷ ps) (all2-cons v W) = rw (kind-typed v) (kinds-typed ps W)
+
 -- main sees no names
 no-name : {G : List Class} {x : List ℕ} {t : Ty} → HasName G (now []) x t → ⊥
 unfolding variableNamed
@@ -68,6 +80,9 @@ module _ {G : List Class} (T : All (ClassTyped G) G) (L : All (λ k. All MethodF
 
   need-ok : {A : Type 0} (k : A → Request Core) {o : Option A} {a : A} → o ≡ some a → Asks G (k a) → Asks G (need o k)
   need-ok k e h = subst (λ x. Asks G (need x k)) (sym e) h
+
+  require-ok : (k : Unit {0} → Request Core) {b : Bool} → b ≡ true → Asks G (k tt) → Asks G (require b k)
+  require-ok k e h = subst (λ x. Asks G (require x k)) (sym e) h
 
   slot-ok : {σ : List CellType} {h : List Cell} {i : ℕ} {t : Ty} (k : Value → Request Core) → Related (CellTyped G σ) h i (slotType t)
       → ((v : Value) → ValueTyped G σ v t → Asks G (k v)) → Asks G (need (getElem? h i) λ x. asSlot x k)
@@ -134,9 +149,10 @@ module _ {G : List Class} (T : All (ClassTyped G) G) (L : All (λ k. All MethodF
   write-ok k H all2-nil n v f = absurd (no-name n)
   write-ok {σ} {h = h} {x = x} {t = t} {v = y} k H (all2-cons {xs = cs} (c-frame {a = a} {Γ = Γ} {xs = xs} F) C) n v f = by-place (name-at (table-acyclic T) n)
     where
-      by-place : NameAt G Γ x t → Asks G (need (meaning G Γ x) λ m. writeMeaning a Γ xs cs h m y k)
+      by-place : NameAt G Γ x t → Asks G (need (meaning G Γ x) λ m. require (ofKind (meaningType m) y) λ _. writeMeaning a Γ xs cs h m y k)
       by-place (in-row s e w q) =
           need-ok _ e
+          (require-ok _ (kind-typed (subst (ValueTyped G σ y) (sym q) v))
           (need-ok (λ _. k (frame a Γ (set xs (s .place) y) ∷ cs) h) (all2-at (s .place) (F .row) (row-type Γ w q) .at)
           (f _ _ H
           (all2-cons
@@ -149,12 +165,13 @@ module _ {G : List Class} (T : All (ClassTyped G) G) (L : All (λ k. All MethodF
             context = F .context;
             row = all2-set (s .place) (F .row) (row-type Γ w q) v;
           }))
-          C)))
+          C))))
       by-place (in-object c s o e w q) =
           let i = field-type H F o w q in
           need-ok _ e
+          (require-ok _ (kind-typed (subst (ValueTyped G σ y) (sym q) v))
           (slot-ok (λ _. k (frame a Γ xs ∷ cs) (set h (a + 1 + s .place) (slot y))) (all2-at (a + 1 + s .place) (H .cells) i)
-          (λ _ _. f _ _ (stored H (a + 1 + s .place) i v) (all2-cons (c-frame F) C)))
+          (λ _ _. f _ _ (stored H (a + 1 + s .place) i v) (all2-cons (c-frame F) C))))
 
   this-ok : {σ : List CellType} {Γs : List Context} {cs : List Call} {c : List ℕ} (k : ℕ → Request Core) → All2 (CallTyped G σ) cs Γs → now Γs .owner ≡ some c
       → ((a : ℕ) → ValueTyped G σ (objectAt a) (class c) → Asks G (k a)) → Asks G (innermost cs λ a Γ xs _. k a)
@@ -265,19 +282,17 @@ module _ {G : List Class} (T : All (ClassTyped G) G) (L : All (λ k. All MethodF
     enter-ok : {us : List Ty} {ts : List Task} {given vs : List Value} {t : Ty} (p : Place) (a : ℕ) {d m : List ℕ} {N : Method} (K : Found)
         → getElem? σ a ≡ some (objectType d) → All2 (ValueTyped G σ) given (map typeOf (N .parameters)) → All2 (ValueTyped G σ) vs us
         → HasMethod G d m K → Redeclares G (K .method) N → Sub G (N .result .type) t → Runs G Γs (t ∷ us) ts
-        → Asks G (if eqb (length given) (length (K .method .parameters)) then (λ _. enter (p .start) (length cs + 1) (opened K a given ts vs cs h)) else λ _. stuck)
+        → Asks G (require (ofKinds (K .method .parameters) given) λ _. enter (p .start) (length cs + 1) (opened K a given ts vs cs h))
     enter-ok {given = given} p a {d} {m} K e X W k r b R =
         let D = method-declares T k .typed in
         let M = every-method L k in
         let Y : All2 (ValueTyped G σ) given (map typeOf (K .method .parameters)) = subst (All2 (ValueTyped G σ) given) (sym (r .parameters)) X in
-        by-test (Asks G) (eqb (length given) (length (K .method .parameters))) _ _
-        (λ _.
-        typed H
+        require-ok _ (kinds-typed (K .method .parameters) Y)
+        (typed H
         (all2-cons
         (c-frame (record { made = d; receiver = e; called = m; found = K; has = k; context = refl; row = row-typed (K .method) Y }))
         C)
-        W (r-perform (D .body) (M .body) (D .value) (M .value) (sub-trans (D .fits) (sub-trans (r .result) b)) R))
-        (λ q. absurd (true≢false (sym (eq-eqb _ _ (all2-length Y ∙ length-map (K .method .parameters) typeOf)) ∙ q)))
+        W (r-perform (D .body) (M .body) (D .value) (M .value) (D .fits) (sub-trans (r .result) b) R))
 
     call-ok : {us : List Ty} {ts : List Task} {given vs : List Value} {x : Value} {t : Ty} (p : Place) {c m : List ℕ} {F : Found}
         → All2 (ValueTyped G σ) given (map typeOf (F .method .parameters)) → ValueTyped G σ x (class c) → All2 (ValueTyped G σ) vs us
@@ -306,10 +321,11 @@ module _ {G : List Class} (T : All (ClassTyped G) G) (L : All (λ k. All MethodF
         let i : n ≡ suc (length qs) + arity es = omega arith in
         begins W x (l .0) s (r-invoke (typeOf v ∷ qs) f r (l .1) q i b R)
 
-  leaves : {σ : List CellType} {Γ : Context} {Γs : List Context} {us : List Ty} {ts : List Task} {vs : List Value} {c : Call} {cs : List Call} {h : List Cell}
-      → HeapTyped G σ h → CallTyped G σ c Γ → All2 (CallTyped G σ) cs Γs → All2 (ValueTyped G σ) vs us → Runs G Γs us ts → Asks G (go G leave ts vs (c ∷ cs) h)
+  leaves : {σ : List CellType} {Γ : Context} {Γs : List Context} {us : List Ty} {ts : List Task} {v : Value} {vs : List Value} {c : Call} {cs : List Call} {h : List Cell} {r t : Ty}
+      → HeapTyped G σ h → CallTyped G σ c Γ → All2 (CallTyped G σ) cs Γs → ValueTyped G σ v r → All2 (ValueTyped G σ) vs us → Sub G r t → Runs G Γs (t ∷ us) ts
+      → Asks G (go G (leave r) ts (v ∷ vs) (c ∷ cs) h)
   unfolding go
-  leaves H (c-frame F) C W R = typed H C W R
+  leaves H (c-frame F) C x W b R = require-ok _ (kind-typed x) (typed H C (all2-cons (value-sub b x) W) R)
 
   -- ---- progress and preservation in one
 
@@ -340,9 +356,9 @@ module _ {G : List Class} (T : All (ClassTyped G) G) (L : All (λ k. All MethodF
   goes H C W (r-store-element {p = p} R) = store-element-ok H C p W R
   goes H C W (r-continue t-end l R) = typed H C W R
   goes H C W (r-continue (t-sequence x q) l R) = begins-statement H C W x (l .0) (r-continue q (l .1) R)
-  goes H C W (r-perform t-end l x m b R) = begins H C W x m b (r-leave R)
-  goes H C W (r-perform (t-sequence y q) l x m b R) = begins-statement H C W y (l .0) (r-perform q (l .1) x m b R)
-  goes H (all2-cons c C) W (r-leave R) = leaves H c C W R
+  goes H C W (r-perform t-end l x m b c R) = begins H C W x m b (r-leave c R)
+  goes H C W (r-perform (t-sequence y q) l x m b c R) = begins-statement H C W y (l .0) (r-perform q (l .1) x m b c R)
+  goes H (all2-cons c C) (all2-cons x W) (r-leave b R) = leaves H c C x W b R
 
   pub sound : {c : Core} → Typed G c → Asks G (plan G c)
   unfolding plan

@@ -7,7 +7,7 @@ use mathlib.Core.List.{List, [], _∷_, map, reverseAux}
 use mathlib.Core.Option.{Option, none, some}
 use mathlib.Core.Path.{_≡_, refl, sym, ap, subst}
 use lib.ListN.{length, getElem?, length-set, length-append, length-map, length-replicate}
-use lib.Dec.{ltb, leb, eqb}
+use lib.Dec.{ltb, leb}
 use borrow.Author.Tests.{ltb-true, ltb-false, leb-true}
 use Rattle.base.specs.Codes.{depthMost, variablesMost}
 use Rattle.base.specs.Lists.{All, all-nil, all-cons, all2-length}
@@ -24,9 +24,9 @@ use Rattle.typing.specs.Programs.{table-acyclic}
 use Rattle.typing.specs.ClassTableLaws.{every-method, method-declares}
 use Rattle.semantics.specs.Machine.{Value, Cell, Call, Core, Core.core, Request, Request.charge, Request.allocate, Request.enter, Request.output, Request.move, Request.fault, Request.done, Request.stuck}
 use Rattle.semantics.specs.Machine.{Task, Task.evaluate, Task.execute, Task.operand, Task.operate, Task.confirm, Task.negate, Task.index, Task.fetch, Task.measure, Task.makeArray, Task.makeObject, Task.invoke, Task.branch, Task.decide, Task.again, Task.show, Task.store, Task.newElement, Task.storeElement, Task.continue, Task.perform, Task.leave}
-use Rattle.semantics.specs.Machine.{isAnd, apply, begin, beginStatement, second, callMethod, nextArgument, nextStatement, nextOfBody, newArrayOf, newObjectOf, go, plan}
+use Rattle.semantics.specs.Machine.{ofKind, ofKinds, isAnd, apply, begin, beginStatement, second, callMethod, nextArgument, nextStatement, nextOfBody, newArrayOf, newObjectOf, go, plan}
 use Rattle.semantics.specs.Limits.{Limits, Meters, meters, stepsOf, printedOf, Outcome, next, stop, guard, heapOf}
-use Rattle.soundness.specs.Continuations.{Closed, need-by, pop-by, popMany-by, number-by, flag-by, array-by, object-by, object-cell-by, array-cell-by, choice-by, innermost-by, cell-by, in-array-by, read-by, write-by}
+use Rattle.soundness.specs.Continuations.{Closed, need-by, require-by, pop-by, popMany-by, number-by, flag-by, array-by, object-by, object-cell-by, array-cell-by, choice-by, innermost-by, cell-by, in-array-by, read-by, write-by}
 use Rattle.soundness.specs.StateTyping.{LiteralsFit, Typed, typed}
 use Rattle.soundness.specs.StateTyping.{Runs, r-end, r-evaluate, r-execute, r-operand, r-operate, r-confirm, r-negate, r-index, r-fetch, r-measure, r-make-array, r-make-object, r-invoke, r-branch, r-decide, r-again, r-show, r-store, r-new-element, r-store-element, r-continue, r-perform, r-leave}
 use Rattle.soundness.specs.Reachable.{Reach, reach-start, reach-next, reach-typed}
@@ -164,8 +164,8 @@ extra (store x) = 0
 extra (newElement p e) = 1 + below e
 extra (storeElement p) = 0
 extra (continue ss) = below ss
-extra (perform ss e) = max (below ss) (1 + below e)
-extra leave = 0
+extra (perform ss e t) = max (below ss) (1 + below e)
+extra (leave t) = 0
 
 -- the open calls once a task is done, of n at its beginning: a body ends with its call
 abbrev pub calls : Task → ℕ → ℕ
@@ -189,8 +189,8 @@ calls (store x) n = n
 calls (newElement p e) n = n
 calls (storeElement p) n = n
 calls (continue ss) n = n
-calls (perform ss e) n = pred n
-calls leave n = pred n
+calls (perform ss e t) n = pred n
+calls (leave t) n = pred n
 
 -- 64 tasks for main and for each of n open calls are enough
 abbrev Fits : ℕ → List Task → Type 0
@@ -267,7 +267,7 @@ module _ (n w : ℕ) (G : List Class) where
   task-fits B (invoke p m k noArguments) ts vs cs h l c d f =
       popMany-by closed k [] vs _ (λ given vs. pop-by closed vs _ (λ x vs. object-by closed p x _ (λ a. need-by closed (getElem? h a) _ (λ o _.
       object-cell-by closed o _ (λ b. need-by closed (methodOf G b m) _ (λ F e. let S = B b m F e in
-      choice-by closed (eqb (length given) (length (F .method .parameters))) _ _ (omega arith, d, (omega (arith, S .body, S .value), f)) tt))))))
+      require-by closed (ofKinds (F .method .parameters) given) _ (omega arith, d, (omega (arith, S .body, S .value), f))))))))
   task-fits B (invoke p m k (argument e es)) ts vs cs h l c d f = begin-fits e (invoke p m k es ∷ ts) vs cs h (omega arith) c d (omega arith, f)
   task-fits B (branch s t) ts vs cs h l c d f =
       pop-by closed vs _ (λ x vs. flag-by closed x _ (λ b.
@@ -285,11 +285,11 @@ module _ (n w : ℕ) (G : List Class) where
       array-by closed p x _ (λ a. in-array-by closed p h a i _ (cell-by closed h a i _ (λ _. (c, simp length-set (omega arith), f)))))))))
   task-fits B (continue noStatements) ts vs cs h l c d f = (c, d, f)
   task-fits B (continue (sequence s ss)) ts vs cs h l c d f = begin-statement-fits s (continue ss ∷ ts) vs cs h (omega arith) c d (omega arith, f)
-  task-fits B (perform noStatements e) ts vs cs h l c d f = begin-fits e (leave ∷ ts) vs cs h (omega arith) c d (omega arith, f)
-  task-fits B (perform (sequence s ss) e) ts vs cs h l c d f = begin-statement-fits s (perform ss e ∷ ts) vs cs h (omega arith) c d (omega arith, f)
-  task-fits B leave ts vs cs h l c d f =
-      innermost-by closed cs _ (λ a Γ xs ds e.
-      let i = ap length e in (omega arith, d, subst (λ (k : ℕ). Fits k ts) (ap pred i) f))
+  task-fits B (perform noStatements e t) ts vs cs h l c d f = begin-fits e (leave t ∷ ts) vs cs h (omega arith) c d (omega arith, f)
+  task-fits B (perform (sequence s ss) e t) ts vs cs h l c d f = begin-statement-fits s (perform ss e t ∷ ts) vs cs h (omega arith) c d (omega arith, f)
+  task-fits B (leave t) ts vs cs h l c d f =
+      pop-by closed vs _ (λ v _. require-by closed (ofKind t v) _ (innermost-by closed cs _ (λ a Γ xs ds e.
+      let i = ap length e in (omega arith, d, subst (λ (k : ℕ). Fits k ts) (ap pred i) f))))
 
   plan-fits : ((c m : List ℕ) (F : Found) → methodOf G c m ≡ some F → Shallow (F .method)) → (c : Core) → FitsC n w c → FitsR n w (plan G c)
   unfolding plan
@@ -333,8 +333,8 @@ values-fit T (r-store n R) = omega (arith, values-fit T R)
 values-fit T (r-new-element x l R) = omega (arith, values-fit T R)
 values-fit T (r-store-element R) = omega (arith, values-fit T R)
 values-fit T (r-continue q l R) = omega (arith, values-fit T R)
-values-fit T (r-perform q l x m b R) = omega (arith, values-fit T R)
-values-fit T (r-leave R) = omega (arith, values-fit T R)
+values-fit T (r-perform q l x m b c R) = omega (arith, values-fit T R)
+values-fit T (r-leave b R) = omega (arith, values-fit T R)
 
 -- ---- reached states
 

@@ -152,9 +152,10 @@ pub data Runs (G : List Class) : List Context → List Ty → List Task → Type
       → Runs G Γs us ts → Runs G Γs (int ∷ int ∷ intArray ∷ us) (storeElement p ∷ ts)
   r-continue : {Γs : List Context} {us : List Ty} {ts : List Task} {ss : Part statements}
       → AreTyped G (now Γs) ss → Fit ss → Runs G Γs us ts → Runs G Γs us (continue ss ∷ ts)
-  r-perform : {Γ : Context} {Γs : List Context} {us : List Ty} {ts : List Task} {ss : Part statements} {e : Expression} {s t : Ty}
-      → AreTyped G Γ ss → Fit ss → HasType G Γ e s → Fit e → Sub G s t → Runs G Γs (t ∷ us) ts → Runs G (Γ ∷ Γs) us (perform ss e ∷ ts)
-  r-leave : {Γ : Context} {Γs : List Context} {us : List Ty} {ts : List Task} → Runs G Γs us ts → Runs G (Γ ∷ Γs) us (leave ∷ ts)
+  -- r: the type of the method's result
+  r-perform : {Γ : Context} {Γs : List Context} {us : List Ty} {ts : List Task} {ss : Part statements} {e : Expression} {s r t : Ty}
+      → AreTyped G Γ ss → Fit ss → HasType G Γ e s → Fit e → Sub G s r → Sub G r t → Runs G Γs (t ∷ us) ts → Runs G (Γ ∷ Γs) us (perform ss e r ∷ ts)
+  r-leave : {Γ : Context} {Γs : List Context} {us : List Ty} {ts : List Task} {r t : Ty} → Sub G r t → Runs G Γs (t ∷ us) ts → Runs G (Γ ∷ Γs) (r ∷ us) (leave r ∷ ts)
 
 -- ---- states and requests
 

@@ -1,6 +1,7 @@
--- How a source ends under Run's definition, as a value that a table can list.
+-- How a source ends under Run's definition, as a value that a table can list; and how it would end if Check refused nothing.
 use Prim.Native.Nat.{ℕ}
 use mathlib.Core.List.{List, _++_, map}
+use mathlib.Core.Option.{Option, none, some}
 use lib.IntN.{ℤ}
 use Rattle.base.specs.Bytes.{bytes}
 use Rattle.base.specs.Outcome.{Outcome, accepted, refused}
@@ -42,6 +43,15 @@ unfolding Bytes.isBlank Bytes.isLetter Bytes.isDigit Bytes.isNamePart Kinds.isNa
     Limits.run Machine.readName Machine.writeName Machine.begin Machine.beginStatement Machine.second Machine.callMethod Machine.nextArgument
     Machine.nextStatement Machine.nextOfBody Machine.newArrayOf Machine.newObjectOf Machine.go Machine.plan
 endOf s L = ofOutcome L (Check.checking s)
+
+abbrev pub endingOf : Outcome Read.Reading → Limits.Limits → Option Limits.Ending
+endingOf (accepted r) L = some (Limits.run (r .tree) L .ending)
+endingOf (refused n p) L = none
+
+-- the ending of what is read, unchecked; none where Read refuses it
+unfoldable pub uncheckedOf : List ℕ → Limits.Limits → Option Limits.Ending
+unfolding endOf
+uncheckedOf s L = endingOf (Read.reading s) L
 
 -- an end with a result number and a position, steps, heap words and printed numbers
 abbrev pub ends : (number position steps words : ℕ) → List ℤ → End

@@ -1,0 +1,72 @@
+-- Document 01, "Mistakes that come easily", and machines that do not say stuck at a value of another kind: each is refuted by how a lesson ends, computed. The
+-- rows stand beside the definition of the machine, so that an edit of it fails at its row. The ends are worked out by hand.
+use Prim.Native.Nat.{ℕ}
+use mathlib.Core.Path.{_≡_, refl}
+use mathlib.Core.List.{List, [], _∷_, _++_}
+use mathlib.Core.Option.{some}
+use lib.IntN.{pos}
+use Rattle.base.specs.Bytes.{bytes}
+use Rattle.semantics.specs.Limits.{wentWrong}
+use Rattle.semantics.specs.Ends.{endOf, uncheckedOf, ends, usual, printing}
+
+-- the method is the object's own, not that of the declared type
+abbrev pub declaredAbove : List ℕ
+declaredAbove = printing (bytes "new C().k(new B())") ++ bytes " class A{public int m(){return 1;}} class B extends A{public int m(){return 2;}} class C{public int k(A a){return a.m();}}"
+
+pub own-method : endOf declaredAbove usual ≡ ends 0 0 7 2 (pos 2 ∷ [])
+unfolding endOf
+own-method = refl
+
+-- the object holds both fields x (with one slot for both it prints 33), and x means the one that the method's own class has (with the object's class it prints 0)
+abbrev pub hiddenField : List ℕ
+hiddenField = printing (bytes "new B().b()") ++ bytes " class A{int x;public int a(){x=3;return x;}} class B extends A{int x;public int b(){return this.a()*10+x;}}"
+
+pub both-fields : endOf hiddenField usual ≡ ends 0 0 12 3 (pos 30 ∷ [])
+unfolding endOf
+both-fields = refl
+
+-- null is tested after the arguments: the array is made
+abbrev pub nullReceiver : List ℕ
+nullReceiver = printing (bytes "new A().m()") ++ bytes " class A{A n;public int m(){return n.k(new int[3].length);}public int k(int x){return x;}}"
+
+pub null-after-arguments : endOf nullReceiver usual ≡ ends 40 113 8 6 []
+unfolding endOf
+null-after-arguments = refl
+
+-- four tests, three rounds, and one step for the `while` itself
+abbrev pub threeRounds : List ℕ
+threeRounds = printing (bytes "new A().m()") ++ bytes " class A{public int m(){int i;while(i<3)i=i+1;return i;}}"
+
+pub one-step-for-while : endOf threeRounds usual ≡ ends 0 0 29 1 (pos 3 ∷ [])
+unfolding endOf
+one-step-for-while = refl
+
+-- Stuck at a value of another kind, in lessons that Check refuses: each would run to its end if the kind were not tested there.
+abbrev pub truthAssigned : List ℕ
+truthAssigned = printing (bytes "new A().m()") ++ bytes " class A{public int m(){int x;x=true;return 1;}}"
+
+pub stuck-at-local : uncheckedOf truthAssigned usual ≡ some wentWrong
+unfolding uncheckedOf
+stuck-at-local = refl
+
+abbrev pub objectAssigned : List ℕ
+objectAssigned = printing (bytes "new A().m()") ++ bytes " class A{int[] x;public int m(){x=this;return 1;}}"
+
+pub stuck-at-field : uncheckedOf objectAssigned usual ≡ some wentWrong
+unfolding uncheckedOf
+stuck-at-field = refl
+
+abbrev pub truthGiven : List ℕ
+truthGiven = printing (bytes "new A().m(true)") ++ bytes " class A{public int m(int x){return 1;}}"
+
+pub stuck-at-argument : uncheckedOf truthGiven usual ≡ some wentWrong
+unfolding uncheckedOf
+stuck-at-argument = refl
+
+-- the object that m returns is asked for its method n
+abbrev pub objectReturned : List ℕ
+objectReturned = printing (bytes "new A().m().n()") ++ bytes " class A{public int m(){return this;}public int n(){return 1;}}"
+
+pub stuck-at-return : uncheckedOf objectReturned usual ≡ some wentWrong
+unfolding uncheckedOf
+stuck-at-return = refl
