@@ -2,3 +2,5 @@
 pub mod Literals
 pub mod Accepted
 pub mod Demand
+pub mod TokenLaws
+pub mod Tokens
