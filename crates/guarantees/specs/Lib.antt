@@ -4,3 +4,8 @@ pub mod Accepted
 pub mod Demand
 pub mod TokenLaws
 pub mod Tokens
+pub mod Numbers
+pub mod RefusalLaws
+pub mod Refusals
+pub mod KindLaws
+pub mod Kinds
