@@ -1,9 +1,8 @@
--- A run of the recogniser looks at the kinds of tokens alone, so lists with the same kinds are sentences together; and where two lists have the same kinds up to
--- token k, the beginning of the one goes on with the rest of the other as that one's own beginning does.
+-- A run of the recogniser looks at the kinds of tokens alone, so lists with the same kinds are sentences together; and where two lists have
+-- the same kinds up to token k, the beginning of the one goes on with the rest of the other as that one's own beginning does.
 use Prim.Native.Nat.{ℕ, zero, suc}
 use mathlib.Core.Path.{_≡_, refl, sym, ap, _∙_}
 use mathlib.Core.List.{List, [], _∷_, _++_, map}
-use native.Mathlib.Omega.{arith}
 use lib.ListN.{length, take, drop, getD}
 use Rattle.base.specs.Tests.{apart}
 use Rattle.lexer.specs.Kinds.{kEnd}
@@ -31,7 +30,8 @@ count-in (t ∷ ts) = ap suc (count-in ts)
 
 -- SENTENCES
 
-same-run : {ts us : List Token} {S : List Symbol} {i : ℕ} {e : End} → ((p : ℕ) → kindAt us p ≡ kindAt ts p) → Reach ts S i e → Reach us S i e
+same-run : {ts us : List Token} {S : List Symbol} {i : ℕ} {e : End}
+    → ((p : ℕ) → kindAt us p ≡ kindAt ts p) → Reach ts S i e → Reach us S i e
 same-run same finish = finish
 same-run same (shifts {x = x} {i = i} r h) = shifts (ap (rule x) (same i) ∙ r) (same-run same h)
 same-run same (pushes {x = x} {i = i} r h) = pushes (ap (rule x) (same i) ∙ r) (same-run same h)

@@ -1,11 +1,15 @@
--- What holds of every source that Check accepts.
-pub mod Literals
-pub mod Accepted
-pub mod Demand
+-- What holds of every source, in document 01's terms: its tokens, Read, Check and demand 2; and demand 3 of the machine for every source
+-- that Check accepts.
 pub mod TokenLaws
 pub mod Tokens
+pub mod KindLaws
+pub mod Kinds
 pub mod Numbers
 pub mod RefusalLaws
 pub mod Refusals
-pub mod KindLaws
-pub mod Kinds
+pub mod ReadLaws
+pub mod Read
+pub mod Accepted
+pub mod Check
+pub mod Literals
+pub mod Demand

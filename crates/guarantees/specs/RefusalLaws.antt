@@ -1,9 +1,9 @@
--- Every stage of Read and of Check refuses with one of the numbers of document 01: each refusal of a stage's definition is looked at, and a chain of stages
--- refuses as one of them does.
+-- Every stage of Read and of Check refuses with one of the numbers of document 01: each refusal of a stage's definition is looked at, and a
+-- chain of stages refuses as one of them does.
 use Prim.Native.Nat.{ℕ, zero, suc, _+_, _≤_}
 use mathlib.Core.Path.{_≡_, subst}
 use mathlib.Core.List.{List, [], _∷_, map}
-use mathlib.Core.Bool.{Bool, true, false}
+use mathlib.Core.Bool.{Bool}
 use mathlib.Core.Option.{Option, none, some}
 use native.Mathlib.Omega.{arith}
 use lib.ListN.{length, drop}
@@ -13,16 +13,16 @@ use Rattle.base.specs.Codes.{sourceMost, tokensMost, variablesMost}
 use Rattle.base.specs.Outcome.{Outcome, accepted, refused, _>>=_}
 use Rattle.base.specs.Tests.{if-both}
 use Rattle.lexer.specs.Tokens.{Token, Item, gap, unclosed, nothing, token, item, tooLong, zeroFirst, tooLarge, turn, tokensFrom, tokens}
-use Rattle.parser.specs.Tree.{Name, TypeUse, Sort, Part, Expression, Variable, Method, Class, Program, Ty, Ty.int, Ty.boolean, Ty.intArray, Ty.class, Place, placeE}
+use Rattle.parser.specs.Tree.{Name, TypeUse, Sort, Part, Expression, Variable, Method, Class, Program, Ty, Ty.int, Ty.boolean, Ty.intArray, Ty.class, Place}
 use Rattle.parser.specs.Tree.{Sort.expression, Sort.arguments, Sort.statement, Sort.statements}
 use Rattle.parser.specs.Tree.{Part.literal, Part.truth, Part.variable, Part.this, Part.newArray, Part.newObject, Part.negation, Part.binary, Part.element, Part.arrayLength, Part.call, Part.noArguments, Part.argument}
 use Rattle.parser.specs.Tree.{Part.block, Part.conditional, Part.loop, Part.print, Part.assign, Part.assignElement, Part.noStatements, Part.sequence}
 use Rattle.parser.specs.Parse.{Parsed, ok, bad, out, parse}
 use Rattle.parser.specs.Measure.{programDeep}
-use Rattle.parser.specs.Read.{Reading, positionOf, grammatical, shallow, reading}
-use Rattle.checker.specs.ClassTable.{Context, Found, mainContext, contextOf, classNamed, endsWithin, known, fits, chain, nearestMethod, methodOf, meaning, meaningType}
+use Rattle.parser.specs.Read.{grammatical, shallow, reading}
+use Rattle.checker.specs.ClassTable.{Context, Found, mainContext, contextOf, classNamed, endsWithin, known, fits, chain, nearestMethod, methodOf, meaning}
 use Rattle.checker.specs.Declarations.{occurs, textOf, distinctClasses, knownParent, knownParents, endingChains, knownType, fields, variables, redeclares, redeclaration, newMethod, heads, declarations}
-use Rattle.checker.specs.Judge.{Judgement, operandType, resultType, arity, must, receiver, nextParameter, invocation, lookUp, mustBeArray, judge}
+use Rattle.checker.specs.Judge.{Judgement, operandType, arity, must, receiver, nextParameter, invocation, lookUp, mustBeArray, judge}
 use Rattle.checker.specs.Check.{body, bodies, classBodies, allBodies, judged, checking}
 use Rattle.guarantees.specs.Numbers.{ReadRefusal, source-too-long, no-token, comment-not-closed, name-too-long, literal-too-large, too-many-tokens, not-in-grammar, too-deep, leading-zero}
 use Rattle.guarantees.specs.Numbers.{CheckRefusal, of-read, class-repeated, parent-unknown, chain-endless, field-repeated, type-unknown, method-repeated, bad-redeclaration, variable-repeated, too-many-variables, name-unknown, wrong-type, method-unknown, argument-count, this-in-main}
@@ -80,13 +80,15 @@ module _ {P : ℕ → Type 0} where
   either b x y r h = if-both (Refuses P) b x y r h
 
   -- a look-up
-  found : {A B : Type 0} (o : Option A) (x : Outcome B) (k : A → Outcome B) → Refuses P x → ((a : A) → Refuses P (k a)) → Refuses P (option o x k)
+  found : {A B : Type 0} (o : Option A) (x : Outcome B) (k : A → Outcome B) → Refuses P x → ((a : A) → Refuses P (k a))
+      → Refuses P (option o x k)
   found none x k r f = r
   found (some a) x k r f = f a
 
 -- READ
 
-of-turn : (next : ℕ → ℕ → Outcome (List Token)) (count i : ℕ) (x : Item) → ((c j : ℕ) → Refuses ReadRefusal (next c j)) → Refuses ReadRefusal (turn next count i x)
+of-turn : (next : ℕ → ℕ → Outcome (List Token)) (count i : ℕ) (x : Item) → ((c j : ℕ) → Refuses ReadRefusal (next c j))
+    → Refuses ReadRefusal (turn next count i x)
 unfolding turn
 of-turn next count i (gap j) f = f count j
 of-turn next count i unclosed f = refuses comment-not-closed
@@ -102,7 +104,8 @@ of-tokens : (f : ℕ) (s : List ℕ) (count i : ℕ) → Refuses ReadRefusal (to
 unfolding tokensFrom
 of-tokens zero s count i = accepts
 of-tokens (suc f) s count i =
-    if-both (Refuses ReadRefusal) (leb (length s) i) _ _ accepts (of-turn (λ c j. tokensFrom f s c j) count i (item i (drop i s)) (λ c j. of-tokens f s c j))
+    either (leb (length s) i) _ _ accepts
+    (of-turn (λ c j. tokensFrom f s c j) count i (item i (drop i s)) (λ c j. of-tokens f s c j))
 
 of-grammatical : (s : List ℕ) (ts : List Token) (r : Parsed Program) → Refuses ReadRefusal (grammatical s ts r)
 of-grammatical s ts (ok p j) = accepts
@@ -149,7 +152,8 @@ module _ (G : List Class) where
   unfolding fields
   of-fields earlier [] = accepts
   of-fields earlier (v ∷ vs) =
-      both (knownType G (v .type)) _ (of-type (v .type)) (λ _. either (occurs (textOf v) earlier) _ _ (refuses field-repeated) (of-fields (textOf v ∷ earlier) vs))
+      both (knownType G (v .type)) _ (of-type (v .type))
+      (λ _. either (occurs (textOf v) earlier) _ _ (refuses field-repeated) (of-fields (textOf v ∷ earlier) vs))
 
   of-variables : (earlier : List (List ℕ)) (vs : List Variable) → Refuses CheckRefusal (variables G earlier vs)
   unfolding variables
@@ -177,7 +181,8 @@ module _ (G : List Class) where
   unfolding declarations
   of-declarations [] = accepts
   of-declarations (k ∷ ks) =
-      both (fields G [] (k .fields)) _ (of-fields [] (k .fields)) (λ _. both (heads G k [] (k .methods)) _ (of-heads k [] (k .methods)) (λ _. of-declarations ks))
+      both (fields G [] (k .fields)) _ (of-fields [] (k .fields))
+      (λ _. both (heads G k [] (k .methods)) _ (of-heads k [] (k .methods)) (λ _. of-declarations ks))
 
 -- CHECK: BODIES
 
@@ -188,18 +193,22 @@ JudgeRefuses arguments f = (vs : List Variable) → Refuses CheckRefusal (f vs)
 JudgeRefuses statement o = Refuses CheckRefusal o
 JudgeRefuses statements o = Refuses CheckRefusal o
 
-of-receiver : (e : Expression) (t : Ty) (k : List ℕ → Outcome Ty) → ((c : List ℕ) → Refuses CheckRefusal (k c)) → Refuses CheckRefusal (receiver e t k)
+of-receiver : (e : Expression) (t : Ty) (k : List ℕ → Outcome Ty) → ((c : List ℕ) → Refuses CheckRefusal (k c))
+    → Refuses CheckRefusal (receiver e t k)
 of-receiver e int k f = refuses wrong-type
 of-receiver e boolean k f = refuses wrong-type
 of-receiver e intArray k f = refuses wrong-type
 of-receiver e (class c) k f = f c
 
-of-invocation : (m : Name) (n : ℕ) (f : List Variable → Outcome (Unit {0})) (o : Option Found) → ((vs : List Variable) → Refuses CheckRefusal (f vs)) → Refuses CheckRefusal (invocation m n f o)
+of-invocation : (m : Name) (n : ℕ) (f : List Variable → Outcome (Unit {0})) (o : Option Found)
+    → ((vs : List Variable) → Refuses CheckRefusal (f vs)) → Refuses CheckRefusal (invocation m n f o)
 of-invocation m n f none r = refuses method-unknown
 of-invocation m n f (some F) r =
-    either (eqb n (length (F .method .parameters))) _ _ (both (f (F .method .parameters)) _ (r (F .method .parameters)) (λ _. accepts)) (refuses argument-count)
+    either (eqb n (length (F .method .parameters))) _ _ (both (f (F .method .parameters)) _ (r (F .method .parameters)) (λ _. accepts))
+    (refuses argument-count)
 
-of-parameter : (vs : List Variable) (k : Variable → List Variable → Outcome (Unit {0})) → ((v : Variable) (vs : List Variable) → Refuses CheckRefusal (k v vs)) → Refuses CheckRefusal (nextParameter vs k)
+of-parameter : (vs : List Variable) (k : Variable → List Variable → Outcome (Unit {0}))
+    → ((v : Variable) (vs : List Variable) → Refuses CheckRefusal (k v vs)) → Refuses CheckRefusal (nextParameter vs k)
 of-parameter [] k f = refuses argument-count
 of-parameter (v ∷ vs) k f = f v vs
 
@@ -215,7 +224,8 @@ module _ (G : List Class) (Γ : Context) where
       → Refuses CheckRefusal (judge G Γ e >>= λ t. must G e want t >>= λ _. k)
   fitting e want k r h = both (judge G Γ e) _ r (λ t. both (must G e want t) (λ _. k) (of-must e want t) (λ _. h))
 
-  fitting-last : (e : Expression) (want : Ty) → Refuses CheckRefusal (judge G Γ e) → Refuses CheckRefusal (judge G Γ e >>= λ t. must G e want t)
+  fitting-last : (e : Expression) (want : Ty) → Refuses CheckRefusal (judge G Γ e)
+      → Refuses CheckRefusal (judge G Γ e >>= λ t. must G e want t)
   fitting-last e want r = both (judge G Γ e) _ r (λ t. of-must e want t)
 
   of-judge : {s : Sort} (x : Part s) → JudgeRefuses s (judge G Γ x)
@@ -242,7 +252,8 @@ module _ (G : List Class) (Γ : Context) where
   of-judge (assign p x e) = both (lookUp G Γ p x) _ (of-name p x) (λ t. fitting-last e t (of-judge e))
   of-judge (assignElement p x i e) =
       both (lookUp G Γ p x) _ (of-name p x)
-      (λ t. both (mustBeArray G Γ p t) _ (either (fits G t intArray) _ _ accepts (refuses wrong-type)) (λ _. fitting i int _ (of-judge i) (fitting-last e int (of-judge e))))
+      (λ t. both (mustBeArray G Γ p t) _ (either (fits G t intArray) _ _ accepts (refuses wrong-type))
+      (λ _. fitting i int _ (of-judge i) (fitting-last e int (of-judge e))))
   of-judge noStatements = accepts
   of-judge (sequence s ss) = both (judge G Γ s) _ (of-judge s) (λ _. of-judge ss)
 
@@ -260,7 +271,8 @@ of-bodies G c (m ∷ ms) = both (body G c m) _ (of-body G c m) (λ _. of-bodies 
 of-class-bodies : (G ks : List Class) → Refuses CheckRefusal (classBodies G ks)
 unfolding classBodies
 of-class-bodies G [] = accepts
-of-class-bodies G (k ∷ ks) = both (bodies G (k .name .text) (k .methods)) _ (of-bodies G (k .name .text) (k .methods)) (λ _. of-class-bodies G ks)
+of-class-bodies G (k ∷ ks) =
+    both (bodies G (k .name .text) (k .methods)) _ (of-bodies G (k .name .text) (k .methods)) (λ _. of-class-bodies G ks)
 
 -- CHECK
 
@@ -272,7 +284,9 @@ of-judged p =
     (λ _. both (knownParents G G) _ (of-parents G G)
     (λ _. both (endingChains G G) _ (of-chains G G)
     (λ _. both (declarations G G) _ (of-declarations G G)
-    (λ _. both (allBodies p) _ (both (judge G mainContext (p .statement)) _ (of-judge G mainContext (p .statement)) (λ _. of-class-bodies G G)) (λ _. accepts)))))
+    (λ _. both (allBodies p) _
+    (both (judge G mainContext (p .statement)) _ (of-judge G mainContext (p .statement)) (λ _. of-class-bodies G G))
+    (λ _. accepts)))))
 
 of-read-too : {A : Type 0} {o : Outcome A} → Refuses ReadRefusal o → Refuses CheckRefusal o
 of-read-too accepts = accepts

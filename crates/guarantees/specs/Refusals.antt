@@ -1,7 +1,7 @@
--- Document 01, "What each operation refuses": every refusal of Read and of Check has one of the document's numbers, none of which is 0. It holds stage by
--- stage: a chain of stages refuses as one of them does (RefusalLaws).
-use Prim.Native.Nat.{ℕ, _≤_}
-use mathlib.Core.Path.{_≡_, ap}
+-- Document 01, "What each operation refuses": every refusal of Read and of Check has one of the document's numbers, none of which is 0. It
+-- holds stage by stage: a chain of stages refuses as one of them does (RefusalLaws).
+use Prim.Native.Nat.{ℕ}
+use mathlib.Core.Path.{_≡_}
 use mathlib.Core.Logic.{_≢_}
 use mathlib.Core.List.{List}
 use native.Mathlib.Omega.{arith}

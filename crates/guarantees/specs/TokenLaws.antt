@@ -1,5 +1,5 @@
--- Turns that read on alike give the same tokens. A turn reads on only past a byte or more, since a gap ends past its beginning and a token's text is not
--- empty; so it is enough that what is read on is alike from the next byte on.
+-- Turns that read on alike give the same tokens. A turn reads on only past a byte or more, since a gap ends past its beginning and a
+-- token's text is not empty; so it is enough that what is read on is alike from the next byte on.
 use Prim.Native.Nat.{ℕ, zero, suc, _+_, _≤_, _<_}
 use mathlib.Core.Path.{_≡_, refl, sym, ap}
 use mathlib.Core.List.{List, [], _∷_}
@@ -51,4 +51,5 @@ any-fuel (suc f) (suc g) s count i h k = by (leb (length s) i) refl (λ c j l. a
         ≡ (if b then (λ _. accepted []) else λ _. turn (λ c j. tokensFrom g s c j) count i (item i (drop i s)))
     by true e alike = refl
     by false e alike =
-        same-turn (λ c j. tokensFrom f s c j) (λ c j. tokensFrom g s c j) count i alike (drop i s) (item i (drop i s)) (good s i (leb-false (length s) i e))
+        same-turn (λ c j. tokensFrom f s c j) (λ c j. tokensFrom g s c j) count i alike
+        (drop i s) (item i (drop i s)) (good s i (leb-false (length s) i e))

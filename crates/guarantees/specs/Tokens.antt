@@ -1,5 +1,5 @@
--- Document 01, "Bytes to tokens": the fuel of the definition of a source's tokens is never used up, so it is no part of what they are. It holds since every
--- item passes at least one byte (TokenLaws).
+-- Document 01, "Bytes to tokens": the fuel of the definition of a source's tokens is never used up, so it is no part of what they are. It
+-- holds since every item passes at least one byte (TokenLaws).
 use Prim.Native.Nat.{ℕ, suc, _+_, _≤_}
 use mathlib.Core.Path.{_≡_}
 use mathlib.Core.List.{List, []}
@@ -19,7 +19,8 @@ fuel-unused s count i f g = any-fuel f g s count i
 abbrev pub tokensAt : List ℕ → (count i : ℕ) → Outcome (List Token)
 tokensAt s count i = tokensFrom (length s) s count i
 
--- They are read item by item, without a fuel: none past the last byte, else one turn with the item that begins there, after which they are read on.
+-- They are read item by item, without a fuel: none past the last byte, else one turn with the item that begins there, after which they are
+-- read on.
 pub item-by-item : (s : List ℕ) (count i : ℕ)
     → tokensAt s count i ≡ (if leb (length s) i then (λ _. accepted []) else λ _. turn (λ c j. tokensAt s c j) count i (item i (drop i s)))
 unfolding tokensFrom
