@@ -1,12 +1,12 @@
 -- Document 01, "What each operation refuses", Check: the operation answers 0 exactly when document 01's grammar, bounds and typing rules
 -- allow the lesson. It holds by demand 2 (Accepted), since no refusal has the number 0 (Refusals).
-use Prim.Native.Nat.{ℕ, _≤_}
+use Prim.Native.Nat.{ℕ, _≤_, _<_}
 use mathlib.Core.Path.{_≡_, refl, sym, ap, _∙_}
 use mathlib.Core.List.{List}
 use mathlib.Core.Logic.{_↔_}
 use lib.ListN.{length, replicate}
-use borrow.Author.Tests.{le-ltb}
-use Rattle.base.specs.Codes.{success, tableLeast}
+use borrow.Author.Tests.{lt-ltb, le-ltb}
+use Rattle.base.specs.Codes.{success, tableTooShort, tableLeast}
 use Rattle.base.specs.Outcome.{Outcome, accepted, refused}
 use Rattle.parser.specs.Tree.{Program}
 use Rattle.parser.specs.Read.{tableAfter}
@@ -21,7 +21,17 @@ pub data Answers (s : List ℕ) : CheckAnswer → Type 0 where
   succeeds : {p : Program} → Allowed s p → Answers s (record { number = success; position = 0; classes = length (p .classes) })
   refuses : {n q : ℕ} → CheckRefusal n → checking s ≡ refused n q → Answers s (refusal n q)
 
--- THE OPERATION, with a work table of at least 16,384 words
+-- THE OPERATION
+
+-- 1: table under 16,384 words, which touches nothing.
+pub check-table-short : {s before : List ℕ} {a : CheckAnswer} {after : List ℕ} → Checks s before a after → length before < tableLeast
+    → (a ≡ refusal tableTooShort 0) × (after ≡ before)
+unfolding check tableAfter
+check-table-short {before = before} C l =
+    let e = lt-ltb (length before) tableLeast l in
+    (C .answer ∙ rw e refl, C .table ∙ rw e refl)
+
+-- with a work table of at least 16,384 words
 module _ {s before : List ℕ} {a : CheckAnswer} {after : List ℕ} (C : Checks s before a after) (room : tableLeast ≤ length before) where
   answer-of : a ≡ checkAnswer (checking s)
   unfolding check

@@ -2,13 +2,13 @@
 -- that Check accepts.
 pub mod TokenLaws
 pub mod Tokens
-pub mod KindLaws
-pub mod Kinds
 pub mod Numbers
 pub mod RefusalLaws
 pub mod Refusals
 pub mod ReadLaws
 pub mod Read
+pub mod KindLaws
+pub mod Kinds
 pub mod Accepted
 pub mod Check
 pub mod Literals

@@ -7,8 +7,8 @@ use mathlib.Core.List.{List}
 use mathlib.Core.Logic.{_↔_}
 use mathlib.Core.Option.{none, some}
 use lib.ListN.{length, replicate}
-use borrow.Author.Tests.{le-ltb}
-use Rattle.base.specs.Codes.{success, sourceTooLong, sourceMost, notInGrammar, tooDeep, tableLeast}
+use borrow.Author.Tests.{lt-ltb, le-ltb}
+use Rattle.base.specs.Codes.{success, tableTooShort, sourceTooLong, sourceMost, notInGrammar, tooDeep, tableLeast}
 use Rattle.base.specs.Outcome.{Outcome, accepted, refused}
 use Rattle.lexer.specs.Tokens.{Token, tokens}
 use Rattle.parser.specs.Tree.{Program}
@@ -107,7 +107,17 @@ readable-exactly s ts p = (
   λ h. good-program s (h .short) ts (h .lexed) (h .derived) (h .shallow),
 )
 
--- THE OPERATION, with a work table of at least 16,384 words
+-- THE OPERATION
+
+-- 1: table under 16,384 words, which touches nothing.
+pub read-table-short : {s before : List ℕ} {a : ReadAnswer} {after : List ℕ} → Reads s before a after → length before < tableLeast
+    → (a ≡ record { number = tableTooShort; position = 0; tokens = 0; nodes = 0 }) × (after ≡ before)
+unfolding read tableAfter
+read-table-short {before = before} R l =
+    let e = lt-ltb (length before) tableLeast l in
+    (R .answer ∙ rw e refl, R .table ∙ rw e refl)
+
+-- with a work table of at least 16,384 words
 module _ {s before : List ℕ} {a : ReadAnswer} {after : List ℕ} (R : Reads s before a after) (room : tableLeast ≤ length before) where
   answer-of : a ≡ readAnswer (reading s)
   unfolding read
