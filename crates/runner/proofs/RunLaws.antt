@@ -85,7 +85,7 @@ runnable s p tokens classes tab code code′ entries entries′ e a long many =
       classes = c;
       typed = allowed s p e .typed;
       fits = fits s p e;
-      shallow = allowed s p e .shallow;
+      shallow = allowed s p e .readable .shallow;
     }
 
 -- WHAT IS PERFORMED
