@@ -47,7 +47,7 @@ pub record Holds (r : Row) : Type 0 where
 abbrev inRange : Row → Bool
 inRange r = (ltb 0 (r .limits .calls) && leb (r .limits .calls) callsMost) && leb (r .limits .heap) heapMost
 
--- a row that the definitions end as it says, within the ranges
+-- rows that the definitions end as they say, within the ranges
 pub record Computed (rows : List Row) : Type 0 where
   pub ends : found rows ≡ expected rows
   pub ranges : map inRange rows ≡ map (λ _. true) rows
