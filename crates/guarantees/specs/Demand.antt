@@ -1,4 +1,5 @@
--- Demand 3 for every source that Check accepts: it never gets stuck, under any limits, and larger limits change nothing; with it the space that a run takes.
+-- Demand 3 for every source that Check accepts: it never gets stuck, under any limits, and larger limits change nothing; with it the space
+-- that a run takes.
 use Prim.Native.Nat.{ℕ, _≤_}
 use mathlib.Core.Path.{_≡_}
 use mathlib.Core.List.{List}
@@ -23,7 +24,7 @@ use Rattle.guarantees.specs.Literals.{small, literals-fit}
 module _ (s : List ℕ) (p : Program) (a : checking s ≡ accepted p) where
   -- its literals are words
   pub fits : LiteralsFit p
-  fits = let h = allowed s p a in literals-fit (small s (h .stream) (h .lexed)) (h .derived)
+  fits = let h = allowed s p a in literals-fit (small s (h .stream) (h .readable .lexed)) (h .readable .derived)
 
   -- An accepted lesson never gets stuck, under any limits.
   pub never-stuck : (L : Limits) → run p L .ending ≢ wentWrong
@@ -33,7 +34,8 @@ module _ (s : List ℕ) (p : Program) (a : checking s ≡ accepted p) where
   pub ends-well : (L : Limits) → EndsWell (run p L .ending)
   ends-well L = Machine.ends-well p L (allowed s p a .typed) fits
 
-  -- Under larger limits a run that ended by itself, in 0, 40, 41 or 42, has the same report: result, position, steps, heap words and printed numbers.
+  -- Under larger limits a run that ended by itself, in 0, 40, 41 or 42, has the same report: result, position, steps, heap words and
+  -- printed numbers.
   pub same-end : (L M : Limits) (k q : ℕ) → L ⊑ M → Finish k → run p L .ending ≡ ended k q → run p M ≡ run p L
   same-end L M k q = Machine.larger-limits-same p L M k q
 
@@ -42,8 +44,9 @@ module _ (s : List ℕ) (p : Program) (a : checking s ≡ accepted p) where
   printed-begins L M = Machine.larger-limits-begin p L M
 
   -- 4160 places for tasks and 133120 places for values are enough under every call limit that is allowed.
-  pub enough-space : (L : Limits) (c : Core) (m : Meters) → L .calls ≤ callsMost → Reach p L c m → (length (tasksOf c) ≤ 4160) × (length (valuesOf c) ≤ 133120)
-  enough-space L c m l r = Machine.enough-space p L c m (allowed s p a .typed) fits (allowed s p a .shallow) l r
+  pub enough-space : (L : Limits) (c : Core) (m : Meters) → L .calls ≤ callsMost → Reach p L c m
+      → (length (tasksOf c) ≤ 4160) × (length (valuesOf c) ≤ 133120)
+  enough-space L c m l r = Machine.enough-space p L c m (allowed s p a .typed) fits (allowed s p a .readable .shallow) l r
 
 -- The fuel of a run is always enough.
 pub always-ends : (p : Program) (L : Limits) → run p L .ending ≢ unfinished

@@ -1,3 +1,3 @@
--- What holds of every source that Check accepts.
+-- Demand 3 of the machine for every source that Check accepts.
 pub mod Literals
 pub mod Demand

@@ -12,7 +12,7 @@ use Rattle.lexer.specs.Kinds.{kLiteral}
 use Rattle.lexer.specs.Tokens.{Token, decimal, tokens}
 use Rattle.lexer.specs.RowLaws.{token-of}
 use Rattle.parser.specs.Tree.{Sort, Part, Method, Class, Program}
-use Rattle.parser.specs.Stream.{tokenAt, noMore, kindAt}
+use Rattle.parser.specs.Stream.{tokenAt, kindAt, noMore}
 use Rattle.parser.specs.Grammar.{Kind, Derives, operate, one-operand, negate, no-negation, make-array, no-array, index, take-length, invoke, no-suffix, a-literal, a-true, a-false, a-name, a-this, make-object, parentheses, none-given, some-given, one-argument, more-arguments, a-block, an-if, a-while, a-print, an-assignment, an-element-assignment, no-statement, more-statements}
 use Rattle.parser.specs.Grammar.{DerivesMethod, a-method, DerivesMethods, no-method, more-methods, DerivesClass, a-class-declaration, DerivesClasses, no-class, more-classes, DerivesProgram, a-program}
 use Rattle.soundness.specs.StateTyping.{Fit, MethodFits, LiteralsFit}
@@ -21,7 +21,14 @@ use Rattle.soundness.specs.StateTyping.{Fit, MethodFits, LiteralsFit}
 abbrev pub SmallLiterals : List Token → Type 0
 SmallLiterals ts = (i : ℕ) → kindAt ts i ≡ kLiteral → decimal 0 (tokenAt ts i .text) ≤ literalMost
 
-module _ {ts : List Token} (small : SmallLiterals ts) where
+-- those of a source have
+pub small : (s : List ℕ) (ts : List Token) → tokens s ≡ accepted ts → SmallLiterals ts
+small s ts e i k = elim (decLt i (length ts)) [
+  | yes l ↦ token-of s ts e i (tokenAt ts i) (get-getD ts i noMore l) .literal k
+  | no l ↦ absurd (omega (arith, sym (ap (λ (t : Token). t .kind) (List·getD-eq-default ts noMore (omega arith))) ∙ k))
+]
+
+module _ {ts : List Token} (fitting : SmallLiterals ts) where
   fit : {s : Sort} {k : Kind s} {i j : ℕ} {t : Part s} → Derives ts s k i j t → Fit t
   fit (operate l e r) = (fit l, fit r)
   fit (one-operand d) = fit d
@@ -33,7 +40,7 @@ module _ {ts : List Token} (small : SmallLiterals ts) where
   fit (take-length a e₁ e₂) = fit a
   fit (invoke d e₁ e₂ e₃ ds e₄) = (fit d, fit ds)
   fit (no-suffix d) = fit d
-  fit (a-literal {i = i} e) = omega (arith, small i e)
+  fit (a-literal {i = i} e) = omega (arith, fitting i e)
   fit (a-true e) = tt
   fit (a-false e) = tt
   fit (a-name e) = tt
@@ -69,10 +76,3 @@ module _ {ts : List Token} (small : SmallLiterals ts) where
 
   pub literals-fit : {p : Program} → DerivesProgram ts p → LiteralsFit p
   literals-fit (a-program h s e₁ e₂ ks) = record { main = fit s; classes = fit-classes ks }
-
--- the tokens of a source have small literals
-pub small : (s : List ℕ) (ts : List Token) → tokens s ≡ accepted ts → SmallLiterals ts
-small s ts e i k = elim (decLt i (length ts)) [
-  | yes l ↦ token-of s ts e i (tokenAt ts i) (get-getD ts i noMore l) .literal k
-  | no l ↦ absurd (omega (arith, sym (ap (λ (t : Token). t .kind) (List·getD-eq-default ts noMore (omega arith))) ∙ k))
-]

@@ -1,1 +1,1 @@
-// Theorems only, in specs/: what holds of every source that Check accepts.
+// Theorems only, in specs/: what holds of every source, in the terms of document 01.

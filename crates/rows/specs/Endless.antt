@@ -1,10 +1,12 @@
 -- Document 02, (iii): refusal 22 stands at the first class in the lesson whose chain never ends. The ends are worked out by hand;
 -- " class A extends B{}" is 20 bytes long, and the first class's name stands at 75.
-use mathlib.Core.Path.{_≡_, refl}
+use mathlib.Core.Path.{refl}
 use mathlib.Core.List.{List, [], _∷_}
 use lib.IntN.{pos}
 use Rattle.base.specs.Bytes.{bytes}
-use Rattle.semantics.specs.Ends.{Row, row, endOf, found, expected, refusedAt, ends, usual}
+use Rattle.base.specs.Lists.{All}
+use Rattle.semantics.specs.Ends.{Row, row, endOf, refusedAt, ends, usual}
+use Rattle.rows.specs.Answers.{Holds, hold}
 use Rattle.rows.specs.Further.{declaring}
 
 abbrev pub endlessRows : List Row
@@ -32,6 +34,6 @@ endlessRows =
     row (declaring (bytes " class A extends B{} class B extends C{} class C{}")) usual (ends 0 0 2 0 (pos 1 ∷ [])) ∷
     []
 
-pub endless : found endlessRows ≡ expected endlessRows
+pub endless : All Holds endlessRows
 unfolding endOf
-endless = refl
+endless = hold endlessRows (record { ends = refl; ranges = refl })

@@ -1,15 +1,26 @@
 -- Rows of our own, for the rules that the starred rows do not touch; the ends are worked out by hand from documents 01 and 02.
 use Prim.Native.Nat.{ℕ, zero, suc, _+_}
-use mathlib.Core.Path.{_≡_, refl}
+use mathlib.Core.Path.{refl}
 use mathlib.Core.List.{List, [], _∷_, _++_}
 use lib.IntN.{pos}
 use lib.ListN.{replicate}
 use Rattle.base.specs.Bytes.{bytes}
-use Rattle.semantics.specs.Ends.{Row, row, endOf, found, expected, refusedAt, ends, limits, usual, printing}
+use Rattle.base.specs.Lists.{All}
+use Rattle.semantics.specs.Limits.{Limits}
+use Rattle.semantics.specs.Ends.{Row, row, endOf, refusedAt, ends, limits, usual, printing}
+use Rattle.rows.specs.Answers.{Holds, hold}
 
 -- the frame with the expression 1, 68 bytes long, then classes
 abbrev pub declaring : List ℕ → List ℕ
 declaring classes = printing (bytes "1") ++ classes
+
+-- a statement of main, at position 44
+abbrev pub doing : List ℕ → List ℕ
+doing s = bytes "class M{public static void main(String[] a){" ++ s ++ bytes "}}"
+
+-- a heap strip and an output strip of these lengths
+abbrev pub strips : (heap output : ℕ) → Limits
+strips heap output = record { budget = 100000; calls = 64; heap = heap; printed = output }
 
 -- so many times
 abbrev pub times : ℕ → List ℕ → List ℕ
@@ -46,8 +57,30 @@ furtherRows =
     -- the count is tested before the arguments
     row (printing (bytes "new A().m(1,x)") ++ bytes " class A{public int m(int y){return y;}}") usual (refusedAt 33 71) ∷
     row (printing (bytes "new A().m()") ++ bytes " class A{public int m(){return this.m();}}") (limits 100000 2) (ends 52 109 7 1 []) ∷
+    -- 51 where the heap strip is one word short, and not where it is just long enough; 42 comes first
+    row (printing (bytes "new int[3].length")) (strips 3 256) (ends 51 63 4 0 []) ∷
+    row (printing (bytes "new int[3].length")) (strips 4 256) (ends 0 0 4 4 (pos 3 ∷ [])) ∷
+    row (printing (bytes "new int[0-1].length")) (strips 0 256) (ends 42 63 6 0 []) ∷
+    -- 53 after the printed expression, at the statement
+    row (doing (bytes "{System.out.println(1);System.out.println(2);}")) (strips 4096 1) (ends 53 67 5 0 (pos 1 ∷ [])) ∷
+    -- the right side of `&&` is begun only after true
+    row (doing (bytes "if(1<0&&(new int[1])[1]<0)System.out.println(1);else System.out.println(2);")) usual (ends 0 0 7 0 (pos 2 ∷ [])) ∷
+    row (doing (bytes "if(0<1&&(new int[1])[1]<0)System.out.println(1);else System.out.println(2);")) usual (ends 41 52 10 2 []) ∷
+    -- `<` compares signed
+    row (doing (bytes "if(0-1<0)System.out.println(1);else System.out.println(2);")) usual (ends 0 0 8 0 (pos 1 ∷ [])) ∷
+    -- a null array is found after the index, whose array is made
+    row (printing (bytes "new A().m()") ++ bytes " class A{int[] x;public int m(){return x[new int[3].length];}}") usual
+    (ends 40 117 8 6 []) ∷
+    -- 40 comes before 52
+    row (printing (bytes "new A().m()") ++ bytes " class A{A n;public int m(){return n.m();}}") (limits 100000 1) (ends 40 113 5 2 []) ∷
+    -- an indexed target is read before its index: the array that x held then is written to, not the one that it holds afterwards
+    row (printing (bytes "new A().m()") ++ bytes " class A{int[] x;int[] y;public int n(){x=new int[2];return 0;}"
+    ++ bytes "public int m(){x=new int[1];y=x;x[this.n()]=7;return y[0]*10+x[0];}}")
+    usual (ends 0 0 25 8 (pos 70 ∷ [])) ∷
+    -- two arguments, in their order
+    row (printing (bytes "new A().m(5,3)") ++ bytes " class A{public int m(int x,int y){return x-y;}}") usual (ends 0 0 8 1 (pos 2 ∷ [])) ∷
     []
 
-pub further : found furtherRows ≡ expected furtherRows
+pub further : All Holds furtherRows
 unfolding endOf
-further = refl
+further = hold furtherRows (record { ends = refl; ranges = refl })

@@ -1,9 +1,11 @@
--- Document 01, "Benches to pass": the starred rows, as one theorem about the definitions, closed by computation.
-use mathlib.Core.Path.{_≡_, refl}
+-- Document 01, "Benches to pass": the starred rows, as one theorem about what Run answers (Answers), closed by computation.
+use mathlib.Core.Path.{refl}
 use mathlib.Core.List.{List, [], _∷_}
 use lib.IntN.{pos, negsuc}
 use Rattle.base.specs.Bytes.{bytes}
-use Rattle.semantics.specs.Ends.{Row, row, endOf, found, expected, refusedAt, ends, limits, usual, printing}
+use Rattle.base.specs.Lists.{All}
+use Rattle.semantics.specs.Ends.{Row, row, endOf, refusedAt, ends, limits, usual, printing}
+use Rattle.rows.specs.Answers.{Holds, hold}
 
 abbrev pub starredRows : List Row
 starredRows =
@@ -23,6 +25,6 @@ starredRows =
     []
 
 -- negsuc n is -(n + 1)
-pub starred : found starredRows ≡ expected starredRows
+pub starred : All Holds starredRows
 unfolding endOf
-starred = refl
+starred = hold starredRows (record { ends = refl; ranges = refl })

@@ -1,10 +1,12 @@
--- Document 01, "Results that would be worthless": each version that concerns reading, checking or running is refuted by how a small source ends, in one
--- theorem closed by computation. Menu's row is a matter of its contract (menu, `Written`).
-use mathlib.Core.Path.{_≡_, refl}
+-- Document 01, "Results that would be worthless": each version that concerns reading, checking or running is refuted by how a small source
+-- ends, in one theorem closed by computation. Menu's row is a matter of its contract (menu, `Written`).
+use mathlib.Core.Path.{refl}
 use mathlib.Core.List.{List, [], _∷_, _++_}
 use lib.IntN.{pos}
 use Rattle.base.specs.Bytes.{bytes}
-use Rattle.semantics.specs.Ends.{Row, row, endOf, found, expected, refusedAt, ends, limits, usual, printing}
+use Rattle.base.specs.Lists.{All}
+use Rattle.semantics.specs.Ends.{Row, row, endOf, refusedAt, ends, limits, usual, printing}
+use Rattle.rows.specs.Answers.{Holds, hold}
 
 abbrev pub refutingRows : List Row
 refutingRows =
@@ -18,6 +20,6 @@ refutingRows =
     row (bytes "class M{public static void main(String[] a){{System.out.println(1);System.out.println(2);}}}") usual (ends 0 0 5 0 (pos 1 ∷ pos 2 ∷ [])) ∷
     []
 
-pub worthless : found refutingRows ≡ expected refutingRows
+pub worthless : All Holds refutingRows
 unfolding endOf
-worthless = refl
+worthless = hold refutingRows (record { ends = refl; ranges = refl })

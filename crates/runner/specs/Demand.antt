@@ -1,89 +1,73 @@
--- Demand 3 of what Run reports, whatever the strips held before: a run of an accepted lesson never gets stuck, and under larger limits it ends in the same way, or what it printed
--- begins what is printed then.
+-- Demand 3, of Run: a lesson that document 01 allows never gets stuck, and larger limits change nothing of a run that ended by itself and
+-- only add to what a stopped one printed. It holds of the machine (guarantees/Demand), and Run answers and shows what the machine's run
+-- reports and prints (DemandLaws).
 use Prim.Native.Nat.{ℕ}
-use mathlib.Core.Path.{_≡_, refl, sym, ap, _∙_, subst}
-use mathlib.Core.Logic.{_⊎_}
+use mathlib.Core.Path.{_≡_, sym, ap, _∙_}
+use mathlib.Core.Logic.{_⊎_, inl, inr}
 use mathlib.Core.List.{List}
-use mathlib.Core.Option.{Option, none}
-use lib.ListN.{length, take, drop}
-use lib.Seq.{take-append-seam}
+use mathlib.Core.Option.{none}
+use lib.ListN.{take}
 use lib.IntN.{ℤ}
-use Rattle.base.specs.Choice.{option}
 use Rattle.base.specs.Outcome.{accepted}
 use Rattle.parser.specs.Tree.{Program}
 use Rattle.checker.specs.Check.{checking}
-use Rattle.semantics.specs.Limits.{ended, Report, run}
-use Rattle.semantics.specs.Run.{RunAnswer, Strips, limitsOf, unfit, stripsAfter, Reports, RunMeets, refusal, Runs}
+use Rattle.semantics.specs.Limits.{Limits, Report, run}
+use Rattle.semantics.specs.Run.{RunAnswer, Strips, limitsOf, unfit, RunMeets, Runs}
 use Rattle.soundness.specs.Results.{Finish, ByLimit}
 use Rattle.soundness.specs.LargerLimits.{_⊑_, Begins}
+use Rattle.acceptance.specs.Accepted.{Allowed, accepts}
 use Rattle.guarantees.specs.Demand as Machine
+use Rattle.runner.specs.DemandLaws.{one-answer, ends-as, meets, shown-is}
 
--- the numbers that were printed, as they lead the output strip
-abbrev pub shown : RunAnswer → Strips → List ℤ
-shown a after = take (a .printed) (after .output)
+-- a call of Run for the lesson s, by its contract: fit arguments (no refusal 1, 2 or 3), what was lent, the answer, and what is there then
+pub record Call (s : List ℕ) : Type 0 where
+  pub budget : ℕ
+  pub calls : ℕ
+  pub before : Strips
+  pub answer : RunAnswer
+  pub after : Strips
+  pub fit : unfit calls before ≡ none
+  pub runs : Runs s budget calls before answer after
 
--- a run of the program p: the arguments are fit, and the answer and the strips afterwards are those that Run promises
-pub record RunOf (p : Program) (budget calls : ℕ) (before : Strips) (a : RunAnswer) (after : Strips) : Type 0 where
-  pub reports : Reports (run p (limitsOf budget calls before)) a
-  pub strips : after ≡ stripsAfter (run p (limitsOf budget calls before) .printed) before
+module _ {s : List ℕ} where
+  -- "Its limits are the budget, the call limit and the lengths of the heap strip and the output strip"
+  abbrev pub limits : Call s → Limits
+  limits c = limitsOf (c .budget) (c .calls) (c .before)
 
-module _ (s : List ℕ) (p : Program) (found : checking s ≡ accepted p) where
-  -- Run runs an accepted lesson where no argument is refused
-  pub run-of : (budget calls : ℕ) (before : Strips) (a : RunAnswer) (after : Strips) → unfit calls before ≡ none → Runs s budget calls before a after → RunOf p budget calls before a after
-  unfolding Runs
-  run-of budget calls before a after u R =
-      let m : RunMeets (checking s) budget calls before a after =
-      subst (λ (x : Option ℕ). option x (RunMeets (checking s) budget calls before a after) λ n. (a ≡ refusal n 0) × (after ≡ before)) u R in
-      let q = subst (λ v. RunMeets v budget calls before a after) found m in
-      record { reports = q .0; strips = q .1 }
+  -- the printed numbers, which lead the output strip
+  abbrev pub printed : Call s → List ℤ
+  printed c = take (c .answer .printed) (c .after .output)
 
-  -- It never gets stuck: it ends in 0, in a fault (40, 41, 42) or by a limit (50, 51, 52, 53).
-  pub never-stuck : (budget calls : ℕ) (before : Strips) (a : RunAnswer) (after : Strips) → RunOf p budget calls before a after → Finish (a .number) ⊎ ByLimit (a .number)
-  never-stuck budget calls before a after R =
-      let e = Machine.ends-well s p found (limitsOf budget calls before) in
-      let q : ended (e .number) (e .position) ≡ ended (a .number) (a .position) = sym (e .is) ∙ R .reports .ending in
-      let n : e .number ≡ a .number = cc in
-      subst (λ k. Finish k ⊎ ByLimit k) n (e .cause)
+  -- how the first of two calls ends, and what that says of the second
+  pub data Agree (c c′ : Call s) : Type 0 where
+    -- by itself, in 0, 40, 41 or 42: the second has the same answer (result, position, steps, heap words, printed count) and numbers
+    by-itself : Finish (c .answer .number) → c′ .answer ≡ c .answer → printed c′ ≡ printed c → Agree c c′
+    -- a limit stops it, with 50, 51, 52 or 53: its printed numbers begin those of the second
+    by-a-limit : ByLimit (c .answer .number) → Begins (printed c) (printed c′) → Agree c c′
 
-  shown-is : (budget calls : ℕ) (before : Strips) (a : RunAnswer) (after : Strips) → RunOf p budget calls before a after
-      → shown a after ≡ run p (limitsOf budget calls before) .printed
-  shown-is budget calls before a after R =
-      let o = run p (limitsOf budget calls before) .printed in
-      ap (λ (n : ℕ). take n (after .output)) (R .reports .printed) ∙ ap (λ (m : Strips). take (length o) (m .output)) (R .strips)
-      ∙ take-append-seam o (drop (length o) (before .output))
+-- Two calls of Run for an allowed lesson, the second under limits that are no smaller; what was lent may have held anything before.
+pub demand-3 : (s : List ℕ) (p : Program) → Allowed s p → (c c′ : Call s) → limits c ⊑ limits c′ → Agree c c′
+demand-3 s p h c c′ larger = by (ends-as (Machine.ends-well s p found L) (meets-run c .0))
+  where
+    found : checking s ≡ accepted p
+    found = accepts s p h
 
-  -- two runs, the second under limits that are no smaller; the strips may have held anything before
-  module _ (budget calls : ℕ) (before : Strips) (a : RunAnswer) (after : Strips) (R : RunOf p budget calls before a after)
-      (budget′ calls′ : ℕ) (before′ : Strips) (a′ : RunAnswer) (after′ : Strips) (R′ : RunOf p budget′ calls′ before′ a′ after′)
-      (larger : limitsOf budget calls before ⊑ limitsOf budget′ calls′ before′) where
-    -- A run that ended by itself, in 0, 40, 41 or 42, has the same answer under larger limits: result, position, steps, heap words, printed count.
-    pub same-answer : Finish (a .number) → a′ ≡ a
-    same-answer f =
-        let L = limitsOf budget calls before in
-        let M = limitsOf budget′ calls′ before′ in
-        let e : run p M ≡ run p L = Machine.same-end s p found L M (a .number) (a .position) larger f (R .reports .ending) in
-        let q : ended (a′ .number) (a′ .position) ≡ ended (a .number) (a .position) = sym (R′ .reports .ending) ∙ ap (λ (r : Report). r .ending) e ∙ R .reports .ending in
-        let n : a′ .number ≡ a .number = cc in
-        let i : a′ .position ≡ a .position = cc in
-        let t : a′ .steps ≡ a .steps = R′ .reports .steps ∙ ap (λ (r : Report). r .steps) e ∙ sym (R .reports .steps) in
-        let w : a′ .words ≡ a .words = R′ .reports .words ∙ ap (λ (r : Report). r .words) e ∙ sym (R .reports .words) in
-        let o : a′ .printed ≡ a .printed = R′ .reports .printed ∙ ap (λ (r : Report). length (r .printed)) e ∙ sym (R .reports .printed) in
-        five n i t w o
-      where
-        five : {n n′ i i′ t t′ w w′ o o′ : ℕ} → n′ ≡ n → i′ ≡ i → t′ ≡ t → w′ ≡ w → o′ ≡ o
-            → _≡_ {A = RunAnswer} (record { number = n′; position = i′; steps = t′; words = w′; printed = o′ }) (record { number = n; position = i; steps = t; words = w; printed = o })
-        five a b c d e = rw (a, b, c, d, e) refl
+    L : Limits
+    L = limits c
 
-    -- The same numbers were printed then.
-    pub same-shown : Finish (a .number) → shown a′ after′ ≡ shown a after
-    same-shown f =
-        let L = limitsOf budget calls before in
-        let M = limitsOf budget′ calls′ before′ in
-        let e : run p M ≡ run p L = Machine.same-end s p found L M (a .number) (a .position) larger f (R .reports .ending) in
-        shown-is budget′ calls′ before′ a′ after′ R′ ∙ ap (λ (r : Report). r .printed) e ∙ sym (shown-is budget calls before a after R)
+    M : Limits
+    M = limits c′
 
-    -- What a run printed, also one that a limit stopped, begins what is printed under larger limits.
-    pub shown-begins : Begins (shown a after) (shown a′ after′)
-    shown-begins =
-        rw (shown-is budget calls before a after R, shown-is budget′ calls′ before′ a′ after′ R′)
-        (Machine.printed-begins s p found (limitsOf budget calls before) (limitsOf budget′ calls′ before′) larger)
+    meets-run : (c : Call s) → RunMeets (accepted p) (c .budget) (c .calls) (c .before) (c .answer) (c .after)
+    meets-run c = meets p (c .budget) (c .calls) (c .before) (c .answer) (c .after) s found (c .fit) (c .runs)
+
+    printed-is : (c : Call s) → printed c ≡ run p (limits c) .printed
+    printed-is c = shown-is p (c .budget) (c .calls) (c .before) (c .answer) (c .after) (meets-run c)
+
+    by : Finish (c .answer .number) ⊎ ByLimit (c .answer .number) → Agree c c′
+    by (inl f) =
+        let e : run p M ≡ run p L =
+        Machine.same-end s p found L M (c .answer .number) (c .answer .position) larger f (meets-run c .0 .ending) in
+        by-itself f (one-answer e (meets-run c .0) (meets-run c′ .0))
+        (printed-is c′ ∙ ap (λ (r : Report). r .printed) e ∙ sym (printed-is c))
+    by (inr l) = by-a-limit l (rw (printed-is c, printed-is c′) (Machine.printed-begins s p found L M larger))

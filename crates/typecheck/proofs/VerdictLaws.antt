@@ -22,7 +22,8 @@ use Rattle.reader.specs.ReadPost.{Fills}
 use Rattle.checker.specs.Declarations.{distinctClasses, knownParents, endingChains, declarations}
 use Rattle.checker.specs.Check.{allBodies, judged, checking, checkAnswer, check, Checks}
 use Rattle.typing.specs.Agreement.{program-acyclic}
-use Rattle.acceptance.specs.Accepted.{reading-of, allowed}
+use Rattle.acceptance.specs.Read.{readable-exactly}
+use Rattle.acceptance.specs.Accepted.{allowed}
 use Rattle.lookup.specs.declared.answer.Judged.{Judged}
 use Rattle.lookup.specs.declared.answer.Judged.the-variants.{Fine, Refused}
 use Rattle.lookup.specs.Standing.{absent, wordAt, Lexemes, ClassesStand, no-classes, more-classes}
@@ -167,7 +168,7 @@ promised : (s : List ℕ) (d : Reading) (p : Program) {r : Found} (after : List 
     → Checked s p r after
 unfolding checking
 promised s d p after e q h =
-    let R = reading-of s d e in
+    let R = readable-exactly s (d .stream) (d .tree) .0 e in
     let A = allowed s p (ap (λ (o : Outcome Reading). o >>= λ x. judged (x .tree)) e ∙ q) in
     record {
       stream = d .stream;
@@ -178,7 +179,7 @@ promised s d p after e q h =
       derived = h .derived;
       main = main-names (h .derived) .0;
       parameter = main-names (h .derived) .1;
-      shallow = A .shallow;
+      shallow = A .readable .shallow;
       typed = A .typed;
       ends = λ c g. program-acyclic (A .typed) .ends c g;
     }
