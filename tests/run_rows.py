@@ -222,7 +222,6 @@ def errors():
         ("run 16384 x 1 1 1 -", "malformed number"),
         ("run 16384 4294967296 1 1 1 -", "malformed number"),
         ("run 16384 1 -1 1 1 -", "malformed number"),
-        ("run 16384 1 4294967296 1 1 -", "malformed number"),
         ("run 16384 1 1  1 -", "malformed number"),
         ("run 16384 1 1 1 1x -", "malformed number"),
         ("run 20001 x 1 1 1 -", "table too large"),

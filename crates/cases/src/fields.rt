@@ -12,8 +12,8 @@ pub enum Number {
     Malformed,
 }
 
-// The largest number that a case can hold.
-const NUMBER_MOST: usize = 4294967295;
+// The largest number that a case can hold. It stands for all larger ones too: every bound of what is lent lies below it, and Run refuses it as a call limit.
+const NUMBER_MOST: usize = 4294967296;
 
 // The byte at an index, or a blank past the end.
 pub fn byte_at(line: &[u8], i: usize) -> u8 {
@@ -86,20 +86,20 @@ pub fn is_first(line: &[u8], name: &[u8]) -> bool {
     true
 }
 
-// A number with one digit more; nothing where the byte is no digit or the number becomes too large.
+// A number with one digit more; nothing where the byte is no digit.
 fn with_digit(value: usize, b: u8) -> Number {
-    if NUMBER_MOST < value {
-        return Number::Malformed;
-    }
     if b < b'0' {
         return Number::Malformed;
     }
     if b'9' < b {
         return Number::Malformed;
     }
+    if NUMBER_MOST < value {
+        return Number::Is(NUMBER_MOST);
+    }
     let next = value * 10 + (b - b'0') as usize;
     if NUMBER_MOST < next {
-        return Number::Malformed;
+        return Number::Is(NUMBER_MOST);
     }
     Number::Is(next)
 }

@@ -45,6 +45,7 @@ fn answer(line: &[u8], source: &mut [u8], table: &mut [u32], strip: &mut [u32]) 
     match n {
         Name::Of(o) => lent::answer(o, line, source, table, strip),
         Name::Run => run_lent::answer(line, source, table),
+        Name::Help => output::usage(),
         Name::Unknown => output::refuse(Wrong::Operation),
     }
 }
@@ -123,21 +124,26 @@ fn take_some(
     Taken::Some(take_all(&chunk[..count], line, n, source, table, strip))
 }
 
-// Answers every line of the input. Nothing says that the input ends, so the loop counts its turns down, from a number that no run uses up.
+// Answers every line of the input; one that is empty from the begin is given the usage. Nothing says that the input ends, so the loop counts its turns down, from a number that no run uses up.
 fn serve(line: &mut [u8], source: &mut [u8], table: &mut [u32], strip: &mut [u32]) {
     let mut waiting: usize = 0;
     let mut turns = u64::MAX;
+    let mut given = false;
     while turns > 0 {
         turns -= 1;
         let t = take_some(line, waiting, source, table, strip);
         match t {
             Taken::Some(n) => {
                 waiting = n;
+                given = true;
             }
             Taken::End => {
                 turns = 0;
             }
         }
+    }
+    if !given {
+        output::usage();
     }
 }
 

@@ -14,6 +14,7 @@ pub enum Operation {
 pub enum Name {
     Of(Operation),
     Run,
+    Help,
     Unknown,
 }
 
@@ -30,6 +31,9 @@ pub fn named(line: &[u8]) -> Name {
     }
     if fields::is_first(line, b"run") {
         return Name::Run;
+    }
+    if fields::is_first(line, b"help") {
+        return Name::Help;
     }
     Name::Unknown
 }
