@@ -1,6 +1,7 @@
 // Expressions are judged in a cycle: an expression, its parts, the arguments of a call. `left` is how many tokens may still be covered: a part covers fewer than its whole.
 use crate::scope::Scope;
 use crate::scope::name_type;
+use lexer::kinds;
 use lookup::answer::BROKEN;
 use lookup::answer::Judged;
 use lookup::chain::fits;
@@ -13,7 +14,6 @@ use lookup::types::NOTHING;
 use lookup::types::known;
 use lookup::types::type_of;
 use members::find::method;
-use parser::kinds;
 use parser::kinds::is_atom;
 use parser::table::kind;
 ghost use Prim.Native.Nat.{_≤_, _<_};

@@ -2,6 +2,7 @@
 use crate::expr::name;
 use crate::expr::operand;
 use crate::scope::Scope;
+use lexer::kinds;
 use lookup::answer::BROKEN;
 use lookup::answer::Judged;
 use lookup::chain::fits;
@@ -10,7 +11,6 @@ use lookup::rows::word;
 use lookup::types::BOOLEAN;
 use lookup::types::INT;
 use lookup::types::INT_ARRAY;
-use parser::kinds;
 use parser::table::kind;
 ghost use Prim.Native.Nat.{_≤_, _<_};
 ghost use Rattle.bodies.specs.Scoping.{Judgeable};

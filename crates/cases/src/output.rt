@@ -45,13 +45,19 @@ pub fn end(is_right: bool) {
 
 // Writes what the program does, for who asks for help or gives it nothing.
 pub fn usage() {
-    text(b"Answers cases, one on each line of the input. SOURCE is a lesson's bytes in hexadecimal digits, - for none;\n");
+    text(
+        b"Answers cases, one on each line of the input. SOURCE is a lesson's bytes in hexadecimal digits, - for none;\n",
+    );
     text(b"TABLE, STRIP, HEAP and OUTPUT say how many words are lent.\n");
     text(b"  read TABLE SOURCE: number, position, tokens, nodes\n");
     text(b"  check TABLE SOURCE: number, position, classes\n");
     text(b"  menu TABLE STRIP SOURCE: number, position, classes, then what is written\n");
-    text(b"  run TABLE BUDGET CALLS HEAP OUTPUT SOURCE: number, position, steps, heap words, then what is printed\n");
-    text(b"A line that is no case is answered by what is wrong with it. STRIP after an answer says that something lent\n");
+    text(
+        b"  run TABLE BUDGET CALLS HEAP OUTPUT SOURCE: number, position, steps, heap words, then what is printed\n",
+    );
+    text(
+        b"A line that is no case is answered by what is wrong with it. STRIP after an answer says that something lent\n",
+    );
     text(b"does not hold what it should.\n");
 }
 

@@ -1,9 +1,9 @@
 // The index of the classes: column 7 of the row that is the number of a name leads to the class of that name.
+use lexer::kinds::IF;
 use lookup::answer::BROKEN;
 use lookup::answer::Judged;
 use lookup::rows::ABSENT;
 use lookup::rows::word;
-use parser::kinds::IF;
 ghost use mathlib.Core.Path.{_≡_};
 ghost use Prim.Native.Nat.{_≤_, _<_};
 ghost use lib.ListN.{length};

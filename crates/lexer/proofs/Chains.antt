@@ -1,13 +1,14 @@
 -- The table while it is filled: the tokens read off it, what a store leaves as it was, and the search of a chain.
-use Prim.Native.Nat.{ℕ, zero, suc, _+_, _-_, _≤_, _<_}
+use Prim.Native.Nat.{ℕ, zero, suc, _+_, _*_, _-_, _≤_, _<_}
 use native.Mathlib.Numerals.{add-one}
-use native.Mathlib.Decide.{decLt}
+use native.Mathlib.Decide.{ℕ-discrete, decLt}
 use native.Mathlib.Omega.{arith}
 use mathlib.Core.List.{List, [], _∷_, _++_, append-assoc}
 use mathlib.Core.Bool.{true, false}
 use mathlib.Core.Option.{some, Option·some-injective}
 use mathlib.Core.Path.{_≡_, refl, sym, ap, _∙_, subst}
-use lib.ListN.{length, getElem?, length-append}
+use lib.ListN.{length, getElem?, set, length-append}
+use lib.Seq.{getD-set-same, getD-set-other}
 use Rattle.base.specs.Bytes.{same}
 use Rattle.base.specs.Lists.{get-below, get-append-right}
 use Rattle.base.specs.Table.{col}
@@ -16,7 +17,7 @@ use Rattle.lexer.specs.Tokens.{Token}
 use Rattle.lexer.specs.Rows.{firstNamed, RowOf, Rows}
 use Rattle.base.specs.Tests.{apart, same-refl, same-equal}
 use Rattle.lexer.specs.RowLaws.{Named, first-none, first-stable}
-use Rattle.lexer.specs.Chains.{textAt, tokenAt, tokensOf, Reaches, here, next, Numbered, Filled, Sought}
+use Rattle.lexer.specs.Chains.{NoNames, textAt, tokenAt, tokensOf, Reaches, here, next, Numbered, Filled, Sought}
 
 -- ---- the tokens of the first rows
 
@@ -135,3 +136,22 @@ sought-none {s} {tab} {n} {x} {t} h c = sym (first-none (tokensOf s tab n) t non
         let l = row-below s tab n i (m .at) in
         let e = Option·some-injective (tokenAt s tab i) (m .item) (sym (token-at s tab n i l) ∙ m .at) in
         never (c .found i l (ap (λ (u : Token). isName (u .kind)) e ∙ m .named) (ap (λ (u : Token). u .text) e ∙ m .text))
+
+-- EMPTY BUCKETS
+
+pub no-names-first : {tab : List ℕ} → NoNames tab 0
+no-names-first = record { heads = λ b h. absurd (omega arith) }
+
+pub no-names-next : {tab : List ℕ} {b : ℕ} → 16384 ≤ length tab → b < 2048 → NoNames tab b → NoNames (set tab (10240 + b) 0) (b + 1)
+unfolding col
+no-names-next {tab} {b} big l h =
+    record {
+      heads = λ j near.
+          elim (ℕ-discrete j b) [
+            | yes e ↦ rw (e, getD-set-same tab (10240 + b) 0 0 (omega arith)) refl
+            | no n ↦ getD-set-other tab (10240 + b) (2048 * 5 + j) 0 0 (λ z. n (omega arith)) ∙ h .heads j (omega arith)
+          ];
+    }
+
+pub no-names-last : {tab : List ℕ} {b : ℕ} → 2048 ≤ b → NoNames tab b → NoNames tab 2048
+no-names-last l h = record { heads = λ j near. h .heads j (omega arith) }

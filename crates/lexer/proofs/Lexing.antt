@@ -3,15 +3,14 @@ use Prim.Native.Nat.{ℕ, zero, suc, _+_, _-_, _≤_, _<_}
 use native.Mathlib.Omega.{arith}
 use mathlib.Core.List.{List, [], _∷_, _++_, append-nil, append-assoc}
 use mathlib.Core.Path.{_≡_, refl, sym, ap, _∙_, subst}
-use lib.ListN.{length, getD, take, drop, replicate, length-replicate, length-drop}
+use lib.ListN.{length, take, drop, length-drop}
 use borrow.Author.Tests.{le-leb, lt-leb}
 use Rattle.base.specs.Outcome.{Outcome, accepted, refused, _>>=_}
-use Rattle.base.specs.Table.{col, cell}
 use Rattle.lexer.specs.Tokens.{Token, Item, gap, unclosed, nothing, token, item, turn, tokensFrom, tokens}
 use Rattle.lexer.specs.Rows.{Answers}
 use Rattle.base.specs.Tests.{apart}
 use Rattle.lexer.specs.ItemLaws.{Good, Shape, good}
-use Rattle.lexer.specs.Chains.{tokensOf, Chained, Added}
+use Rattle.lexer.specs.Chains.{NoNames, tokensOf, Chained, Added}
 use Rattle.lexer.specs.Scan.{pieceOf}
 use Rattle.lexer.specs.declared.Lexed.the-variants.{Tokens, Refused}
 use Rattle.lexer.specs.declared.Stored.{Stored}
@@ -82,23 +81,16 @@ pub record Lexing (s tab : List ℕ) (n i : ℕ) : Type 0 where
   pub enough : length s < fuel + i
   pub on : tokens s ≡ onto (tokensOf s tab n) (tokensFrom fuel s n i)
 
-zeros : (m j : ℕ) → getD {A = ℕ} (replicate m 0) j 0 ≡ 0
-zeros zero j = refl
-zeros (suc m) zero = refl
-zeros (suc m) (suc j) = zeros m j
-
-pub lexing-start : (s tab : List ℕ) (m : ℕ) → 16384 ≤ m → tab ≡ replicate m 0 → Lexing s tab 0 0
-unfolding tokens tokensOf col
-lexing-start s tab m h e = record {
+pub lexing-start : (s tab : List ℕ) → 16384 ≤ length tab → NoNames tab 2048 → Lexing s tab 0 0
+unfolding tokens tokensOf
+lexing-start s tab h e = record {
   chained = record {
     filled = record {
-      big = omega (arith, ap length e, length-replicate {A = ℕ} m 0);
+      big = h;
       few = omega arith;
       row = λ i l. absurd (omega arith);
     };
-    heads = λ b hb.
-        let z : col tab 5 b ≡ 0 = ap (λ (l : List ℕ). col l 5 b) e ∙ zeros m (cell 5 b) in
-        record { below = omega arith; named = λ j q. absurd (omega arith) };
+    heads = λ b hb. let z = e .heads b hb in record { below = omega arith; named = λ j q. absurd (omega arith) };
     found = λ j l. absurd (omega arith);
   };
   fuel = length s + 1;

@@ -1,9 +1,9 @@
 // The lexer: from the bytes of a source to a row of the work table for each token.
-use base::fill::zero_words;
 use bytes::byte_kinds;
 use limits::Verdict;
 use limits::judge;
 use names::Lexeme;
+use names::clear_buckets;
 use names::store;
 use names::store_name;
 use scan::Piece;
@@ -58,12 +58,12 @@ fn add(source: &[u8], table: &mut [u32], count: usize, token: Lexeme) -> Stored
     }
 }
 
-// Each turn reads one blank, comment or token. The table is cleared first: a bucket without names is 0.
+// Each turn reads one blank, comment or token. Of the table only the buckets are cleared first: rows are written before they are read.
 pub fn lex(source: &[u8], table: &mut [u32]) -> Lexed
     requires { ⌜ (16384 ≤ length (now table)) × (length (now source) ≤ 16384) ⌝ }
     ensures { λ r. ⌜ (length (now (table .exit)) ≡ length (now (table .entry))) × Answers (tokens (now (source .entry))) r (now (table .exit)) ⌝ }
 {
-    zero_words(table);
+    clear_buckets(table);
     let kinds = byte_kinds();
     let mut count: usize = 0;
     let mut at: usize = 0;

@@ -12,7 +12,7 @@ ghost use Rattle.base.specs.Bytes.{same};
 ghost use Rattle.base.specs.Table.{col};
 ghost use Rattle.lexer.specs.Kinds.{isName};
 ghost use Rattle.lexer.specs.Rows.{firstNamed};
-ghost use Rattle.lexer.specs.Chains.{bucketFrom, textAt, tokensOf, rowOf, stored as storedRow, Sought, Adding, Extended};
+ghost use Rattle.lexer.specs.Chains.{bucketFrom, NoNames, textAt, tokensOf, rowOf, stored as storedRow, Sought, Adding, Extended};
 
 // Where the columns of the table begin: the token's position, its name's number or literal's value, the head of a bucket, the link of a
 // chain, the token's length. Its kind stands in column 0.
@@ -46,6 +46,18 @@ fn bucket(text: &[u8]) -> usize
         i += 1;
     }
     h
+}
+
+// No bucket has a name.
+pub fn clear_buckets(table: &mut [u32])
+    requires { ⌜ 16384 ≤ length (now table) ⌝ }
+    ensures { λ _. ⌜ NoNames (now (table .exit)) 2048 ⌝ }
+{
+    let mut b: usize = 0;
+    while b < BUCKETS {
+        table[HEADS + b] = 0;
+        b += 1;
+    }
 }
 
 // Whether the token of a row has these bytes.

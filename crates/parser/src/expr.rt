@@ -1,22 +1,22 @@
 // Expressions, by recursive descent. A level is that of the binary operators looked for, 0 the loosest. What goes on after an operand or a primary has the
 // number of the token where the whole begins and the row of what stands before.
 use crate::answer::Answer;
-use crate::kinds::CLOSE;
-use crate::kinds::CLOSE_BRACKET;
-use crate::kinds::COMMA;
-use crate::kinds::DOT;
-use crate::kinds::INT;
-use crate::kinds::LENGTH;
-use crate::kinds::NEW;
-use crate::kinds::NOT;
-use crate::kinds::OPEN;
-use crate::kinds::OPEN_BRACKET;
 use crate::kinds::is_atom;
 use crate::kinds::is_name;
 use crate::kinds::is_operator;
 use crate::table::kind;
 use crate::table::link;
 use crate::table::node;
+use lexer::kinds::CLOSE;
+use lexer::kinds::CLOSE_BRACKET;
+use lexer::kinds::COMMA;
+use lexer::kinds::DOT;
+use lexer::kinds::INT;
+use lexer::kinds::LENGTH;
+use lexer::kinds::NEW;
+use lexer::kinds::NOT;
+use lexer::kinds::OPEN;
+use lexer::kinds::OPEN_BRACKET;
 ghost use mathlib.Core.Path.{_≡_};
 ghost use mathlib.Core.Bool.{true};
 ghost use Prim.Native.Nat.{_+_, _<_, _≤_};

@@ -1,4 +1,4 @@
-// From tokens to the tree, and the operation Read.
+// From tokens to the tree, both in the work table.
 pub mod answer;
 pub mod decl;
 pub mod expr;

@@ -2,9 +2,9 @@
 // It goes down the tree by calls, no deeper than the bound of depth, and along a list by a loop: a list may be as long as there are tokens.
 // A row's first two parts lie in columns 4 and 5,
 // and only three kinds of nodes tell more: a block's first part and a call's second are lists, linked by column 6, and an `if` has a third part, in column 7.
-use parser::kinds::DOT;
-use parser::kinds::IF;
-use parser::kinds::OPEN_BRACE;
+use lexer::kinds::DOT;
+use lexer::kinds::IF;
+use lexer::kinds::OPEN_BRACE;
 use parser::table::kind;
 ghost use mathlib.Core.Path.{_≡_};
 ghost use mathlib.Core.Bool.{false};

@@ -16,10 +16,10 @@ abbrev μ-loop : tie.MeasureT-loop
 
 -- at the loop's head the table is as long as it was at entry
 kept : (c : tie.At-loop Inv-loop μ-loop) → length (c .loop .table) ≡ length (c .before .before .before .before .before .before .before .before .args .table .now)
-kept c = omega (arith, c .loop .inv .1, c .before .before .before .before .zero-words .kept .0)
+kept c = omega (arith, c .loop .inv .1, c .before .before .before .before .clear-buckets .kept .0)
 
-zero-words-requires : tie.Need-zero-words-requires Inv-loop μ-loop
-zero-words-requires c κs = search needs
+clear-buckets-requires : tie.Need-clear-buckets-requires Inv-loop μ-loop
+clear-buckets-requires c κs = search needs
 
 byte-kinds-requires : tie.Need-byte-kinds-requires Inv-loop μ-loop
 byte-kinds-requires c κs = search needs
@@ -27,7 +27,7 @@ byte-kinds-requires c κs = search needs
 loop-holds : tie.Need-loop-holds Inv-loop μ-loop
 loop-holds c =
     let g = c .before .before .before .before .before .before .before in
-    (lexing-start (g .args .source .now) _ _ (g .pre .0) (c .before .before .before .zero-words .ensures), refl)
+    (lexing-start (g .args .source .now) _ (omega (arith, g .pre .0, c .before .before .before .clear-buckets .kept .0)) (c .before .before .before .clear-buckets .ensures), refl)
 
 piece-at-requires : tie.Need-piece-at-requires Inv-loop μ-loop
 piece-at-requires c κs = (c .before .before .before .byte-kinds .ensures, c .before .loop-test .taken)
@@ -149,7 +149,7 @@ lex-spec =
     (tie.spec
     Inv-loop
     μ-loop
-    zero-words-requires
+    clear-buckets-requires
     byte-kinds-requires
     loop-holds
     piece-at-requires
