@@ -11,7 +11,7 @@ use Rattle.checker.specs.ClassTable as ClassTable
 use Rattle.checker.specs.Judge as Judge
 use Rattle.semantics.specs.Machine as Machine
 use Rattle.semantics.specs.Limits as Limits
-use Rattle.semantics.specs.Limits.{Limits, meters, Report, ended, runWith, run}
+use Rattle.semantics.specs.Limits.{Limits, begun, Report, ended, runWith, run}
 use Rattle.codegen.specs.Code as Code
 use Rattle.codegen.specs.Code.{climb}
 use Rattle.codegen.specs.Compile as Compile
@@ -103,7 +103,7 @@ on-code = (refl, refl)
 abbrev onWords : Limits → Report
 onWords L =
     let P = compile lesson in
-    runWith (wordDue P (λ _. 0) (λ _ m. climb 1 (P .rows) A m)) wordSize L (4 * L .budget + 4) (wordAt 0 [] [] []) (meters 0 [])
+    runWith (wordDue P (λ _. 0) (λ _ m. climb 1 (P .rows) A m)) wordSize L (4 * L .budget + 4) (wordAt 0 [] [] []) begun
 
 on-words : (onWords (limits 100) ≡ whole) × (onWords (limits 37) ≡ cut)
 unfolding Limits.runWith Limits.guard wordDue Words.wordAct climb Code.rowNamed Code.entryNamed

@@ -25,7 +25,7 @@ use Rattle.semantics.specs.Run as Run
 use Rattle.guarantees.specs.Literals.{small, literals-fit}
 use Rattle.interpreter.specs.declared.state.Bounds.{Bounds}
 use Rattle.interpreter.specs.declared.report.Ended.{Ended}
-use Rattle.interpreter.specs.Running.{Runnable, Roomy, Executed}
+use Rattle.interpreter.specs.Running.{Runnable, Roomy, answerOf, Executed}
 use Rattle.runner.specs.declared.run.RunAnswer.{RunAnswer}
 use Rattle.runner.specs.RunPost.{strips, Completes, Compiled, Performs, Known, Performed}
 
@@ -93,15 +93,15 @@ runnable s p tokens classes tab code code′ entries entries′ h a long many =
 
 pub completed : (tab code fast values : List ℕ) (sz : Sizes) (b : Bounds) (heap output : List ℤ) {code′ entries′ : List ℕ} {x : Ended} {output′ : List ℤ}
     → Prepares (sz .tokens) (sz .classes) tab code code′ (replicate 2048 0) entries′ → Executed tab code′ entries′ fast values sz b heap output x output′
-    → Compiled tab code fast values sz b heap output (record { number = x .number; position = x .position; steps = x .steps; words = x .words; printed = x .printed }) output′
+    → Compiled tab code fast values sz b heap output (answerOf x) output′
 completed tab code fast values sz b heap output {code′} {entries′} {x} {output′} w E = record { says = λ long roomy. record { says = λ s h. by long roomy s (checking s) h } }
   where
     by : 16 * sz .tokens ≤ length code → Roomy (sz .tokens) (b .calls) fast values → (s : List ℕ) (v : Outcome Program) → Leaves s v (found (sz .tokens) (sz .classes)) tab
-        → Performs v b heap output (record { number = x .number; position = x .position; steps = x .steps; words = x .words; printed = x .printed }) output′
+        → Performs v b heap output (answerOf x) output′
     by long roomy s (accepted p) h =
         let many : length (replicate {A = ℕ} 2048 0) ≡ 2048 = length-replicate {A = ℕ} 2048 0 in
         let r = E .says p (runnable s p (sz .tokens) (sz .classes) tab code code′ (replicate 2048 0) entries′ h (w .says (h .stream) p (record { answer = h .answer; ready = h .ready; derived = h .derived })) long (omega (arith, many))) roomy in
-        (record { ending = r .ending; steps = r .steps; words = r .words; printed = r .printed }, r .strip)
+        (r .reports, r .strip)
     by long roomy s (refused n i) h = let z = h in apart (cc)
 
 -- room for the values of so many tokens in main and 64 calls

@@ -23,10 +23,13 @@ one-answer {a = a} {a′ = a′} e R R′ =
     sym (R′ .ending) ∙ ap (λ (x : Report). x .ending) e ∙ R .ending in
     let n : a′ .number ≡ a .number = cc in
     let i : a′ .position ≡ a .position = cc in
-    let t : a′ .steps ≡ a .steps = R′ .steps ∙ ap (λ (x : Report). x .steps) e ∙ sym (R .steps) in
-    let w : a′ .words ≡ a .words = R′ .words ∙ ap (λ (x : Report). x .words) e ∙ sym (R .words) in
-    let o : a′ .printed ≡ a .printed = R′ .printed ∙ ap (λ (x : Report). length (x .printed)) e ∙ sym (R .printed) in
-    λ j. record { number = n j; position = i j; steps = t j; words = w j; printed = o j }
+    λ j. record {
+      number = n j;
+      position = i j;
+      steps = (R′ .steps ∙ ap (λ (x : Report). x .steps) e ∙ sym (R .steps)) j;
+      words = (R′ .words ∙ ap (λ (x : Report). x .words) e ∙ sym (R .words)) j;
+      printed = (R′ .printed ∙ ap (λ (x : Report). length (x .printed)) e ∙ sym (R .printed)) j;
+    }
 
 -- one of the eight numbers, where the run ends well
 pub ends-as : {r : Report} {a : RunAnswer} → EndsWell (r .ending) → Reports r a → Finish (a .number) ⊎ ByLimit (a .number)

@@ -117,6 +117,6 @@ module _ {Q : Request Core → Type 0} (q : Closed Q) where
 
 -- what holds of a turn's outcome passes on to the report: of the run that goes on, or of the end
 pub after-by : (P : Outcome Core → Type 0) (Q : Report → Type 0) (k : Core → Meters → Report) (c : Core) (m : Meters) → ((d : Core) (n : Meters) → P (next d n) → Q (k d n))
-    → ((e : Ending) → P (stop e) → Q (report sizeOf e c m)) → (o : Outcome Core) → P o → Q (after sizeOf k c m o)
+    → ((e : Ending) → P (stop e) → Q (report e (sizeOf c) m)) → (o : Outcome Core) → P o → Q (after sizeOf k c m o)
 after-by P Q k c m f g (next d n) h = f d n h
 after-by P Q k c m f g (stop e) h = g e h

@@ -13,7 +13,7 @@ use Rattle.typing.specs.Choices.{by-test}
 use Rattle.semantics.specs.Machine.{Value, Cell, Call, Core, Core.core, Request, Request.charge, Request.allocate, Request.enter, Request.output, Request.move, Request.fault, Request.done, Request.stuck}
 use Rattle.semantics.specs.Machine.{Task, Task.evaluate, Task.execute, Task.operand, Task.operate, Task.confirm, Task.negate, Task.index, Task.fetch, Task.measure, Task.makeArray, Task.makeObject, Task.invoke, Task.branch, Task.decide, Task.again, Task.show, Task.store, Task.newElement, Task.storeElement, Task.continue, Task.perform, Task.leave}
 use Rattle.semantics.specs.Machine.{ofKind, ofKinds, isAnd, apply, begin, beginStatement, second, callMethod, nextArgument, nextStatement, nextOfBody, newArrayOf, newObjectOf, go, plan, start}
-use Rattle.semantics.specs.Limits.{Limits, Meters, meters, Outcome, next, stop, guard, sizeOf, runWith, run}
+use Rattle.semantics.specs.Limits.{Limits, Meters, begun, Outcome, next, stop, guard, sizeOf, runWith, run}
 use Rattle.soundness.specs.Results.{Over}
 use Rattle.soundness.specs.Continuations.{Closed, need-by, require-by, pop-by, popMany-by, number-by, flag-by, array-by, object-by, object-cell-by, array-cell-by, choice-by, innermost-by, cell-by, in-array-by, read-by, write-by, after-by}
 
@@ -139,7 +139,7 @@ plan-pays G (core (t ∷ ts) vs cs h) = task-pays (weight t + load ts) G t ts vs
 
 -- the turns that are left at the most
 abbrev pub turnsLeft : Limits → Core → Meters → ℕ
-turnsLeft L c (meters s o) = (L .budget - s) * 4 + loadOf c
+turnsLeft L c m = (L .budget - m .steps) * 4 + loadOf c
 
 -- an outcome after which fewer than n turns are left
 abbrev pub Less : Limits → ℕ → Outcome Core → Type 0
@@ -148,15 +148,15 @@ Less L n (stop e) = Over e
 
 guard-less : (L : Limits) (n : ℕ) (m : Meters) (c : Core) (r : Request Core) → Pays (loadOf c) r → turnsLeft L c m ≤ n → Less L n (guard L m r)
 unfolding guard
-guard-less L n (meters s o) c (charge p d) h l =
-    by-test (Less L n) (ltb s (L .budget)) _ _ (λ e. let q = ltb-true s (L .budget) e in omega arith) (λ _. tt)
-guard-less L n (meters s o) c (allocate p j d) h l = by-test (Less L n) (leb j (L .heap)) _ _ (λ _. omega arith) (λ _. tt)
-guard-less L n (meters s o) c (enter p j d) h l = by-test (Less L n) (leb j (L .calls)) _ _ (λ _. omega arith) (λ _. tt)
-guard-less L n (meters s o) c (output p z d) h l = by-test (Less L n) (ltb (length o) (L .printed)) _ _ (λ _. omega arith) (λ _. tt)
-guard-less L n (meters s o) c (move d) h l = omega arith
-guard-less L n (meters s o) c (fault k p) h l = tt
-guard-less L n (meters s o) c done h l = tt
-guard-less L n (meters s o) c stuck h l = tt
+guard-less L n m c (charge p d) h l =
+    by-test (Less L n) (ltb (m .steps) (L .budget)) _ _ (λ e. let q = ltb-true (m .steps) (L .budget) e in omega arith) (λ _. tt)
+guard-less L n m c (allocate p j d) h l = by-test (Less L n) (leb j (L .heap)) _ _ (λ _. omega arith) (λ _. tt)
+guard-less L n m c (enter p j d) h l = by-test (Less L n) (leb j (L .calls)) _ _ (λ _. omega arith) (λ _. tt)
+guard-less L n m c (output p z d) h l = by-test (Less L n) (ltb (length (m .printed)) (L .printed)) _ _ (λ _. omega arith) (λ _. tt)
+guard-less L n m c (move d) h l = omega arith
+guard-less L n m c (fault k p) h l = tt
+guard-less L n m c done h l = tt
+guard-less L n m c stuck h l = tt
 
 -- each turn takes from what is left
 pub turn-less : (G : List Class) (L : Limits) (n : ℕ) (c : Core) (m : Meters) → turnsLeft L c m ≤ n → Less L n (guard L m (plan G c))
@@ -170,4 +170,4 @@ runs-end (suc f) G L c m h =
 
 pub run-ends : (p : Program) (L : Limits) → Over (run p L .ending)
 unfolding run
-run-ends p L = runs-end (4 * L .budget + 4) (p .classes) L (start p) (meters 0 []) (omega arith)
+run-ends p L = runs-end (4 * L .budget + 4) (p .classes) L (start p) begun (omega arith)

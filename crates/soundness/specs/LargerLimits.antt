@@ -13,7 +13,7 @@ use borrow.Author.Tests.{ltb-true, leb-true, lt-ltb, le-leb}
 use Rattle.parser.specs.Tree.{Class, Program}
 use Rattle.typing.specs.Choices.{by-test}
 use Rattle.semantics.specs.Machine.{Core, Request, Request.charge, Request.allocate, Request.enter, Request.output, Request.move, Request.fault, Request.done, Request.stuck, plan, start}
-use Rattle.semantics.specs.Limits.{Limits, Meters, meters, printedOf, ended, Outcome, next, stop, within, guard, Report, sizeOf, after, runWith, run}
+use Rattle.semantics.specs.Limits.{Limits, Meters, begun, ended, Outcome, next, stop, within, guard, Report, sizeOf, after, runWith, run}
 use Rattle.soundness.specs.Results.{Finish, ByLimit, by-budget, by-heap, by-calls, by-output, finish-or-limit, Over}
 use Rattle.soundness.specs.Continuations.{after-by}
 use Rattle.soundness.specs.Ending.{run-ends}
@@ -40,26 +40,26 @@ begins-trans {a} p q =
 -- ---- the printed list only grows
 
 abbrev pub Grows : Meters → Outcome Core → Type 0
-Grows m (next c n) = Begins (printedOf m) (printedOf n)
+Grows m (next c n) = Begins (m .printed) (n .printed)
 Grows m (stop e) = Unit {0}
 
 pub guard-grows : (L : Limits) (m : Meters) (r : Request Core) → Grows m (guard L m r)
 unfolding guard
-guard-grows L (meters s o) (charge p c) = by-test (Grows (meters s o)) (ltb s (L .budget)) _ _ (λ _. begins-refl o) (λ _. tt)
-guard-grows L (meters s o) (allocate p n c) = by-test (Grows (meters s o)) (leb n (L .heap)) _ _ (λ _. begins-refl o) (λ _. tt)
-guard-grows L (meters s o) (enter p n c) = by-test (Grows (meters s o)) (leb n (L .calls)) _ _ (λ _. begins-refl o) (λ _. tt)
-guard-grows L (meters s o) (output p z c) = by-test (Grows (meters s o)) (ltb (length o) (L .printed)) _ _ (λ _. record { rest = z ∷ []; is = refl }) (λ _. tt)
-guard-grows L (meters s o) (move c) = begins-refl o
-guard-grows L (meters s o) (fault k p) = tt
-guard-grows L (meters s o) done = tt
-guard-grows L (meters s o) stuck = tt
+guard-grows L m (charge p c) = by-test (Grows m) (ltb (m .steps) (L .budget)) _ _ (λ _. begins-refl (m .printed)) (λ _. tt)
+guard-grows L m (allocate p n c) = by-test (Grows m) (leb n (L .heap)) _ _ (λ _. begins-refl (m .printed)) (λ _. tt)
+guard-grows L m (enter p n c) = by-test (Grows m) (leb n (L .calls)) _ _ (λ _. begins-refl (m .printed)) (λ _. tt)
+guard-grows L m (output p z c) = by-test (Grows m) (ltb (length (m .printed)) (L .printed)) _ _ (λ _. record { rest = z ∷ []; is = refl }) (λ _. tt)
+guard-grows L m (move c) = begins-refl (m .printed)
+guard-grows L m (fault k p) = tt
+guard-grows L m done = tt
+guard-grows L m stuck = tt
 
-pub run-grows : (f : ℕ) (G : List Class) (L : Limits) (c : Core) (m : Meters) → Begins (printedOf m) (runWith (plan G) sizeOf L f c m .printed)
+pub run-grows : (f : ℕ) (G : List Class) (L : Limits) (c : Core) (m : Meters) → Begins (m .printed) (runWith (plan G) sizeOf L f c m .printed)
 unfolding runWith
-run-grows zero G L c m = begins-refl (printedOf m)
+run-grows zero G L c m = begins-refl (m .printed)
 run-grows (suc f) G L c m =
-    after-by (Grows m) (λ r. Begins (printedOf m) (r .printed)) (λ d n. runWith (plan G) sizeOf L f d n) c m (λ d n g. begins-trans g (run-grows f G L d n))
-    (λ e _. begins-refl (printedOf m)) (guard L m (plan G c)) (guard-grows L m (plan G c))
+    after-by (Grows m) (λ r. Begins (m .printed) (r .printed)) (λ d n. runWith (plan G) sizeOf L f d n) c m (λ d n g. begins-trans g (run-grows f G L d n))
+    (λ e _. begins-refl (m .printed)) (guard L m (plan G c)) (guard-grows L m (plan G c))
 
 -- ---- two runs in step
 
@@ -75,16 +75,16 @@ within-alike false b p o l h = stopped l
 
 guard-alike : (L M : Limits) → L ⊑ M → (m : Meters) (r : Request Core) → Alike (guard L m r) (guard M m r)
 unfolding guard
-guard-alike L M h (meters s o) (charge p c) =
-    within-alike _ _ p _ by-budget (λ e. lt-ltb s (M .budget) (omega (arith, h .budget, ltb-true s (L .budget) e)))
-guard-alike L M h (meters s o) (allocate p n c) = within-alike _ _ p _ by-heap (λ e. le-leb n (M .heap) (omega (arith, h .heap, leb-true n (L .heap) e)))
-guard-alike L M h (meters s o) (enter p n c) = within-alike _ _ p _ by-calls (λ e. le-leb n (M .calls) (omega (arith, h .calls, leb-true n (L .calls) e)))
-guard-alike L M h (meters s o) (output p z c) =
-    within-alike _ _ p _ by-output (λ e. lt-ltb (length o) (M .printed) (omega (arith, h .printed, ltb-true (length o) (L .printed) e)))
-guard-alike L M h (meters s o) (move c) = alike
-guard-alike L M h (meters s o) (fault k p) = alike
-guard-alike L M h (meters s o) done = alike
-guard-alike L M h (meters s o) stuck = alike
+guard-alike L M h m (charge p c) =
+    within-alike _ _ p _ by-budget (λ e. lt-ltb (m .steps) (M .budget) (omega (arith, h .budget, ltb-true (m .steps) (L .budget) e)))
+guard-alike L M h m (allocate p n c) = within-alike _ _ p _ by-heap (λ e. le-leb n (M .heap) (omega (arith, h .heap, leb-true n (L .heap) e)))
+guard-alike L M h m (enter p n c) = within-alike _ _ p _ by-calls (λ e. le-leb n (M .calls) (omega (arith, h .calls, leb-true n (L .calls) e)))
+guard-alike L M h m (output p z c) =
+    within-alike _ _ p _ by-output (λ e. lt-ltb (length (m .printed)) (M .printed) (omega (arith, h .printed, ltb-true (length (m .printed)) (L .printed) e)))
+guard-alike L M h m (move c) = alike
+guard-alike L M h m (fault k p) = alike
+guard-alike L M h m done = alike
+guard-alike L M h m stuck = alike
 
 -- a run under limits and one under larger limits: they report the same, or a limit stopped the first and its printed list begins the other's
 pub data Agree : Report → Report → Type 0 where
@@ -92,7 +92,7 @@ pub data Agree : Report → Report → Type 0 where
   cut : {k p : ℕ} {r s : Report} → ByLimit k → r .ending ≡ ended k p → Begins (r .printed) (s .printed) → Agree r s
 
 after-agree : (j k : Core → Meters → Report) (c : Core) (m : Meters) {o q : Outcome Core} → Alike o q
-    → ((d : Core) (n : Meters) → Agree (j d n) (k d n)) → Begins (printedOf m) (after sizeOf k c m q .printed) → Agree (after sizeOf j c m o) (after sizeOf k c m q)
+    → ((d : Core) (n : Meters) → Agree (j d n) (k d n)) → Begins (m .printed) (after sizeOf k c m q .printed) → Agree (after sizeOf j c m o) (after sizeOf k c m q)
 after-agree j k c m (alike {o = next d n}) h b = h d n
 after-agree j k c m (alike {o = stop e}) h b = agree
 after-agree j k c m (stopped l) h b = cut l refl b
@@ -124,8 +124,8 @@ pub run-agrees : (p : Program) (L M : Limits) → L ⊑ M → Agree (run p L) (r
 unfolding run
 run-agrees p L M h =
     subst (λ (r : Report). Agree r (run p M))
-    (more-fuel (plan (p .classes)) sizeOf L (4 * L .budget + 4) (4 * M .budget + 4) (omega (arith, h .budget)) (start p) (meters 0 []) (run-ends p L))
-    (runs-agree (4 * M .budget + 4) (p .classes) L M h (start p) (meters 0 []))
+    (more-fuel (plan (p .classes)) sizeOf L (4 * L .budget + 4) (4 * M .budget + 4) (omega (arith, h .budget)) (start p) begun (run-ends p L))
+    (runs-agree (4 * M .budget + 4) (p .classes) L M h (start p) begun)
 
 pub agree-same : {k q : ℕ} {r s : Report} → Finish k → r .ending ≡ ended k q → Agree r s → s ≡ r
 agree-same f e agree = refl

@@ -28,7 +28,7 @@ use Rattle.semantics.specs.Machine.{Value, Value.objectAt, Cell, Cell.slot, Cal
 use Rattle.semantics.specs.Machine.{Request, Request.charge, Request.allocate, Request.enter, Request.output, Request.move, Request.fault, Request.done, Request.stuck}
 use Rattle.semantics.specs.Machine.{Task, Task.fetch, Task.measure, Task.makeArray, Task.makeObject, Task.storeElement, Task.leave}
 use Rattle.semantics.specs.Machine.{need, require, ofKind, ofKinds, pop, popMany, innermost, asSlot, asObjectCell, asArrayCell, inArray, readMeaning, readName, writeMeaning, writeName, isAnd, apply, begin, beginStatement, second, callMethod, nextArgument, nextStatement, nextOfBody, newArrayOf, newObjectOf, opened, go, plan, start}
-use Rattle.semantics.specs.Limits.{Limits, Meters, meters, Ending, ended, wentWrong, unfinished, Outcome, next, stop, guard, sizeOf, runWith, run}
+use Rattle.semantics.specs.Limits.{Limits, Meters, begun, Ending, ended, wentWrong, unfinished, Outcome, next, stop, guard, sizeOf, runWith, run}
 use Rattle.soundness.specs.Results.{by-null, by-index, by-size, Finish, by-success, by-fault, ByLimit, by-budget, by-heap, by-calls, by-output, Over}
 use Rattle.soundness.specs.Continuations.{after-by}
 use Rattle.soundness.specs.Ending.{run-ends}
@@ -379,14 +379,14 @@ Safe G (stop e) = Right e
 
 pub guard-safe : (G : List Class) (L : Limits) (m : Meters) (r : Request Core) → Asks G r → Safe G (guard L m r)
 unfolding guard
-guard-safe G L (meters s o) (charge p c) h = by-test (Safe G) (ltb s (L .budget)) _ _ (λ _. h) (λ _. inr by-budget)
-guard-safe G L (meters s o) (allocate p n c) h = by-test (Safe G) (leb n (L .heap)) _ _ (λ _. h) (λ _. inr by-heap)
-guard-safe G L (meters s o) (enter p n c) h = by-test (Safe G) (leb n (L .calls)) _ _ (λ _. h) (λ _. inr by-calls)
-guard-safe G L (meters s o) (output p z c) h = by-test (Safe G) (ltb (length o) (L .printed)) _ _ (λ _. h) (λ _. inr by-output)
-guard-safe G L (meters s o) (move c) h = h
-guard-safe G L (meters s o) (fault k p) h = inl (by-fault h)
-guard-safe G L (meters s o) done h = inl by-success
-guard-safe G L (meters s o) stuck h = absurd h
+guard-safe G L m (charge p c) h = by-test (Safe G) (ltb (m .steps) (L .budget)) _ _ (λ _. h) (λ _. inr by-budget)
+guard-safe G L m (allocate p n c) h = by-test (Safe G) (leb n (L .heap)) _ _ (λ _. h) (λ _. inr by-heap)
+guard-safe G L m (enter p n c) h = by-test (Safe G) (leb n (L .calls)) _ _ (λ _. h) (λ _. inr by-calls)
+guard-safe G L m (output p z c) h = by-test (Safe G) (ltb (length (m .printed)) (L .printed)) _ _ (λ _. h) (λ _. inr by-output)
+guard-safe G L m (move c) h = h
+guard-safe G L m (fault k p) h = inl (by-fault h)
+guard-safe G L m done h = inl by-success
+guard-safe G L m stuck h = absurd h
 
 pub start-typed : (p : Program) → ProgramTyped p → LiteralsFit p → Typed (p .classes) (start p)
 start-typed p P L =
@@ -409,7 +409,7 @@ module _ {G : List Class} (T : All (ClassTyped G) G) (F : All (λ k. All MethodF
 
 pub run-right : (p : Program) (L : Limits) → ProgramTyped p → LiteralsFit p → Right (run p L .ending)
 unfolding run
-run-right p L P F = runs-right (P .classes) (F .classes) L (4 * L .budget + 4) (start p) (meters 0 []) (start-typed p P F)
+run-right p L P F = runs-right (P .classes) (F .classes) L (4 * L .budget + 4) (start p) begun (start-typed p P F)
 
 -- an end with a number, by itself or by a limit
 pub record EndsWell (e : Ending) : Type 0 where

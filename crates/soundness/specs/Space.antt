@@ -25,7 +25,7 @@ use Rattle.typing.specs.ClassTableLaws.{every-method, method-declares}
 use Rattle.semantics.specs.Machine.{Value, Cell, Call, Core, Core.core, Request, Request.charge, Request.allocate, Request.enter, Request.output, Request.move, Request.fault, Request.done, Request.stuck}
 use Rattle.semantics.specs.Machine.{Task, Task.evaluate, Task.execute, Task.operand, Task.operate, Task.confirm, Task.negate, Task.index, Task.fetch, Task.measure, Task.makeArray, Task.makeObject, Task.invoke, Task.branch, Task.decide, Task.again, Task.show, Task.store, Task.newElement, Task.storeElement, Task.continue, Task.perform, Task.leave}
 use Rattle.semantics.specs.Machine.{ofKind, ofKinds, isAnd, apply, begin, beginStatement, second, callMethod, nextArgument, nextStatement, nextOfBody, newArrayOf, newObjectOf, go, plan}
-use Rattle.semantics.specs.Limits.{Limits, Meters, meters, stepsOf, printedOf, Outcome, next, stop, guard, heapOf}
+use Rattle.semantics.specs.Limits.{Limits, Meters, Outcome, next, stop, guard, heapOf}
 use Rattle.soundness.specs.Continuations.{Closed, need-by, require-by, pop-by, popMany-by, number-by, flag-by, array-by, object-by, object-cell-by, array-cell-by, choice-by, innermost-by, cell-by, in-array-by, read-by, write-by}
 use Rattle.soundness.specs.StateTyping.{LiteralsFit, Typed, typed}
 use Rattle.soundness.specs.StateTyping.{Runs, r-end, r-evaluate, r-execute, r-operand, r-operate, r-confirm, r-negate, r-index, r-fetch, r-measure, r-make-array, r-make-object, r-invoke, r-branch, r-decide, r-again, r-show, r-store, r-new-element, r-store-element, r-continue, r-perform, r-leave}
@@ -351,39 +351,39 @@ callsOf (core ts vs cs h) = cs
 pub record Bounded (L : Limits) (c : Core) (m : Meters) : Type 0 where
   pub calls : length (callsOf c) ≤ L .calls
   pub heap : length (heapOf c) ≤ L .heap
-  pub steps : stepsOf m ≤ L .budget
-  pub printed : length (printedOf m) ≤ L .printed
+  pub steps : m .steps ≤ L .budget
+  pub printed : length (m .printed) ≤ L .printed
   pub tasks : length (tasksOf c) ≤ depthMost * (length (callsOf c) + 1)
   pub values : length (valuesOf c) ≤ variablesMost * length (tasksOf c)
 
 abbrev FitsM : Limits → Core → Meters → Type 0
-FitsM L c (meters s o) = FitsC (L .calls) (L .heap) c × (s ≤ L .budget) × (length o ≤ L .printed)
+FitsM L c m = FitsC (L .calls) (L .heap) c × (m .steps ≤ L .budget) × (length (m .printed) ≤ L .printed)
 
 abbrev FitsO : Limits → Outcome Core → Type 0
 FitsO L (next c m) = FitsM L c m
 FitsO L (stop e) = Unit {0}
 
-guard-fits : (L : Limits) (m : Meters) (r : Request Core) → stepsOf m ≤ L .budget → length (printedOf m) ≤ L .printed → FitsR (L .calls) (L .heap) r → FitsO L (guard L m r)
+guard-fits : (L : Limits) (m : Meters) (r : Request Core) → m .steps ≤ L .budget → length (m .printed) ≤ L .printed → FitsR (L .calls) (L .heap) r → FitsO L (guard L m r)
 unfolding guard
-guard-fits L (meters s o) (charge p (core ts vs cs h)) i j f =
-    by-test (FitsO L) (ltb s (L .budget)) _ _ (λ e. (f, omega (arith, ltb-true s (L .budget) e), j)) (λ _. tt)
-guard-fits L (meters s o) (allocate p n c) i j f =
+guard-fits L m (charge p (core ts vs cs h)) i j f =
+    by-test (FitsO L) (ltb (m .steps) (L .budget)) _ _ (λ e. (f, omega (arith, ltb-true (m .steps) (L .budget) e), j)) (λ _. tt)
+guard-fits L m (allocate p n c) i j f =
     by-test (FitsO L) (leb n (L .heap)) _ _ (λ e. (heap-more (c tt) (leb-true n (L .heap) e) f, i, j)) (λ _. tt)
   where
     heap-more : (c : Core) {n : ℕ} → n ≤ L .heap → FitsC (L .calls) n c → FitsC (L .calls) (L .heap) c
     heap-more (core ts vs cs h) l f = (f .0, omega (arith, f .1), f .2)
-guard-fits L (meters s o) (enter p n c) i j f =
+guard-fits L m (enter p n c) i j f =
     by-test (FitsO L) (leb n (L .calls)) _ _ (λ e. (calls-more c (leb-true n (L .calls) e) f, i, j)) (λ _. tt)
   where
     calls-more : (c : Core) {n : ℕ} → n ≤ L .calls → FitsC n (L .heap) c → FitsC (L .calls) (L .heap) c
     calls-more (core ts vs cs h) l f = (omega (arith, f .0), f .1, f .2)
-guard-fits L (meters s o) (output p z c) i j f =
-    by-test (FitsO L) (ltb (length o) (L .printed)) _ _
-    (λ e. (f, i, omega (arith, length-append o (z ∷ []), ltb-true (length o) (L .printed) e))) (λ _. tt)
-guard-fits L (meters s o) (move c) i j f = (f, i, j)
-guard-fits L (meters s o) (fault k p) i j f = tt
-guard-fits L (meters s o) done i j f = tt
-guard-fits L (meters s o) stuck i j f = tt
+guard-fits L m (output p z c) i j f =
+    by-test (FitsO L) (ltb (length (m .printed)) (L .printed)) _ _
+    (λ e. (f, i, omega (arith, length-append (m .printed) (z ∷ []), ltb-true (length (m .printed)) (L .printed) e))) (λ _. tt)
+guard-fits L m (move c) i j f = (f, i, j)
+guard-fits L m (fault k p) i j f = tt
+guard-fits L m done i j f = tt
+guard-fits L m stuck i j f = tt
 
 module _ {p : Program} (P : ProgramTyped p) (F : LiteralsFit p) (D : programDeep p ≡ none) where
   main-shallow : (below (p .statement) < depthMost) × All (λ k. All Shallow (k .methods)) (p .classes)
@@ -397,12 +397,12 @@ module _ {p : Program} (P : ProgramTyped p) (F : LiteralsFit p) (D : programDeep
 
   reach-fits : {L : Limits} {c : Core} {m : Meters} → Reach p L c m → FitsM L c m
   reach-fits reach-start = ((omega arith, omega arith, (omega (arith, main-shallow .0), tt)), omega arith, omega arith)
-  reach-fits {L} (reach-next {c = c} {m = meters s o} r e) =
+  reach-fits {L} (reach-next {c = c} {m = m} r e) =
       let f = reach-fits r in
-      subst (FitsO L) e (guard-fits L (meters s o) (plan (p .classes) c) (f .1) (f .2) (plan-fits (L .calls) (L .heap) (p .classes) methods-found c (f .0)))
+      subst (FitsO L) e (guard-fits L m (plan (p .classes) c) (f .1) (f .2) (plan-fits (L .calls) (L .heap) (p .classes) methods-found c (f .0)))
 
   pub reach-bounded : {L : Limits} {c : Core} {m : Meters} → Reach p L c m → Bounded L c m
-  reach-bounded {c = core ts vs cs h} {m = meters s o} r =
+  reach-bounded {c = core ts vs cs h} r =
       let f = reach-fits r in
       record {
         calls = f .0 .0;
