@@ -1,16 +1,17 @@
 -- What the look-up of a name returns meets its contract: the parameters, then the locals, then the fields upwards from the declaring class are searched.
-use Prim.Native.Nat.{ℕ, _≤_, _<_}
+use Prim.Native.Nat.{ℕ, _+_, _≤_, _<_}
 use native.Mathlib.Omega.{arith}
 use mathlib.Core.Path.{_≡_}
 use mathlib.Core.List.{List}
 use mathlib.Core.Option.{Option, none, some}
-use lib.ListN.{length}
+use lib.ListN.{length, getD}
 use Rattle.base.specs.Choice.{option}
 use Rattle.lexer.specs.Tokens.{Token}
 use Rattle.parser.specs.Tree.{Variable, Class}
 use Rattle.checker.specs.ClassTable.{Slot, Context, ofObject, variableNamed, chain, nearestField, meaning}
 use Rattle.lookup.specs.Standing.{Lexemes, Spells, nothing, chainFrom, ListedAt}
-use Rattle.lookup.specs.Lookups.{Typed, untyped, typed, VariableTyped, FieldTyped}
+use Rattle.lookup.specs.Lookups.{Typed, typed, VariableTyped}
+use Rattle.lookup.specs.Fields.{Tells, no-field, a-field, FieldsHeld}
 use Rattle.lookup.specs.VariableLaws.{typed-some, typed-none, variable-left, variable-right}
 use Rattle.bodies.specs.declared.scope.Scope.{Scope}
 use Rattle.bodies.specs.Scoping.{InScope, Means, unmeant, meant, NameTyped}
@@ -26,18 +27,18 @@ unfolding meaning
 variable-means G Γ text low h = let w = typed-some low h in rw (w .1) (meant (w .2))
 
 -- else it is a field
-field-means : {ts : List Token} (G : List Class) (Γ : Context) (text : List ℕ) {t : ℕ} → variableNamed (Γ .variables) text ≡ none
-    → Typed ts (nearestField (chainFrom (length G) G (Γ .owner)) text) t → Means ts (meaning G Γ text) t
+field-means : {ts : List Token} (G : List Class) (Γ : Context) (text : List ℕ) {t p : ℕ} → variableNamed (Γ .variables) text ≡ none
+    → Tells ts (nearestField (chainFrom (length G) G (Γ .owner)) text) t p → Means ts (meaning G Γ text) t
 unfolding meaning chain nearestField
-field-means {ts} G Γ text {t} e h = rw e (go (Γ .owner) h)
+field-means {ts} G Γ text {t} {p} e h = rw e (go (Γ .owner) h)
   where
-    pick : (o : Option Slot) → Typed ts o t → Means ts (option o none λ s. some (ofObject s)) t
-    pick none (untyped q) = unmeant q
-    pick (some s) (typed c) = meant c
+    pick : (o : Option Slot) → Tells ts o t p → Means ts (option o none λ s. some (ofObject s)) t
+    pick none (no-field q) = unmeant q
+    pick (some s) (a-field c q) = meant c
 
-    go : (owner : Option (List ℕ)) → Typed ts (nearestField (chainFrom (length G) G owner) text) t
+    go : (owner : Option (List ℕ)) → Tells ts (nearestField (chainFrom (length G) G owner) text) t p
         → Means ts (option owner none λ c. option (nearestField (chain G c) text) none λ s. some (ofObject s)) t
-    go none (untyped q) = unmeant q
+    go none (no-field q) = unmeant q
     go (some c) h = pick (nearestField (chain G c) text) h
 
 module _ {tab : List ℕ} {s : Scope} {x t : ℕ} (first : VariableTyped tab (s .tokens) (s .tokens) (s .parameters) x t) where
@@ -61,10 +62,15 @@ module _ {tab : List ℕ} {s : Scope} {x t : ℕ} (first : VariableTyped tab (s 
     pub name-local : u < nothing → NameTyped tab s x u
     name-local low = record { says = λ ts G Γ i text sp. variable-means G Γ text low (both i text sp) }
 
-    pub name-field : nothing ≤ u → {r : ℕ} → FieldTyped tab (s .tokens) (s .classes) (s .owner) x r → NameTyped tab s x r
-    name-field far h =
-        record {
-          says = λ ts G Γ i text sp.
-              let few : length ts ≤ 2048 = omega (arith, i .world .tokens .count, i .world .tokens .few) in
-              field-means G Γ text (typed-none few far (both i text sp)) (rw (i .many) (h .says ts G (i .world) (Γ .owner) (i .declarer) text sp));
-        }
+    module _ (far : nothing ≤ u) where
+      -- a number of no name means nothing
+      pub name-past : 2048 ≤ x → NameTyped tab s x nothing
+      name-past high′ = record { says = λ ts G Γ i text sp. absurd (omega (arith, sp .there, i .world .tokens .count, i .world .tokens .few)) }
+
+      pub name-field : {fields : List ℕ} → FieldsHeld tab (s .tokens) (s .classes) (s .owner) fields → NameTyped tab s x (getD fields x 0)
+      name-field {fields} h =
+          record {
+            says = λ ts G Γ i text sp.
+                let few : length ts ≤ 2048 = omega (arith, i .world .tokens .count, i .world .tokens .few) in
+                field-means G Γ text {p = getD fields (2048 + x) 0} (typed-none few far (both i text sp)) (rw (i .many) (h .says ts G (i .world) (Γ .owner) (i .declarer) .says text x sp));
+          }

@@ -13,13 +13,14 @@ use Rattle.reader.specs.Matches.{Matches}
 use Rattle.reader.specs.WalkPost.{Walkable}
 use Rattle.checker.specs.ClassTable.{Context, Meaning, meaning, meaningType}
 use Rattle.lookup.specs.Standing.{Spells, Numbers, nothing, Codes, World, ListedAt}
-use Rattle.members.specs.Growth.{MembersIndexed}
+use Rattle.lookup.specs.Fields.{FieldsHeld}
 use Rattle.bodies.specs.declared.scope.Scope.{Scope}
 
--- a table of so many tokens, and the index of the members of its classes
-pub record Judgeable (tab ix : List ℕ) (s : Scope) : Type 0 where
+-- a table of so many tokens, and what the fields of the declaring class mean
+pub record Judgeable (tab fields : List ℕ) (s : Scope) : Type 0 where
   pub walkable : Walkable tab (s .tokens)
-  pub indexed : MembersIndexed tab (s .tokens) ix
+  pub room : 4096 ≤ length fields
+  pub held : FieldsHeld tab (s .tokens) (s .classes) (s .owner) fields
 
 -- the scope is that of the context, in the class table that the table holds
 pub record InScope (tab : List ℕ) (ts : List Token) (G : List Class) (Γ : Context) (s : Scope) : Type 0 where

@@ -4,6 +4,7 @@ use crate::scope::name_type;
 use lexer::kinds;
 use lookup::answer::BROKEN;
 use lookup::answer::Judged;
+use lookup::chain::find_method;
 use lookup::chain::fits;
 use lookup::rows::ABSENT;
 use lookup::rows::word;
@@ -13,7 +14,6 @@ use lookup::types::INT_ARRAY;
 use lookup::types::NOTHING;
 use lookup::types::known;
 use lookup::types::type_of;
-use members::find::method;
 use parser::kinds::is_atom;
 use parser::table::kind;
 ghost use Prim.Native.Nat.{_≤_, _<_};
@@ -35,11 +35,11 @@ fn receiver(table: &[u32], s: Scope, row: usize) -> Judged
 }
 
 // A name: 30.
-pub fn name(table: &[u32], index: &[u32], s: Scope, row: usize) -> Judged
-    requires { ⌜ Judgeable (now table) (now index) s ⌝ }
+pub fn name(table: &[u32], fields: &[u32], s: Scope, row: usize) -> Judged
+    requires { ⌜ Judgeable (now table) (now fields) s ⌝ }
     ensures { λ r. ⌜ NamePost (now (table .entry)) s row r ⌝ }
 {
-    let t = name_type(table, index, s, word(table, 2, row));
+    let t = name_type(table, fields, s, word(table, 2, row));
     if t < NOTHING {
         return Judged::Fine(t);
     }
@@ -47,8 +47,8 @@ pub fn name(table: &[u32], index: &[u32], s: Scope, row: usize) -> Judged
 }
 
 // An expression of one token, of kind k.
-fn atom(table: &[u32], index: &[u32], s: Scope, k: u32, row: usize) -> Judged
-    requires { ⌜ Judgeable (now table) (now index) s ⌝ }
+fn atom(table: &[u32], fields: &[u32], s: Scope, k: u32, row: usize) -> Judged
+    requires { ⌜ Judgeable (now table) (now fields) s ⌝ }
     ensures { λ r. ⌜ AtomPost (now (table .entry)) s k row r ⌝ }
 {
     if k == kinds::LITERAL {
@@ -63,7 +63,7 @@ fn atom(table: &[u32], index: &[u32], s: Scope, k: u32, row: usize) -> Judged
     if k == kinds::THIS {
         return receiver(table, s, row);
     }
-    name(table, index, s, row)
+    name(table, fields, s, row)
 }
 
 // `new C()`: 24.
@@ -96,8 +96,8 @@ fn same_count(table: &[u32], left: usize, a: usize, p: usize) -> bool
 }
 
 // An expression.
-pub fn expression(table: &[u32], index: &[u32], s: Scope, left: usize, row: usize) -> Judged
-    requires { ⌜ Judgeable (now table) (now index) s × (row < 4294967296) × (left ≤ s .tokens) ⌝ }
+pub fn expression(table: &[u32], fields: &[u32], s: Scope, left: usize, row: usize) -> Judged
+    requires { ⌜ Judgeable (now table) (now fields) s × (row < 4294967296) × (left ≤ s .tokens) ⌝ }
     ensures { λ r. ⌜ ExpressionPost (now (table .entry)) s left row r ⌝ }
 {
     if left == 0 {
@@ -105,42 +105,42 @@ pub fn expression(table: &[u32], index: &[u32], s: Scope, left: usize, row: usiz
     }
     let k = kind(table, s.tokens, row);
     if is_atom(k) {
-        return atom(table, index, s, k, row);
+        return atom(table, fields, s, k, row);
     }
     if k == kinds::NEW {
-        return creation(table, index, s, left - 1, row);
+        return creation(table, fields, s, left - 1, row);
     }
     if k == kinds::DOT {
-        return dotted(table, index, s, left - 1, row);
+        return dotted(table, fields, s, left - 1, row);
     }
     if k == kinds::NOT {
-        return single(table, index, s, left - 1, row, BOOLEAN, BOOLEAN);
+        return single(table, fields, s, left - 1, row, BOOLEAN, BOOLEAN);
     }
     if k == kinds::OPEN_BRACKET {
-        return pair(table, index, s, left - 1, row, INT_ARRAY, INT, INT);
+        return pair(table, fields, s, left - 1, row, INT_ARRAY, INT, INT);
     }
     if k == kinds::AND {
-        return pair(table, index, s, left - 1, row, BOOLEAN, BOOLEAN, BOOLEAN);
+        return pair(table, fields, s, left - 1, row, BOOLEAN, BOOLEAN, BOOLEAN);
     }
     if k == kinds::LESS {
-        return pair(table, index, s, left - 1, row, INT, INT, BOOLEAN);
+        return pair(table, fields, s, left - 1, row, INT, INT, BOOLEAN);
     }
-    pair(table, index, s, left - 1, row, INT, INT, INT)
+    pair(table, fields, s, left - 1, row, INT, INT, INT)
 }
 
 // An expression that must fit a type: 31.
 pub fn operand(
     table: &[u32],
-    index: &[u32],
+    fields: &[u32],
     s: Scope,
     left: usize,
     row: usize,
     want: usize,
 ) -> Judged
-    requires { ⌜ Judgeable (now table) (now index) s × (row < 4294967296) × (left ≤ s .tokens) ⌝ }
+    requires { ⌜ Judgeable (now table) (now fields) s × (row < 4294967296) × (left ≤ s .tokens) ⌝ }
     ensures { λ r. ⌜ OperandPost (now (table .entry)) s left row want r ⌝ }
 {
-    let e = expression(table, index, s, left, row);
+    let e = expression(table, fields, s, left, row);
     match e {
         Judged::Fine(t) => {
             if fits(table, s.tokens, s.classes, t, want) {
@@ -155,17 +155,17 @@ pub fn operand(
 // A node with one part, whose type is `answer`.
 fn single(
     table: &[u32],
-    index: &[u32],
+    fields: &[u32],
     s: Scope,
     left: usize,
     row: usize,
     want: usize,
     answer: usize,
 ) -> Judged
-    requires { ⌜ Judgeable (now table) (now index) s × (row < 4294967296) × (left ≤ s .tokens) ⌝ }
+    requires { ⌜ Judgeable (now table) (now fields) s × (row < 4294967296) × (left ≤ s .tokens) ⌝ }
     ensures { λ r. ⌜ SinglePost (now (table .entry)) s left row want answer r ⌝ }
 {
-    let a = operand(table, index, s, left, word(table, 4, row), want);
+    let a = operand(table, fields, s, left, word(table, 4, row), want);
     match a {
         Judged::Fine(_) => Judged::Fine(answer),
         Judged::Refused(number, at) => Judged::Refused(number, at),
@@ -175,7 +175,7 @@ fn single(
 // A node with two parts, whose type is `answer`.
 fn pair(
     table: &[u32],
-    index: &[u32],
+    fields: &[u32],
     s: Scope,
     left: usize,
     row: usize,
@@ -183,13 +183,13 @@ fn pair(
     second: usize,
     answer: usize,
 ) -> Judged
-    requires { ⌜ Judgeable (now table) (now index) s × (row < 4294967296) × (left ≤ s .tokens) ⌝ }
+    requires { ⌜ Judgeable (now table) (now fields) s × (row < 4294967296) × (left ≤ s .tokens) ⌝ }
     ensures { λ r. ⌜ PairPost (now (table .entry)) s left row first second answer r ⌝ }
 {
-    let a = operand(table, index, s, left, word(table, 4, row), first);
+    let a = operand(table, fields, s, left, word(table, 4, row), first);
     match a {
         Judged::Fine(_) => {
-            let b = operand(table, index, s, left, word(table, 5, row), second);
+            let b = operand(table, fields, s, left, word(table, 5, row), second);
             match b {
                 Judged::Fine(_) => Judged::Fine(answer),
                 Judged::Refused(number, at) => Judged::Refused(number, at),
@@ -200,65 +200,58 @@ fn pair(
 }
 
 // `new int[e]` or `new C()`.
-fn creation(table: &[u32], index: &[u32], s: Scope, left: usize, row: usize) -> Judged
-    requires { ⌜ Judgeable (now table) (now index) s × (row < 4294967296) × (left ≤ s .tokens) ⌝ }
+fn creation(table: &[u32], fields: &[u32], s: Scope, left: usize, row: usize) -> Judged
+    requires { ⌜ Judgeable (now table) (now fields) s × (row < 4294967296) × (left ≤ s .tokens) ⌝ }
     ensures { λ r. ⌜ CreationPost (now (table .entry)) s left row r ⌝ }
 {
     if kind(table, s.tokens, row + 1) == kinds::INT {
-        return single(table, index, s, left, row, INT, INT_ARRAY);
+        return single(table, fields, s, left, row, INT, INT_ARRAY);
     }
     new_object(table, s.tokens, row)
 }
 
 // `e.length` or a call.
-fn dotted(table: &[u32], index: &[u32], s: Scope, left: usize, row: usize) -> Judged
-    requires { ⌜ Judgeable (now table) (now index) s × (row < 4294967296) × (left ≤ s .tokens) ⌝ }
+fn dotted(table: &[u32], fields: &[u32], s: Scope, left: usize, row: usize) -> Judged
+    requires { ⌜ Judgeable (now table) (now fields) s × (row < 4294967296) × (left ≤ s .tokens) ⌝ }
     ensures { λ r. ⌜ DottedPost (now (table .entry)) s left row r ⌝ }
 {
     if kind(table, s.tokens, row + 1) == kinds::LENGTH {
-        return single(table, index, s, left, row, INT_ARRAY, INT);
+        return single(table, fields, s, left, row, INT_ARRAY, INT);
     }
-    call(table, index, s, left, row)
+    call(table, fields, s, left, row)
 }
 
 // `e.m(e, ..)`: the receiver must be an object, 31.
-fn call(table: &[u32], index: &[u32], s: Scope, left: usize, row: usize) -> Judged
-    requires { ⌜ Judgeable (now table) (now index) s × (row < 4294967296) × (left ≤ s .tokens) ⌝ }
+fn call(table: &[u32], fields: &[u32], s: Scope, left: usize, row: usize) -> Judged
+    requires { ⌜ Judgeable (now table) (now fields) s × (row < 4294967296) × (left ≤ s .tokens) ⌝ }
     ensures { λ r. ⌜ CallPost (now (table .entry)) s left row r ⌝ }
 {
     let first = word(table, 4, row);
-    let e = expression(table, index, s, left, first);
+    let e = expression(table, fields, s, left, first);
     match e {
         Judged::Fine(t) => {
             if INT <= t {
                 return Judged::Refused(31, word(table, 3, first));
             }
-            invocation(table, index, s, left, row, t)
+            invocation(table, fields, s, left, row, t)
         }
         Judged::Refused(number, at) => Judged::Refused(number, at),
     }
 }
 
 // The method, in a class of name c, and the arguments: 32, 33.
-fn invocation(table: &[u32], index: &[u32], s: Scope, left: usize, row: usize, c: usize) -> Judged
-    requires { ⌜ Judgeable (now table) (now index) s × (row < 4294967296) × (left ≤ s .tokens) ⌝ }
+fn invocation(table: &[u32], fields: &[u32], s: Scope, left: usize, row: usize, c: usize) -> Judged
+    requires { ⌜ Judgeable (now table) (now fields) s × (row < 4294967296) × (left ≤ s .tokens) ⌝ }
     ensures { λ r. ⌜ InvocationPost (now (table .entry)) s left row c r ⌝ }
 {
-    let m = method(
-        table,
-        index,
-        s.tokens,
-        s.classes,
-        c,
-        word(table, 2, row + 1),
-    );
+    let m = find_method(table, s.tokens, s.classes, c, word(table, 2, row + 1));
     if ABSENT <= m {
         return Judged::Refused(32, word(table, 1, row + 1));
     }
     let given = word(table, 5, row);
     let taken = word(table, 4, m);
     if same_count(table, s.tokens, given, taken) {
-        let a = arguments(table, index, s, left, given, taken);
+        let a = arguments(table, fields, s, left, given, taken);
         match a {
             Judged::Fine(_) => {
                 return Judged::Fine(type_of(table, s.tokens, word(table, 3, m)));
@@ -274,13 +267,13 @@ fn invocation(table: &[u32], index: &[u32], s: Scope, left: usize, row: usize, c
 // Arguments, each of which must fit its parameter.
 fn arguments(
     table: &[u32],
-    index: &[u32],
+    fields: &[u32],
     s: Scope,
     left: usize,
     row: usize,
     parameter: usize,
 ) -> Judged
-    requires { ⌜ Judgeable (now table) (now index) s × (row < 4294967296) × (left ≤ s .tokens) ⌝ }
+    requires { ⌜ Judgeable (now table) (now fields) s × (row < 4294967296) × (left ≤ s .tokens) ⌝ }
     ensures { λ r. ⌜ ArgumentsPost (now (table .entry)) s left row parameter r ⌝ }
 {
     if ABSENT <= row {
@@ -290,11 +283,11 @@ fn arguments(
         return Judged::Refused(BROKEN, 0);
     }
     let want = type_of(table, s.tokens, word(table, 3, parameter));
-    let a = operand(table, index, s, left, row, want);
+    let a = operand(table, fields, s, left, row, want);
     match a {
         Judged::Fine(_) => arguments(
             table,
-            index,
+            fields,
             s,
             left - 1,
             word(table, 6, row),

@@ -1,7 +1,8 @@
-// What a body sees: the declaring class, by the number of its name, and where its parameters and its locals begin; in main there are none of these.
+// What a body sees: the declaring class, by the number of its name, and where its parameters and its locals begin; in main there are none of these. What the
+// fields of the class and those above it mean stands in `fields` (see `lookup`).
 use lookup::member::variable_type;
+use lookup::rows::ABSENT;
 use lookup::types::NOTHING;
-use members::find::field;
 ghost use Rattle.bodies.specs.Scoping.{Judgeable, NameTyped};
 
 pub struct Scope {
@@ -13,8 +14,8 @@ pub struct Scope {
 }
 
 // The type of what a name means: the parameter or local, else the nearest field upwards from the declaring class.
-pub fn name_type(table: &[u32], index: &[u32], s: Scope, x: usize) -> usize
-    requires { ⌜ Judgeable (now table) (now index) s ⌝ }
+pub fn name_type(table: &[u32], fields: &[u32], s: Scope, x: usize) -> usize
+    requires { ⌜ Judgeable (now table) (now fields) s ⌝ }
     ensures { λ r. ⌜ NameTyped (now (table .entry)) s x r ⌝ }
 {
     let n = s.tokens;
@@ -26,5 +27,8 @@ pub fn name_type(table: &[u32], index: &[u32], s: Scope, x: usize) -> usize
     if u < NOTHING {
         return u;
     }
-    field(table, index, n, s.classes, s.owner, x)
+    if ABSENT <= x {
+        return NOTHING;
+    }
+    fields[x] as usize
 }

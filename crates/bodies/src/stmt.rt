@@ -17,46 +17,46 @@ ghost use Rattle.bodies.specs.Scoping.{Judgeable};
 ghost use Rattle.bodies.specs.StatementPost.{StatementPost, ListPost, ConditionalPost, BranchesPost, LoopPost, AssignmentPost, AssignedPost, ValuePost};
 
 // Index and value of an assignment to an element.
-fn index_and_value(table: &[u32], index: &[u32], s: Scope, left: usize, row: usize) -> Judged
-    requires { ⌜ Judgeable (now table) (now index) s × (row < 4294967296) × (left ≤ s .tokens) ⌝ }
+fn index_and_value(table: &[u32], fields: &[u32], s: Scope, left: usize, row: usize) -> Judged
+    requires { ⌜ Judgeable (now table) (now fields) s × (row < 4294967296) × (left ≤ s .tokens) ⌝ }
     ensures { λ r. ⌜ ValuePost (now (table .entry)) s left row r ⌝ }
 {
-    let i = operand(table, index, s, left, word(table, 4, row), INT);
+    let i = operand(table, fields, s, left, word(table, 4, row), INT);
     match i {
-        Judged::Fine(_) => operand(table, index, s, left, word(table, 5, row), INT),
+        Judged::Fine(_) => operand(table, fields, s, left, word(table, 5, row), INT),
         Judged::Refused(number, at) => Judged::Refused(number, at),
     }
 }
 
 // An assignment to a variable of type t or, if it is indexed, to an element: 31 at its name.
-fn assigned(table: &[u32], index: &[u32], s: Scope, left: usize, row: usize, t: usize) -> Judged
-    requires { ⌜ Judgeable (now table) (now index) s × (row < 4294967296) × (left ≤ s .tokens) ⌝ }
+fn assigned(table: &[u32], fields: &[u32], s: Scope, left: usize, row: usize, t: usize) -> Judged
+    requires { ⌜ Judgeable (now table) (now fields) s × (row < 4294967296) × (left ≤ s .tokens) ⌝ }
     ensures { λ r. ⌜ AssignedPost (now (table .entry)) s left row t r ⌝ }
 {
     if kind(table, s.tokens, row + 1) == kinds::OPEN_BRACKET {
         if fits(table, s.tokens, s.classes, t, INT_ARRAY) {
-            return index_and_value(table, index, s, left, row);
+            return index_and_value(table, fields, s, left, row);
         }
         return Judged::Refused(31, word(table, 3, row));
     }
-    operand(table, index, s, left, word(table, 4, row), t)
+    operand(table, fields, s, left, word(table, 4, row), t)
 }
 
 // An assignment: the target is looked up first.
-fn assignment(table: &[u32], index: &[u32], s: Scope, left: usize, row: usize) -> Judged
-    requires { ⌜ Judgeable (now table) (now index) s × (row < 4294967296) × (left ≤ s .tokens) ⌝ }
+fn assignment(table: &[u32], fields: &[u32], s: Scope, left: usize, row: usize) -> Judged
+    requires { ⌜ Judgeable (now table) (now fields) s × (row < 4294967296) × (left ≤ s .tokens) ⌝ }
     ensures { λ r. ⌜ AssignmentPost (now (table .entry)) s left row r ⌝ }
 {
-    let x = name(table, index, s, row);
+    let x = name(table, fields, s, row);
     match x {
-        Judged::Fine(t) => assigned(table, index, s, left, row, t),
+        Judged::Fine(t) => assigned(table, fields, s, left, row, t),
         Judged::Refused(number, at) => Judged::Refused(number, at),
     }
 }
 
 // A statement.
-pub fn single(table: &[u32], index: &[u32], s: Scope, left: usize, row: usize) -> Judged
-    requires { ⌜ Judgeable (now table) (now index) s × (row < 4294967296) × (left ≤ s .tokens) ⌝ }
+pub fn single(table: &[u32], fields: &[u32], s: Scope, left: usize, row: usize) -> Judged
+    requires { ⌜ Judgeable (now table) (now fields) s × (row < 4294967296) × (left ≤ s .tokens) ⌝ }
     ensures { λ r. ⌜ StatementPost (now (table .entry)) s left row r ⌝ }
 {
     if left == 0 {
@@ -64,59 +64,59 @@ pub fn single(table: &[u32], index: &[u32], s: Scope, left: usize, row: usize) -
     }
     let k = kind(table, s.tokens, row);
     if k == kinds::OPEN_BRACE {
-        return list(table, index, s, left - 1, word(table, 4, row));
+        return list(table, fields, s, left - 1, word(table, 4, row));
     }
     if k == kinds::IF {
-        return conditional(table, index, s, left - 1, row);
+        return conditional(table, fields, s, left - 1, row);
     }
     if k == kinds::WHILE {
-        return repeated(table, index, s, left - 1, row);
+        return repeated(table, fields, s, left - 1, row);
     }
     if k == kinds::SYSTEM {
-        return operand(table, index, s, left - 1, word(table, 4, row), INT);
+        return operand(table, fields, s, left - 1, word(table, 4, row), INT);
     }
-    assignment(table, index, s, left - 1, row)
+    assignment(table, fields, s, left - 1, row)
 }
 
 // The branches of an `if`.
-fn branches(table: &[u32], index: &[u32], s: Scope, left: usize, row: usize) -> Judged
-    requires { ⌜ Judgeable (now table) (now index) s × (row < 4294967296) × (left ≤ s .tokens) ⌝ }
+fn branches(table: &[u32], fields: &[u32], s: Scope, left: usize, row: usize) -> Judged
+    requires { ⌜ Judgeable (now table) (now fields) s × (row < 4294967296) × (left ≤ s .tokens) ⌝ }
     ensures { λ r. ⌜ BranchesPost (now (table .entry)) s left row r ⌝ }
 {
-    let a = single(table, index, s, left, word(table, 5, row));
+    let a = single(table, fields, s, left, word(table, 5, row));
     match a {
-        Judged::Fine(_) => single(table, index, s, left, word(table, 7, row)),
+        Judged::Fine(_) => single(table, fields, s, left, word(table, 7, row)),
         Judged::Refused(number, at) => Judged::Refused(number, at),
     }
 }
 
 // `if`: its test, then both branches.
-fn conditional(table: &[u32], index: &[u32], s: Scope, left: usize, row: usize) -> Judged
-    requires { ⌜ Judgeable (now table) (now index) s × (row < 4294967296) × (left ≤ s .tokens) ⌝ }
+fn conditional(table: &[u32], fields: &[u32], s: Scope, left: usize, row: usize) -> Judged
+    requires { ⌜ Judgeable (now table) (now fields) s × (row < 4294967296) × (left ≤ s .tokens) ⌝ }
     ensures { λ r. ⌜ ConditionalPost (now (table .entry)) s left row r ⌝ }
 {
-    let t = operand(table, index, s, left, word(table, 4, row), BOOLEAN);
+    let t = operand(table, fields, s, left, word(table, 4, row), BOOLEAN);
     match t {
-        Judged::Fine(_) => branches(table, index, s, left, row),
+        Judged::Fine(_) => branches(table, fields, s, left, row),
         Judged::Refused(number, at) => Judged::Refused(number, at),
     }
 }
 
 // `while`: its test, then its body.
-fn repeated(table: &[u32], index: &[u32], s: Scope, left: usize, row: usize) -> Judged
-    requires { ⌜ Judgeable (now table) (now index) s × (row < 4294967296) × (left ≤ s .tokens) ⌝ }
+fn repeated(table: &[u32], fields: &[u32], s: Scope, left: usize, row: usize) -> Judged
+    requires { ⌜ Judgeable (now table) (now fields) s × (row < 4294967296) × (left ≤ s .tokens) ⌝ }
     ensures { λ r. ⌜ LoopPost (now (table .entry)) s left row r ⌝ }
 {
-    let t = operand(table, index, s, left, word(table, 4, row), BOOLEAN);
+    let t = operand(table, fields, s, left, word(table, 4, row), BOOLEAN);
     match t {
-        Judged::Fine(_) => single(table, index, s, left, word(table, 5, row)),
+        Judged::Fine(_) => single(table, fields, s, left, word(table, 5, row)),
         Judged::Refused(number, at) => Judged::Refused(number, at),
     }
 }
 
 // The statements from a row on.
-pub fn list(table: &[u32], index: &[u32], s: Scope, left: usize, row: usize) -> Judged
-    requires { ⌜ Judgeable (now table) (now index) s × (row < 4294967296) × (left ≤ s .tokens) ⌝ }
+pub fn list(table: &[u32], fields: &[u32], s: Scope, left: usize, row: usize) -> Judged
+    requires { ⌜ Judgeable (now table) (now fields) s × (row < 4294967296) × (left ≤ s .tokens) ⌝ }
     ensures { λ r. ⌜ ListPost (now (table .entry)) s left row r ⌝ }
 {
     if ABSENT <= row {
@@ -125,9 +125,9 @@ pub fn list(table: &[u32], index: &[u32], s: Scope, left: usize, row: usize) -> 
     if left == 0 {
         return Judged::Refused(BROKEN, 0);
     }
-    let a = single(table, index, s, left, row);
+    let a = single(table, fields, s, left, row);
     match a {
-        Judged::Fine(_) => list(table, index, s, left - 1, word(table, 6, row)),
+        Judged::Fine(_) => list(table, fields, s, left - 1, word(table, 6, row)),
         Judged::Refused(number, at) => Judged::Refused(number, at),
     }
 }

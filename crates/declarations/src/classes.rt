@@ -10,7 +10,6 @@ use lookup::rows::word;
 ghost use Prim.Native.Nat.{_+_, _*_, _≤_};
 ghost use lib.ListN.{length};
 ghost use Rattle.reader.specs.WalkPost.{Walkable};
-ghost use Rattle.members.specs.Growth.{MembersIndexed};
 ghost use Rattle.declarations.specs.Marking.{Below};
 ghost use Rattle.declarations.specs.Climbs.{HeightsRight};
 ghost use Rattle.declarations.specs.Judgements.{OrphanAt, ParentsJudged, ChainsJudged, MembersJudged, DeclarationsJudged};
@@ -64,14 +63,13 @@ pub fn chains(table: &[u32], heights: &mut [u32], classes: usize, left: usize, r
 // The fields and the method heads of a class. The fields have this stamp and the methods the next.
 fn members(
     table: &[u32],
-    index: &[u32],
     marks: &mut [u32],
     n: usize,
     classes: usize,
     stamp: u32,
     class: usize,
 ) -> Judged
-    requires { ⌜ Walkable (now table) n × MembersIndexed (now table) n (now index) × (2048 ≤ length (now marks)) × Below stamp (now marks) × (stamp ≤ 4096) ⌝ }
+    requires { ⌜ Walkable (now table) n × (2048 ≤ length (now marks)) × Below stamp (now marks) × (stamp ≤ 4096) ⌝ }
     ensures { λ r. ⌜ MembersJudged (now (table .entry)) n classes stamp class (now (marks .exit)) r ⌝ }
 {
     let first = word(table, 4, class);
@@ -80,17 +78,7 @@ fn members(
         Judged::Fine(_) => {
             let methods = word(table, 5, class);
             let parent = above(table, class);
-            heads(
-                table,
-                index,
-                marks,
-                n,
-                classes,
-                n,
-                parent,
-                stamp + 1,
-                methods,
-            )
+            heads(table, marks, n, classes, n, parent, stamp + 1, methods)
         }
         Judged::Refused(number, at) => Judged::Refused(number, at),
     }
@@ -99,7 +87,6 @@ fn members(
 // 23 to 28, class by class. No word of `marks` has reached the stamp.
 pub fn declarations(
     table: &[u32],
-    index: &[u32],
     marks: &mut [u32],
     n: usize,
     classes: usize,
@@ -107,7 +94,7 @@ pub fn declarations(
     stamp: u32,
     row: usize,
 ) -> Judged
-    requires { ⌜ Walkable (now table) n × MembersIndexed (now table) n (now index) × (2048 ≤ length (now marks)) × Below stamp (now marks)
+    requires { ⌜ Walkable (now table) n × (2048 ≤ length (now marks)) × Below stamp (now marks)
         × (stamp + 2 * left ≤ 4098) ⌝ }
     ensures { λ r. ⌜ DeclarationsJudged (now (table .entry)) n classes left row r ⌝ }
 {
@@ -117,11 +104,10 @@ pub fn declarations(
     if left == 0 {
         return Judged::Refused(BROKEN, 0);
     }
-    let m = members(table, index, marks, n, classes, stamp, row);
+    let m = members(table, marks, n, classes, stamp, row);
     match m {
         Judged::Fine(_) => declarations(
             table,
-            index,
             marks,
             n,
             classes,

@@ -1,18 +1,17 @@
-// Method heads: the result's type, the name, the parameters, and what the method redeclares. `index` is that of the members of classes.
+// Method heads: the result's type, the name, the parameters, and what the method redeclares.
 use crate::marks::mark;
 use crate::variables::is_known;
 use crate::variables::variables;
 use lookup::answer::BROKEN;
 use lookup::answer::Judged;
+use lookup::chain::find_method;
 use lookup::chain::fits;
 use lookup::rows::ABSENT;
 use lookup::rows::word;
 use lookup::types::type_of;
-use members::find::method;
 ghost use Prim.Native.Nat.{_≤_};
 ghost use lib.ListN.{length};
 ghost use Rattle.reader.specs.WalkPost.{Walkable};
-ghost use Rattle.members.specs.Growth.{MembersIndexed};
 ghost use Rattle.declarations.specs.Judgements.{TypesCompared, RedeclaresAt, CompatibleAt, OpeningJudged, RestJudged, HeadJudged, HeadsJudged};
 
 // Whether two lists of parameters have equal types.
@@ -49,21 +48,14 @@ fn redeclares(table: &[u32], n: usize, classes: usize, lower: usize, upper: usiz
 }
 
 // 26, against the nearest method of that name upwards from the class above.
-fn is_compatible(
-    table: &[u32],
-    index: &[u32],
-    n: usize,
-    classes: usize,
-    parent: usize,
-    row: usize,
-) -> bool
-    requires { ⌜ Walkable (now table) n × MembersIndexed (now table) n (now index) ⌝ }
+fn is_compatible(table: &[u32], n: usize, classes: usize, parent: usize, row: usize) -> bool
+    requires { ⌜ Walkable (now table) n ⌝ }
     ensures { λ r. ⌜ CompatibleAt (now (table .entry)) n classes parent row r ⌝ }
 {
     if classes == 0 {
         return true;
     }
-    let upper = method(table, index, n, classes - 1, parent, word(table, 2, row));
+    let upper = find_method(table, n, classes - 1, parent, word(table, 2, row));
     if ABSENT <= upper {
         return true;
     }
@@ -86,15 +78,15 @@ fn opening(table: &[u32], marks: &mut [u32], n: usize, stamp: u32, row: usize) -
 }
 
 // The parameters, and last 26.
-fn rest(table: &[u32], index: &[u32], n: usize, classes: usize, parent: usize, row: usize) -> Judged
-    requires { ⌜ Walkable (now table) n × MembersIndexed (now table) n (now index) ⌝ }
+fn rest(table: &[u32], n: usize, classes: usize, parent: usize, row: usize) -> Judged
+    requires { ⌜ Walkable (now table) n ⌝ }
     ensures { λ r. ⌜ RestJudged (now (table .entry)) n classes parent row r ⌝ }
 {
     let first = word(table, 4, row);
     let v = variables(table, n, n, ABSENT, 0, first, 0, first);
     match v {
         Judged::Fine(_) => {
-            if is_compatible(table, index, n, classes, parent, row) {
+            if is_compatible(table, n, classes, parent, row) {
                 return Judged::Fine(0);
             }
             Judged::Refused(26, word(table, 1, row))
@@ -106,7 +98,6 @@ fn rest(table: &[u32], index: &[u32], n: usize, classes: usize, parent: usize, r
 // One head.
 fn head(
     table: &[u32],
-    index: &[u32],
     marks: &mut [u32],
     n: usize,
     classes: usize,
@@ -114,12 +105,12 @@ fn head(
     stamp: u32,
     row: usize,
 ) -> Judged
-    requires { ⌜ Walkable (now table) n × MembersIndexed (now table) n (now index) × (2048 ≤ length (now marks)) ⌝ }
+    requires { ⌜ Walkable (now table) n × (2048 ≤ length (now marks)) ⌝ }
     ensures { λ r. ⌜ HeadJudged (now (table .entry)) n classes parent stamp row (now (marks .entry)) (now (marks .exit)) r ⌝ }
 {
     let o = opening(table, marks, n, stamp, row);
     match o {
-        Judged::Fine(_) => rest(table, index, n, classes, parent, row),
+        Judged::Fine(_) => rest(table, n, classes, parent, row),
         Judged::Refused(number, at) => Judged::Refused(number, at),
     }
 }
@@ -127,7 +118,6 @@ fn head(
 // The heads of a class from a row on; `parent` is the number of the name of the class above. The methods before `row` have the stamp.
 pub fn heads(
     table: &[u32],
-    index: &[u32],
     marks: &mut [u32],
     n: usize,
     classes: usize,
@@ -136,7 +126,7 @@ pub fn heads(
     stamp: u32,
     row: usize,
 ) -> Judged
-    requires { ⌜ Walkable (now table) n × MembersIndexed (now table) n (now index) × (2048 ≤ length (now marks)) ⌝ }
+    requires { ⌜ Walkable (now table) n × (2048 ≤ length (now marks)) ⌝ }
     ensures { λ r. ⌜ HeadsJudged (now (table .entry)) n classes left parent stamp row (now (marks .entry)) (now (marks .exit)) r ⌝ }
 {
     if ABSENT <= row {
@@ -145,11 +135,10 @@ pub fn heads(
     if left == 0 {
         return Judged::Refused(BROKEN, 0);
     }
-    let h = head(table, index, marks, n, classes, parent, stamp, row);
+    let h = head(table, marks, n, classes, parent, stamp, row);
     match h {
         Judged::Fine(_) => heads(
             table,
-            index,
             marks,
             n,
             classes,

@@ -1,12 +1,12 @@
 // The order in which Menu writes: the classes that may stand are a set of rows, of which the least is the earliest in the lesson. When a class is written, it
 // leaves the set and its children join it.
+use crate::least::cell;
 use crate::least::enter;
 use crate::least::put;
 use crate::least::remove;
 use lookup::chain::above;
 use lookup::rows::ABSENT;
 use lookup::rows::word;
-use members::trie::cell;
 ghost use mathlib.Core.Path.{_≡_};
 ghost use Prim.Native.Nat.{_+_, _≤_, _<_};
 ghost use lib.ListN.{length};

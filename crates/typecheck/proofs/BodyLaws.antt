@@ -6,7 +6,7 @@ use mathlib.Core.List.{List, [], _∷_, map}
 use lib.ListN.{length}
 use Rattle.base.specs.Outcome.{_>>=_}
 use Rattle.lexer.specs.Tokens.{Token}
-use Rattle.parser.specs.Tree.{Variable, Method, Class, Program}
+use Rattle.parser.specs.Tree.{Method, Class, Program}
 use Rattle.parser.specs.Layout.{rowVariables, rowMethods, rowClasses}
 use Rattle.checker.specs.ClassTable.{Context, mainContext, contextOf}
 use Rattle.checker.specs.Judge.{judge, must}
@@ -14,9 +14,10 @@ use Rattle.checker.specs.Declarations.{textOf, variables}
 use Rattle.checker.specs.Check.{body, bodies, classBodies, allBodies}
 use Rattle.lookup.specs.declared.answer.Judged.{Judged}
 use Rattle.lookup.specs.declared.answer.Judged.the-variants.{Fine, Refused}
-use Rattle.lookup.specs.Standing.{absent, wordAt, Lexemes, Spells, no-name, a-name, VariablesStand, no-variables, more-variables, MethodStands, MethodsStand, more-methods, ClassStands, ClassesStand, more-classes, World, ListedAt}
+use Rattle.lookup.specs.Standing.{absent, wordAt, Lexemes, Spells, no-name, a-name, no-variables, MethodStands, MethodsStand, more-methods, ClassStands, ClassesStand, more-classes, World, ListedAt}
 use Rattle.lookup.specs.StandingLaws.{word-in, row-there, name-word, none-left}
-use Rattle.lookup.specs.Lookups.{TypeOf, Many, many-none, many-more, Counts}
+use Rattle.lookup.specs.Lookups.{TypeOf, Many, Counts}
+use Rattle.lookup.specs.VariableLaws.{variables-many}
 use Rattle.lookup.specs.Answers.{settled, goes-on, stops}
 use Rattle.declarations.specs.Judgements.{VariablesJudged}
 use Rattle.declarations.specs.Indexing.{Ready}
@@ -24,7 +25,7 @@ use Rattle.bodies.specs.declared.scope.Scope.{Scope}
 use Rattle.bodies.specs.Scoping.{InScope}
 use Rattle.bodies.specs.ExpressionPost.{OperandPost}
 use Rattle.bodies.specs.StatementPost.{StatementPost, ListPost}
-use Rattle.typecheck.specs.MethodPost.{CarriedJudged, BodyJudged, MethodsJudged, ClassesJudged, BodiesJudged}
+use Rattle.typecheck.specs.MethodPost.{CarriedJudged, BodyJudged, MethodsJudged, ClassJudged, ClassesJudged, BodiesJudged}
 
 -- STATEMENTS AND RETURN EXPRESSION
 
@@ -66,10 +67,6 @@ module _ {tab : List ℕ} {s : Scope} {row first : ℕ} (e₄ : first ≡ wordAt
 
 -- BODIES
 
-many-variables : {tab : List ℕ} {n : ℕ} {ts : List Token} {vs : List Variable} → Lexemes tab n ts → VariablesStand tab ts vs → Many tab (rowVariables vs) (length vs)
-many-variables lx no-variables = many-none {row = absent} (omega arith)
-many-variables lx (more-variables {v = v} m c₃ c₆ st) = many-more (row-there lx (v .name .row) (m .name .token .there)) c₆ (many-variables lx st)
-
 -- where a method's parameters and locals begin
 given-at : {tab : List ℕ} {n : ℕ} (row parameters : ℕ) → parameters ≡ wordAt tab 4 row → (ts : List Token) → Lexemes tab n ts → (m : Method) → m .name .row ≡ row → MethodStands tab n ts m
     → rowVariables (m .parameters) ≡ parameters
@@ -87,7 +84,7 @@ declared : {tab : List ℕ} {n : ℕ} (row parameters locals before : ℕ) → p
 declared {tab} row parameters locals before e₄ e₅ many f ts G w m at st =
     let count : length (m .parameters) ≡ before
     = sym (many .says (length (m .parameters))
-    (subst (λ (i : ℕ). Many tab i (length (m .parameters))) (given-at row parameters e₄ ts (w .tokens) m at st) (many-variables (w .tokens) (st .parameters))) (st .few-parameters)) in
+    (subst (λ (i : ℕ). Many tab i (length (m .parameters))) (given-at row parameters e₄ ts (w .tokens) m at st) (variables-many (w .tokens) (st .parameters))) (st .few-parameters)) in
     f .says ts G w (m .parameters) (record { stand = st .parameters; begins = given-at row parameters e₄ ts (w .tokens) m at st; many = count }) [] (m .locals)
     (record { stand = st .locals; begins = own-at row locals e₅ ts (w .tokens) m at st; before = refl; here = own-at row locals e₅ ts (w .tokens) m at st }) (st .few-locals)
 
@@ -154,12 +151,20 @@ module _ {tab : List ℕ} {n classes left owner row : ℕ} where
 
 -- CLASSES
 
-class-settled : {tab : List ℕ} {n classes : ℕ} (row owner first : ℕ) → row < absent → owner ≡ wordAt tab 2 row → first ≡ wordAt tab 5 row → {v : Judged} → MethodsJudged tab n classes n owner first v
-    → (ts : List Token) (G : List Class) → World tab n ts G → length G ≡ classes → (k : Class) → k .name .row ≡ row → ClassStands tab n ts k → v ≡ settled (bodies G (k .name .text) (k .methods))
-class-settled {tab} row owner first near e₂ e₅ f ts G w l k at s =
-    f .says ts G w l (k .name .text)
-    (subst (Spells ts (k .name .text)) (ap (wordAt tab 2) at ∙ sym e₂) (name-word (w .tokens) (k .name .row) (s .named .token)))
-    (k .methods) (sym (word-in tab 5 (k .name .row) (omega (arith, at, near)) (s .second)) ∙ ap (wordAt tab 5) at ∙ sym e₅) (s .methods) (s .few-methods)
+module _ {tab : List ℕ} {n classes row first : ℕ} (e₅ : first ≡ wordAt tab 5 row) where
+  pub class-judged : {owner : ℕ} → owner ≡ wordAt tab 2 row → {r : Judged} → MethodsJudged tab n classes n owner first r → ClassJudged tab n classes row r
+  class-judged {owner} e₂ {r} f = record { says = go }
+    where
+      go : (ts : List Token) (G : List Class) → World tab n ts G → length G ≡ classes → (k : Class) → k .name .row ≡ row → ClassStands tab n ts k
+          → r ≡ settled (bodies G (k .name .text) (k .methods))
+      go ts G w l k at s =
+          let there = row-there (w .tokens) (k .name .row) (s .named .token .there) in
+          f .says ts G w l (k .name .text)
+          (subst (Spells ts (k .name .text)) (ap (wordAt tab 2) at ∙ sym e₂) (name-word (w .tokens) (k .name .row) (s .named .token)))
+          (k .methods) (sym (word-in tab 5 (k .name .row) there (s .second)) ∙ ap (wordAt tab 5) at ∙ sym e₅) (s .methods) (s .few-methods)
+
+  pub class-empty : absent ≤ first → ClassJudged tab n classes row (Fine 0)
+  class-empty far = class-judged refl (methods-end far)
 
 module _ {tab : List ℕ} {n classes left row : ℕ} where
   pub classes-none : row < absent → left ≡ 0 → {number p : ℕ} → ClassesJudged tab n classes left row (Refused number p)
@@ -173,14 +178,14 @@ module _ {tab : List ℕ} {n classes left row : ℕ} where
       go ts G w [] at st = refl
       go ts G w (k ∷ ks) at (more-classes s c₆ st) = absurd (omega (arith, at, row-there (w .tokens) (k .name .row) (s .named .token .there)))
 
-  module _ (near : row < absent) {owner first : ℕ} (e₂ : owner ≡ wordAt tab 2 row) (e₅ : first ≡ wordAt tab 5 row) {v : Judged} (f : MethodsJudged tab n classes n owner first v) where
+  module _ (near : row < absent) {v : Judged} (f : ClassJudged tab n classes row v) where
     pub classes-refused : {k p : ℕ} → v ≡ Refused k p → ClassesJudged tab n classes left row (Refused k p)
     unfolding classBodies
     classes-refused {k} {p} is = record { says = λ ts G w l ks h. go ts G w l ks (h .here) (h .stand) }
       where
         go : (ts : List Token) (G : List Class) → World tab n ts G → length G ≡ classes → (ks : List Class) → rowClasses ks ≡ row → ClassesStand tab n ts ks → Refused k p ≡ settled (classBodies G ks)
         go ts G w l [] at st = absurd (omega (arith, at))
-        go ts G w l (c ∷ ks) at (more-classes s c₆ st) = rw (stops (bodies G (c .name .text) (c .methods)) (λ _. classBodies G ks) (class-settled row owner first near e₂ e₅ f ts G w l c at s) is)
+        go ts G w l (c ∷ ks) at (more-classes s c₆ st) = rw (stops (bodies G (c .name .text) (c .methods)) (λ _. classBodies G ks) (f .says ts G w l c at s) is)
 
     pub classes-next : {u : ℕ} → v ≡ Fine u → {next : ℕ} → next ≡ wordAt tab 6 row → {r : Judged} → ClassesJudged tab n classes (left - 1) next r → ClassesJudged tab n classes left row r
     unfolding classBodies
@@ -189,7 +194,7 @@ module _ {tab : List ℕ} {n classes left row : ℕ} where
         go : (ts : List Token) (G : List Class) → World tab n ts G → length G ≡ classes → (ks : List Class) → rowClasses ks ≡ row → ClassesStand tab n ts ks → length ks ≤ left → r ≡ settled (classBodies G ks)
         go ts G w l [] at st few = absurd (omega (arith, at))
         go ts G w l (c ∷ ks) at (more-classes s c₆ st) few =
-            rw (goes-on (bodies G (c .name .text) (c .methods)) (λ _. classBodies G ks) (class-settled row owner first near e₂ e₅ f ts G w l c at s) is)
+            rw (goes-on (bodies G (c .name .text) (c .methods)) (λ _. classBodies G ks) (f .says ts G w l c at s) is)
             (g .says ts G w l ks (record { here = sym (word-in tab 6 (c .name .row) (omega (arith, at, near)) c₆) ∙ ap (wordAt tab 6) at ∙ sym e₆; stand = st; few = omega arith }))
 
 -- ALL BODIES

@@ -11,7 +11,7 @@ use Rattle.checker.specs.ClassTable.{Context}
 use Rattle.checker.specs.Judge.{judge, must}
 use Rattle.checker.specs.Check.{body, bodies, classBodies, allBodies}
 use Rattle.lookup.specs.declared.answer.Judged.{Judged}
-use Rattle.lookup.specs.Standing.{Spells, MethodStands, MethodsStand, World}
+use Rattle.lookup.specs.Standing.{Spells, MethodStands, MethodsStand, ClassStands, World}
 use Rattle.lookup.specs.Answers.{settled}
 use Rattle.declarations.specs.Judgements.{ClassesAt}
 use Rattle.declarations.specs.Indexing.{Ready}
@@ -31,6 +31,11 @@ pub record BodyJudged (tab : List ℕ) (n classes owner row : ℕ) (r : Judged) 
 pub record MethodsJudged (tab : List ℕ) (n classes left owner row : ℕ) (r : Judged) : Type 0 where
   pub says : (ts : List Token) (G : List Class) → World tab n ts G → length G ≡ classes → (c : List ℕ) → Spells ts c owner → (ms : List Method) → rowMethods ms ≡ row
       → MethodsStand tab n ts ms → length ms ≤ left → r ≡ settled (bodies G c ms)
+
+-- the bodies of the class in a row
+pub record ClassJudged (tab : List ℕ) (n classes row : ℕ) (r : Judged) : Type 0 where
+  pub says : (ts : List Token) (G : List Class) → World tab n ts G → length G ≡ classes → (k : Class) → k .name .row ≡ row → ClassStands tab n ts k
+      → r ≡ settled (bodies G (k .name .text) (k .methods))
 
 pub record ClassesJudged (tab : List ℕ) (n classes left row : ℕ) (r : Judged) : Type 0 where
   pub says : (ts : List Token) (G : List Class) → World tab n ts G → length G ≡ classes → (ks : List Class) → ClassesAt tab n ts ks left row → r ≡ settled (classBodies G ks)

@@ -8,7 +8,6 @@ use declarations::index::index;
 use lookup::answer::Judged;
 use lookup::member::count;
 use lookup::rows::word;
-use members::grow::build;
 use reader::read::Filled;
 use reader::read::fill;
 ghost use mathlib.Core.Path.{_≡_};
@@ -32,17 +31,15 @@ pub struct CheckAnswer {
     pub classes: usize,
 }
 
-// Declarations and bodies, by an index of what the classes have.
+// Declarations and bodies.
 fn contents(table: &[u32], n: usize, classes: usize, first: usize) -> Judged
-    requires { ⌜ Walkable (now table) n ⌝ }
+    requires { ⌜ Walkable (now table) n × (classes ≤ 2048) ⌝ }
     ensures { λ r. ⌜ ContentsJudged (now (table .entry)) n classes first r ⌝ }
 {
-    let mut index = [0u32; 20480];
-    build(table, &mut index, n, classes);
     let mut marks = [0u32; 2048];
-    let d = declarations(table, &index, &mut marks, n, classes, n, 1, first);
+    let d = declarations(table, &mut marks, n, classes, n, 1, first);
     match d {
-        Judged::Fine(_) => bodies(table, &index, n, classes),
+        Judged::Fine(_) => bodies(table, n, classes),
         Judged::Refused(number, at) => Judged::Refused(number, at),
     }
 }

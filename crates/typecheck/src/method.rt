@@ -1,38 +1,40 @@
-// The bodies of all methods: locals, statements, the return expression.
+// The bodies of all methods: locals, statements, the return expression. While those of a class are judged, `fields` holds what its fields mean to them.
 use bodies::expr::operand;
 use bodies::scope::Scope;
 use bodies::stmt;
 use declarations::variables::variables;
 use lookup::answer::BROKEN;
 use lookup::answer::Judged;
+use lookup::fields::fill;
 use lookup::member::count;
 use lookup::rows::ABSENT;
 use lookup::rows::word;
 use lookup::types::type_of;
-ghost use Prim.Native.Nat.{_<_};
+ghost use Prim.Native.Nat.{_≤_, _<_};
+ghost use lib.ListN.{length};
 ghost use Rattle.reader.specs.WalkPost.{Walkable};
-ghost use Rattle.members.specs.Growth.{MembersIndexed};
+ghost use Rattle.lookup.specs.Fields.{FieldsHeld};
 ghost use Rattle.bodies.specs.Scoping.{Judgeable};
-ghost use Rattle.typecheck.specs.MethodPost.{CarriedJudged, BodyJudged, MethodsJudged, ClassesJudged, BodiesJudged};
+ghost use Rattle.typecheck.specs.MethodPost.{CarriedJudged, BodyJudged, MethodsJudged, ClassJudged, ClassesJudged, BodiesJudged};
 
 // Statements and return expression of a method. They stand in the row after its name.
-fn carried(table: &[u32], index: &[u32], s: Scope, row: usize) -> Judged
-    requires { ⌜ Judgeable (now table) (now index) s × (row < 4294967296) ⌝ }
+fn carried(table: &[u32], fields: &[u32], s: Scope, row: usize) -> Judged
+    requires { ⌜ Judgeable (now table) (now fields) s × (row < 4294967296) ⌝ }
     ensures { λ r. ⌜ CarriedJudged (now (table .entry)) s row r ⌝ }
 {
-    let b = stmt::list(table, index, s, s.tokens, word(table, 4, row + 1));
+    let b = stmt::list(table, fields, s, s.tokens, word(table, 4, row + 1));
     match b {
         Judged::Fine(_) => {
             let want = type_of(table, s.tokens, word(table, 3, row));
-            operand(table, index, s, s.tokens, word(table, 5, row + 1), want)
+            operand(table, fields, s, s.tokens, word(table, 5, row + 1), want)
         }
         Judged::Refused(number, at) => Judged::Refused(number, at),
     }
 }
 
 // The body of a method in the class whose name has the number `owner`.
-fn body(table: &[u32], index: &[u32], n: usize, classes: usize, owner: usize, row: usize) -> Judged
-    requires { ⌜ Walkable (now table) n × MembersIndexed (now table) n (now index) × (row < 4294967296) ⌝ }
+fn body(table: &[u32], fields: &[u32], n: usize, classes: usize, owner: usize, row: usize) -> Judged
+    requires { ⌜ Walkable (now table) n × (4096 ≤ length (now fields)) × FieldsHeld (now table) n classes owner (now fields) × (row < 4294967296) ⌝ }
     ensures { λ r. ⌜ BodyJudged (now (table .entry)) n classes owner row r ⌝ }
 {
     let parameters = word(table, 4, row);
@@ -48,7 +50,7 @@ fn body(table: &[u32], index: &[u32], n: usize, classes: usize, owner: usize, ro
                 parameters: parameters,
                 locals: locals,
             };
-            carried(table, index, s, row)
+            carried(table, fields, s, row)
         }
         Judged::Refused(number, at) => Judged::Refused(number, at),
     }
@@ -57,14 +59,14 @@ fn body(table: &[u32], index: &[u32], n: usize, classes: usize, owner: usize, ro
 // The bodies of the methods from a row on.
 fn methods(
     table: &[u32],
-    index: &[u32],
+    fields: &[u32],
     n: usize,
     classes: usize,
     left: usize,
     owner: usize,
     row: usize,
 ) -> Judged
-    requires { ⌜ Walkable (now table) n × MembersIndexed (now table) n (now index) ⌝ }
+    requires { ⌜ Walkable (now table) n × (4096 ≤ length (now fields)) × FieldsHeld (now table) n classes owner (now fields) ⌝ }
     ensures { λ r. ⌜ MethodsJudged (now (table .entry)) n classes left owner row r ⌝ }
 {
     if ABSENT <= row {
@@ -73,11 +75,11 @@ fn methods(
     if left == 0 {
         return Judged::Refused(BROKEN, 0);
     }
-    let b = body(table, index, n, classes, owner, row);
+    let b = body(table, fields, n, classes, owner, row);
     match b {
         Judged::Fine(_) => methods(
             table,
-            index,
+            fields,
             n,
             classes,
             left - 1,
@@ -88,9 +90,30 @@ fn methods(
     }
 }
 
+// The bodies of the class in a row.
+fn of_class(table: &[u32], fields: &mut [u32], n: usize, classes: usize, row: usize) -> Judged
+    requires { ⌜ Walkable (now table) n × (4096 ≤ length (now fields)) × (classes ≤ 2048) ⌝ }
+    ensures { λ r. ⌜ ClassJudged (now (table .entry)) n classes row r ⌝ }
+{
+    let first = word(table, 5, row);
+    if ABSENT <= first {
+        return Judged::Fine(0);
+    }
+    let owner = word(table, 2, row);
+    fill(table, fields, n, classes, owner);
+    methods(table, fields, n, classes, n, owner, first)
+}
+
 // The bodies of the classes from a row on.
-fn all(table: &[u32], index: &[u32], n: usize, classes: usize, left: usize, row: usize) -> Judged
-    requires { ⌜ Walkable (now table) n × MembersIndexed (now table) n (now index) ⌝ }
+fn all(
+    table: &[u32],
+    fields: &mut [u32],
+    n: usize,
+    classes: usize,
+    left: usize,
+    row: usize,
+) -> Judged
+    requires { ⌜ Walkable (now table) n × (4096 ≤ length (now fields)) × (classes ≤ 2048) ⌝ }
     ensures { λ r. ⌜ ClassesJudged (now (table .entry)) n classes left row r ⌝ }
 {
     if ABSENT <= row {
@@ -99,26 +122,20 @@ fn all(table: &[u32], index: &[u32], n: usize, classes: usize, left: usize, row:
     if left == 0 {
         return Judged::Refused(BROKEN, 0);
     }
-    let m = methods(
-        table,
-        index,
-        n,
-        classes,
-        n,
-        word(table, 2, row),
-        word(table, 5, row),
-    );
-    match m {
-        Judged::Fine(_) => all(table, index, n, classes, left - 1, word(table, 6, row)),
+    let c = of_class(table, fields, n, classes, row);
+    match c {
+        Judged::Fine(_) => all(table, fields, n, classes, left - 1, word(table, 6, row)),
         Judged::Refused(number, at) => Judged::Refused(number, at),
     }
 }
 
-// All bodies, main first: its statement stands in row 14.
-pub fn bodies(table: &[u32], index: &[u32], n: usize, classes: usize) -> Judged
-    requires { ⌜ Walkable (now table) n × MembersIndexed (now table) n (now index) ⌝ }
+// All bodies, main first: its statement stands in row 14, and it sees no fields.
+pub fn bodies(table: &[u32], n: usize, classes: usize) -> Judged
+    requires { ⌜ Walkable (now table) n × (classes ≤ 2048) ⌝ }
     ensures { λ r. ⌜ BodiesJudged (now (table .entry)) n classes r ⌝ }
 {
+    let mut fields = [0u32; 4096];
+    fill(table, &mut fields, n, classes, ABSENT);
     let s = Scope {
         tokens: n,
         classes: classes,
@@ -126,9 +143,9 @@ pub fn bodies(table: &[u32], index: &[u32], n: usize, classes: usize) -> Judged
         parameters: ABSENT,
         locals: ABSENT,
     };
-    let m = stmt::single(table, index, s, n, 14);
+    let m = stmt::single(table, &fields, s, n, 14);
     match m {
-        Judged::Fine(_) => all(table, index, n, classes, n, word(table, 6, 0)),
+        Judged::Fine(_) => all(table, &mut fields, n, classes, n, word(table, 6, 0)),
         Judged::Refused(number, at) => Judged::Refused(number, at),
     }
 }

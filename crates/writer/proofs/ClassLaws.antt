@@ -9,13 +9,12 @@ use Rattle.lexer.specs.Tokens.{Token}
 use Rattle.lexer.specs.Rows.{firstNamed}
 use Rattle.parser.specs.Tree.{Method, Class}
 use Rattle.parser.specs.Layout.{rowMethods, rowClasses}
-use Rattle.checker.specs.ClassTable.{nearestField}
-use Rattle.lookup.specs.Standing.{absent, wordAt, Spells, a-name, MethodsStand, more-methods, ClassStands, ClassesStand, more-classes, World, chainFrom}
+use Rattle.lookup.specs.Standing.{absent, wordAt, Spells, a-name, MethodsStand, more-methods, ClassStands, ClassesStand, more-classes, World}
 use Rattle.lookup.specs.StandingLaws.{word-in, name-word, row-there}
+use Rattle.lookup.specs.Fields.{FieldsOf, KeptBehind, Filled}
 use Rattle.codegen.specs.Compile.{endMethods, emitMethods, emitClasses}
 use Rattle.writer.specs.Words.{store}
 use Rattle.writer.specs.Emits.{nothing}
-use Rattle.writer.specs.Places.{KeptFrom, ClearPost, held, FillPost, FieldsHeld}
 use Rattle.writer.specs.Sizing.{SizesHeld}
 use Rattle.writer.specs.Posts.{room, Wrote}
 use Rattle.writer.specs.Methods.{entered, MethodsPost}
@@ -25,7 +24,7 @@ use Rattle.writer.proofs.MethodLaws.{grows-methods}
 -- ONE CLASS
 
 -- the sizes stand behind what stays
-sizes-kept : {names names′ : List ℕ} → KeptFrom absent names names′ → {ts : List Token} {G : List Class} → SizesHeld ts G names → SizesHeld ts G names′
+pub sizes-kept : {names names′ : List ℕ} → KeptBehind names names′ → {ts : List Token} {G : List Class} → SizesHeld ts G names → SizesHeld ts G names′
 sizes-kept keep h = record { says = λ c x sp. keep _ (omega arith) ∙ h .says c x sp }
 
 first-method : {tab : List ℕ} {n row first : ℕ} → first ≡ wordAt tab 5 row → {ts : List Token} {G : List Class} → World tab n ts G → (k : Class) → k .name .row ≡ row
@@ -43,27 +42,19 @@ module _ {tab : List ℕ} {n classes row at first : ℕ} {names c E : List ℕ} 
       go ts G w d [] is h = (record { ends = refl; code = nothing }, refl)
       go ts G w d (F ∷ M) is (more-methods h e hs) = absurd (omega (arith, is, row-there (w .tokens) (F .name .row) (h .head .name .token .there)))
 
-  pub class-wrote : {mid : List ℕ} → ClearPost 2048 names mid → {x : ℕ} → x ≡ wordAt tab 2 row → {names′ : List ℕ} {v : ℕ} → FillPost tab n classes x mid names′ v
-      → {c′ E′ : List ℕ} {r : ℕ} → MethodsPost tab names′ n n first at c c′ E E′ r → ClassPost tab n classes row at names names′ c c′ E E′ r
-  class-wrote {mid} z {x} e₂ {names′} {v} f {c′} {E′} {r} m = record { within = m .within; stays = keep; says = go }
+  pub class-wrote : {x : ℕ} → x ≡ wordAt tab 2 row → {names′ : List ℕ} → Filled tab n classes x names names′ → {c′ E′ : List ℕ} {r : ℕ}
+      → MethodsPost tab names′ n n first at c c′ E E′ r → ClassPost tab n classes row at names names′ c c′ E E′ r
+  class-wrote {x} e₂ {names′} f {c′} {E′} {r} m = record { within = m .within; stays = f .stays; says = go }
     where
-      keep : KeptFrom absent names names′
-      keep j le = f .stays j le ∙ z .stays j le
-
-      fields : {ts : List Token} {G : List Class} → World tab n ts G → length G ≡ classes → (d : List ℕ) → Spells ts d x → FieldsHeld ts G (some d) names′
-      fields {ts} {G} w l d own = record {
-        says = λ text y sp.
-            f .says ts G w (some d) (a-name own) text y sp
-            ∙ ap (λ (v : ℕ). held v (nearestField (chainFrom classes G (some d)) text)) (z .zeros y (row-there (w .tokens) y (sp .there)))
-            ∙ ap (λ (i : ℕ). held 0 (nearestField (chainFrom i G (some d)) text)) (sym l);
-      }
+      fields : {ts : List Token} {G : List Class} → World tab n ts G → length G ≡ classes → (d : List ℕ) → Spells ts d x → FieldsOf ts G (length G) (some d) names′
+      fields {ts} {G} w l d own = subst (λ (i : ℕ). FieldsOf ts G i (some d) names′) (sym l) (f .held .says ts G w (some d) (a-name own))
 
       go : (ts : List Token) (G : List Class) → World tab n ts G → length G ≡ classes → SizesHeld ts G names → (k : Class) → k .name .row ≡ row → ClassStands tab n ts k
           → endMethods (k .methods) at ≤ room
           → Wrote (firstNamed ts) (emitMethods G (k .name .text) (k .methods) at) (endMethods (k .methods) at) at c c′ r × (E′ ≡ entered (k .methods) at E)
       go ts G w l sizes k is s lim =
           let own : Spells ts (k .name .text) x = subst (Spells ts (k .name .text)) (ap (wordAt tab 2) is ∙ sym e₂) (name-word (w .tokens) (k .name .row) (s .named .token)) in
-          m .says ts G (k .name .text) (record { world = w; fields = fields w l (k .name .text) own; sizes = sizes-kept keep sizes }) (k .methods) (first-method e₅ w k is s) (s .methods) (s .few-methods) lim
+          m .says ts G (k .name .text) (record { world = w; fields = fields w l (k .name .text) own; sizes = sizes-kept (f .stays) sizes }) (k .methods) (first-method e₅ w k is s) (s .methods) (s .few-methods) lim
 
 -- THE CLASSES FROM A ROW ON
 

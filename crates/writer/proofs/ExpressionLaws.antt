@@ -82,7 +82,7 @@ module _ {tab names : List ℕ} {s : Scope} {left row at r : ℕ} {c c′ : List
       go ts G Γ w e (shows-variable {x = y} q sp) h =
           put-one (load (meaning G Γ y)) (ap (λ (m : ℕ). words 2 m 0 0) (g .says ts G Γ (w .scope) y (rw e₂ sp))) f h
 
-  pub creation-wrote : {x start size : ℕ} → x ≡ wordAt tab 2 (row + 1) → start ≡ wordAt tab 3 row → size ≡ getD names (2048 + x) 0 → PutPost at 17 start x size c c′ r
+  pub creation-wrote : {x start size : ℕ} → x ≡ wordAt tab 2 (row + 1) → start ≡ wordAt tab 3 row → size ≡ getD names (4096 + x) 0 → PutPost at 17 start x size c c′ r
       → ExpressionPost tab names s aNewObject left row at c c′ r
   creation-wrote {x} {start} {size} e₂ e₃ e f = record { within = f .within; says = go }
     where

@@ -1,34 +1,47 @@
 -- What writing a program returns meets its contract: no field is in the array while main's statement is written, and all of it fits.
-use Prim.Native.Nat.{ℕ, suc, _≤_, _<_}
+use Prim.Native.Nat.{ℕ, suc, _≤_}
 use native.Mathlib.Omega.{arith}
 use Rattle.reader.specs.Counting.{nodes-covered}
-use mathlib.Core.Path.{_≡_, refl, sym, ap, _∙_}
+use mathlib.Core.Path.{_≡_, refl, sym, ap, _∙_, subst}
 use mathlib.Core.List.{List, [], _∷_}
 use mathlib.Core.Option.{none}
 use lib.ListN.{length, getD, replicate}
 use Rattle.base.specs.Lists.{getD-replicate-same}
 use Rattle.lexer.specs.Tokens.{Token}
 use Rattle.lexer.specs.Rows.{firstNamed}
-use Rattle.parser.specs.Tree.{Sort.statement, Class, Program}
+use Rattle.parser.specs.Tree.{Sort.statement, Program}
 use Rattle.parser.specs.Layout.{rowClasses}
 use Rattle.parser.specs.Grammar.{DerivesProgram}
-use Rattle.checker.specs.ClassTable.{mainContext, nearestField}
-use Rattle.lookup.specs.Standing.{absent, wordAt, no-variables}
+use Rattle.checker.specs.ClassTable.{mainContext}
+use Rattle.lookup.specs.Standing.{absent, wordAt, no-name, no-variables}
 use Rattle.lookup.specs.StandingLaws.{word-in}
+use Rattle.lookup.specs.Fields.{FieldsOf, Filled}
 use Rattle.declarations.specs.Indexing.{Ready}
 use Rattle.codegen.specs.Code.{halt}
 use Rattle.codegen.specs.Compile.{end, emit, emitClasses, compile}
 use Rattle.writer.specs.Words.{store}
-use Rattle.writer.specs.Places.{FieldsHeld}
 use Rattle.writer.specs.Sizing.{SizesHeld, SizesPost}
 use Rattle.writer.specs.Shows.{PartAt, Sees}
 use Rattle.writer.specs.Posts.{room, PutPost, Wrote, WritePost}
 use Rattle.writer.specs.Classes.{enteredClasses, ClassesPost}
 use Rattle.writer.specs.Room.{program-room}
-use Rattle.writer.specs.Writing.{MainPost, Writes}
+use Rattle.writer.specs.Writing.{BeginPost, MainPost, Writes}
 use Rattle.writer.proofs.PieceLaws.{put-one, next-to}
 use Rattle.writer.proofs.SizeLaws.{all-sizes}
-use Rattle.writer.proofs.ClassLaws.{grows-classes}
+use Rattle.writer.proofs.ClassLaws.{sizes-kept, grows-classes}
+
+-- WHAT MAIN SEES
+
+pub begun : (size : ℕ) {tab names₁ names₂ names₃ : List ℕ} {n classes first : ℕ} → names₁ ≡ replicate size 0 → SizesPost tab n classes n first names₁ names₂
+    → Filled tab n classes absent names₂ names₃ → BeginPost tab n classes first names₃
+begun size {names₁ = names₁} {names₃ = names₃} zero s f =
+    record {
+      fields = λ ts G w l. subst (λ (i : ℕ). FieldsOf ts G i none names₃) (sym l) (f .held .says ts G w none (no-name {c = absent} (omega arith)));
+      sizes = λ ts G w l here. sizes-kept (f .stays) (all-sizes s zeros w l here);
+    }
+  where
+    zeros : (j : ℕ) → getD names₁ j 0 ≡ 0
+    zeros j = ap (λ (l : List ℕ). getD l j 0) zero ∙ getD-replicate-same size j 0
 
 -- MAIN
 
@@ -36,7 +49,7 @@ pub main-wrote : {tab names : List ℕ} {n a r : ℕ} {c c₁ c₂ : List ℕ} �
     → PutPost a 7 0 0 0 c₁ c₂ r → MainPost tab names n c c₂ r
 main-wrote {tab} {names} {n} {a} {r} {c} {c₁} {c₂} f o = record { within = o .within; says = go }
   where
-    go : (ts : List Token) (p : Program) → Ready tab n ts p → FieldsHeld ts (p .classes) none names → SizesHeld ts (p .classes) names → suc (end (p .statement) 0) ≤ room
+    go : (ts : List Token) (p : Program) → Ready tab n ts p → FieldsOf ts (p .classes) (length (p .classes)) none names → SizesHeld ts (p .classes) names → suc (end (p .statement) 0) ≤ room
         → Wrote (firstNamed ts) (λ k. emit (p .classes) mainContext (p .statement) 0 (halt ∷ k)) (suc (end (p .statement) 0)) 0 c c₂ r
     go ts p w fields sizes lim =
         let sees : Sees tab names ts (p .classes) mainContext (record { tokens = n; parameters = absent; locals = absent }) =
@@ -59,27 +72,19 @@ main-wrote {tab} {names} {n} {a} {r} {c} {c₁} {c₂} f o = record { within = o
 
 -- ALL
 
-no-fields : {ts : List Token} {G : List Class} {names : List ℕ} → ((j : ℕ) → j < absent → getD names j 0 ≡ 0) → length ts ≤ 2048 → FieldsHeld ts G none names
-unfolding nearestField
-no-fields zeros few = record { says = λ text x sp. zeros x (omega (arith, sp .there)) }
-
-pub all-wrote : (size : ℕ) {tab names₁ names₂ : List ℕ} {n classes first a : ℕ} {c c₁ c₂ E E₂ : List ℕ} → first ≡ wordAt tab 6 0 → names₁ ≡ replicate size 0
-    → SizesPost tab n classes n first names₁ names₂ → MainPost tab names₂ n c c₁ a → ClassesPost tab n classes n first a names₂ c₁ c₂ E E₂ → Writes tab n classes c c₂ E E₂
+pub all-wrote : {tab names : List ℕ} {n classes first a : ℕ} {c c₁ c₂ E E₂ : List ℕ} → first ≡ wordAt tab 6 0 → BeginPost tab n classes first names → MainPost tab names n c c₁ a
+    → ClassesPost tab n classes n first a names c₁ c₂ E E₂ → Writes tab n classes c c₂ E E₂
 unfolding compile
-all-wrote size {tab} {names₁} {names₂} {n} {classes} {first} {a} {c} {c₁} {c₂} {E} {E₂} e₆ zero s m g = record { says = go }
+all-wrote {tab} {names} {n} {classes} {first} {a} {c} {c₁} {c₂} {E} {E₂} e₆ b m g = record { says = go }
   where
-    zeros : (j : ℕ) → getD names₁ j 0 ≡ 0
-    zeros j = ap (λ (l : List ℕ). getD l j 0) zero ∙ getD-replicate-same size j 0
-
     go : (ts : List Token) (p : Program) → Ready tab n ts p → DerivesProgram ts p → length (p .classes) ≡ classes
         → (c₂ ≡ store (firstNamed ts) (compile p .instructions) 0 c) × (E₂ ≡ enteredClasses (p .classes) (suc (end (p .statement) 0)) E)
     go ts p w d l =
         let G = p .classes in
         let stop = suc (end (p .statement) 0) in
-        let few : length ts ≤ 2048 = omega (arith, w .world .tokens .count, w .world .tokens .few) in
         let here : rowClasses G ≡ first = sym (w .first) ∙ sym (word-in tab 6 0 (omega arith) refl) ∙ sym e₆ in
-        let sizes : SizesHeld ts G names₂ = all-sizes s zeros (w .world) l here in
+        let sizes = b .sizes ts G (w .world) l here in
         let fits = program-room d in
-        let u = m .says ts p w (no-fields (λ j low. s .stays j low ∙ zeros j) few) sizes (omega (arith, grows-classes G stop)) in
+        let u = m .says ts p w (b .fields ts G (w .world) l) sizes (omega (arith, grows-classes G stop)) in
         let v = g .says ts G (w .world) l sizes G (record { here = here; stand = w .world .classes; few = w .world .few }) (rw (u .ends) (omega arith)) in
         (v .0 ∙ ap (λ (i : ℕ). store (firstNamed ts) (emitClasses G G i) a c₁) (u .ends) ∙ sym (u .code .is (emitClasses G G stop)), v .1 ∙ ap (λ (i : ℕ). enteredClasses G i E) (u .ends))

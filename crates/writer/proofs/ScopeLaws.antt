@@ -12,14 +12,16 @@ use Rattle.lexer.specs.Tokens.{Token}
 use Rattle.parser.specs.Tree.{Variable, Class}
 use Rattle.checker.specs.ClassTable.{Slot, moved, Context, ofRow, ofObject, meaning, variableNamed, nearestField, chain}
 use Rattle.typing.specs.Choices.{none-some}
-use Rattle.lookup.specs.Standing.{absent, Spells, World, chainFrom, ListedAt}
+use Rattle.lookup.specs.Standing.{absent, Spells, nothing, World, chainFrom, ListedAt}
+use Rattle.lookup.specs.StandingLaws.{codes-below}
 use Rattle.lookup.specs.Lookups.{Many, Counts}
-use Rattle.lookup.specs.VariableLaws.{variable-left}
+use Rattle.lookup.specs.Fields.{TellsAt, no-field, a-field}
+use Rattle.lookup.specs.VariableLaws.{variable-left, variables-many}
 use Rattle.writer.specs.declared.scope.Scope.{Scope}
 use Rattle.writer.specs.Words.{slotOf}
-use Rattle.writer.specs.Places.{placeFrom, PlacePost, held}
+use Rattle.writer.specs.Places.{placeFrom, PlacePost}
 use Rattle.writer.specs.Scoping.{InScope, SlotPost}
-use Rattle.writer.proofs.PlaceLaws.{variables-many, place-below}
+use Rattle.writer.proofs.PlaceLaws.{place-below}
 
 -- THE MEANING OF A NAME
 
@@ -89,23 +91,23 @@ place-in : {tab : List ℕ} {n x : ℕ} {ts : List Token} {G : List Class} {i ro
     → (text : List ℕ) → Spells ts text x → i ≡ placeFrom 0 (variableNamed vs text)
 place-in {n = n} {ts = ts} {vs = vs} w l h text sp = h .says n ts (w .tokens) vs (l .at) (l .stand) (l .few) text sp
 
-module _ {tab slots : List ℕ} {s : Scope} {x : ℕ} where
-  pub slot-parameter : {i : ℕ} → PlacePost tab (s .tokens) (s .parameters) x 0 i → i < absent → SlotPost tab slots s x i
+module _ {tab names : List ℕ} {s : Scope} {x : ℕ} where
+  pub slot-parameter : {i : ℕ} → PlacePost tab (s .tokens) (s .parameters) x 0 i → i < absent → SlotPost tab names s x i
   slot-parameter {i} h low = record { most = omega arith; says = go }
     where
-      go : (ts : List Token) (G : List Class) (Γ : Context) → InScope tab slots ts G Γ s → (text : List ℕ) → Spells ts text x → i ≡ slotOf (meaning G Γ text)
+      go : (ts : List Token) (G : List Class) (Γ : Context) → InScope tab names ts G Γ s → (text : List ℕ) → Spells ts text x → i ≡ slotOf (meaning G Γ text)
       go ts G Γ w text sp =
           let f = found i (variableNamed (w .given) text) low (place-in (w .world) (w .given-listed) h text sp) in
           rw (meaning-row G Γ text (ap (λ (vs : List Variable). variableNamed vs text) (w .seen) ∙ variable-left (w .given) (w .own) text (f .1))) (f .2)
 
   module _ (few : s .tokens ≤ 2048) {i : ℕ} (h : PlacePost tab (s .tokens) (s .parameters) x 0 i) (high : absent ≤ i) where
-    not-given : {ts : List Token} {G : List Class} {Γ : Context} (w : InScope tab slots ts G Γ s) (text : List ℕ) → Spells ts text x → variableNamed (w .given) text ≡ none
+    not-given : {ts : List Token} {G : List Class} {Γ : Context} (w : InScope tab names ts G Γ s) (text : List ℕ) → Spells ts text x → variableNamed (w .given) text ≡ none
     not-given w text sp = missing i (w .given) text high (omega (arith, w .given-listed .few)) (place-in (w .world) (w .given-listed) h text sp)
 
-    pub slot-local : {j : ℕ} → PlacePost tab (s .tokens) (s .locals) x 0 j → j < absent → {n : ℕ} → Counts tab (s .tokens) (s .parameters) n → SlotPost tab slots s x (n + j)
+    pub slot-local : {j : ℕ} → PlacePost tab (s .tokens) (s .locals) x 0 j → j < absent → {n : ℕ} → Counts tab (s .tokens) (s .parameters) n → SlotPost tab names s x (n + j)
     slot-local {j} h′ low {n} c = record { most = omega (arith, c .most); says = go }
       where
-        go : (ts : List Token) (G : List Class) (Γ : Context) → InScope tab slots ts G Γ s → (text : List ℕ) → Spells ts text x → n + j ≡ slotOf (meaning G Γ text)
+        go : (ts : List Token) (G : List Class) (Γ : Context) → InScope tab names ts G Γ s → (text : List ℕ) → Spells ts text x → n + j ≡ slotOf (meaning G Γ text)
         go ts G Γ w text sp =
             let f = found j (variableNamed (w .own) text) low (place-in (w .world) (w .own-listed) h′ text sp) in
             let many = subst (λ (i : ℕ). Many tab i (length (w .given))) (w .given-listed .at) (variables-many (w .world .tokens) (w .given-listed .stand)) in
@@ -116,7 +118,7 @@ module _ {tab slots : List ℕ} {s : Scope} {x : ℕ} where
 
     module _ {j : ℕ} (h′ : PlacePost tab (s .tokens) (s .locals) x 0 j) (high′ : absent ≤ j) where
       -- what a name that is no parameter or local means
-      object : {ts : List Token} {G : List Class} {Γ : Context} (w : InScope tab slots ts G Γ s) (text : List ℕ) → Spells ts text x
+      object : {ts : List Token} {G : List Class} {Γ : Context} (w : InScope tab names ts G Γ s) (text : List ℕ) → Spells ts text x
           → slotOf (meaning G Γ text) ≡ objectSlot (nearestField (chainFrom (length G) G (Γ .owner)) text)
       object {G = G} {Γ} w text sp =
           let own = missing j (w .own) text high′ (omega (arith, w .own-listed .few)) (place-in (w .world) (w .own-listed) h′ text sp) in
@@ -124,18 +126,23 @@ module _ {tab slots : List ℕ} {s : Scope} {x : ℕ} where
           let named : variableNamed (Γ .variables) text ≡ none = ap (λ (vs : List Variable). variableNamed vs text) (w .seen) ∙ second ∙ ap (λ (o : Option Slot). option o none λ s. some (moved (length (w .given)) s)) own in
           meaning-field G Γ text named
 
-      pub slot-held : (getD slots x 0 ≡ 0 → ⊥) → getD slots x 0 < 4294967296 → SlotPost tab slots s x (getD slots x 0)
-      slot-held some-word fits =
+      pub slot-held : getD names x 0 < nothing → getD names (2048 + x) 0 < 4294967296 → SlotPost tab names s x (getD names (2048 + x) 0)
+      slot-held known fits =
           record { most = fits; says = λ ts G Γ w text sp. go (nearestField (chainFrom (length G) G (Γ .owner)) text) (w .fields .says text x sp) ∙ sym (object w text sp) }
         where
-          go : (o : Option Slot) → getD slots x 0 ≡ held 0 o → getD slots x 0 ≡ objectSlot o
-          go none z = absurd (some-word z)
-          go (some t) z = z
+          go : {ts : List Token} (o : Option Slot) → TellsAt ts names x o → getD names (2048 + x) 0 ≡ objectSlot o
+          go none (no-field z) = absurd (omega (arith, z))
+          go (some t) (a-field c z) = z
 
-      pub slot-none : getD slots x 0 ≡ 0 → SlotPost tab slots s x absent
-      slot-none no-word =
-          record { most = omega arith; says = λ ts G Γ w text sp. go (nearestField (chainFrom (length G) G (Γ .owner)) text) (w .fields .says text x sp) ∙ sym (object w text sp) }
+      pub slot-none : nothing ≤ getD names x 0 → SlotPost tab names s x absent
+      slot-none unknown =
+          record {
+            most = omega arith;
+            says = λ ts G Γ w text sp.
+                let short : length ts ≤ 2048 = omega (arith, w .world .tokens .count, w .world .tokens .few) in
+                go short (nearestField (chainFrom (length G) G (Γ .owner)) text) (w .fields .says text x sp) ∙ sym (object w text sp);
+          }
         where
-          go : (o : Option Slot) → getD slots x 0 ≡ held 0 o → absent ≡ objectSlot o
-          go none z = refl
-          go (some t) z = absurd (omega (arith, z))
+          go : {ts : List Token} → length ts ≤ 2048 → (o : Option Slot) → TellsAt ts names x o → absent ≡ objectSlot o
+          go short none h = refl
+          go short (some t) (a-field c z) = absurd (omega (arith, codes-below short c))

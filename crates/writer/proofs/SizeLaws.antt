@@ -15,7 +15,7 @@ use Rattle.checker.specs.ClassTable.{classNamed, chain, layout, fieldsOf}
 use Rattle.lookup.specs.Standing.{absent, wordAt, Spells, a-name, ClassesStand, more-classes, World, chainFrom}
 use Rattle.lookup.specs.StandingLaws.{word-in, name-word, row-there, same-names, other-names}
 use Rattle.lookup.specs.ChainLaws.{chain-none}
-use Rattle.writer.specs.Places.{FieldsPost}
+use Rattle.lookup.specs.Fields.{ObjectSize}
 use Rattle.writer.specs.Sizing.{SizesHeld, SizePost, counted, SizesPost}
 
 -- ONE CLASS
@@ -25,14 +25,14 @@ unfolding fieldsOf chain
 size-of G x = refl
 
 module _ {tab : List ℕ} {n classes x : ℕ} {before : List ℕ} where
-  pub size-written : x < absent → 4096 ≤ length before → {v : ℕ} → FieldsPost tab n classes x v → {after : List ℕ} → after ≡ set before (2048 + x) v
+  pub size-written : x < absent → 6144 ≤ length before → {v : ℕ} → ObjectSize tab n classes x v → {after : List ℕ} → after ≡ set before (4096 + x) v
       → SizePost tab n classes x before after
   size-written low large {v} h {after} e =
-      record { others = λ j other. ap (λ (l : List ℕ). getD l j 0) e ∙ getD-set-other before (2048 + x) j v 0 (λ z. other (sym z)); says = go }
+      record { others = λ j other. ap (λ (l : List ℕ). getD l j 0) e ∙ getD-set-other before (4096 + x) j v 0 (λ z. other (sym z)); says = go }
     where
-      go : (ts : List Token) (G : List Class) → World tab n ts G → length G ≡ classes → (c : List ℕ) → Spells ts c x → getD after (2048 + x) 0 ≡ length (fieldsOf G c)
+      go : (ts : List Token) (G : List Class) → World tab n ts G → length G ≡ classes → (c : List ℕ) → Spells ts c x → getD after (4096 + x) 0 ≡ length (fieldsOf G c)
       go ts G w l c sp =
-          ap (λ (m : List ℕ). getD m (2048 + x) 0) e ∙ getD-set-same before (2048 + x) v 0 (omega arith)
+          ap (λ (m : List ℕ). getD m (4096 + x) 0) e ∙ getD-set-same before (4096 + x) v 0 (omega arith)
           ∙ h .says ts G w (some c) (a-name sp) ∙ ap (λ (i : ℕ). length (layout (chainFrom i G (some c)))) (sym l) ∙ size-of G c
 
   pub size-past : absent ≤ x → SizePost tab n classes x before before
@@ -44,18 +44,18 @@ module _ {tab : List ℕ} {n classes x : ℕ} {before : List ℕ} where
 module _ {tab : List ℕ} {n classes left row : ℕ} {before : List ℕ} where
   pub sizes-none : left ≡ 0 → SizesPost tab n classes left row before before
   unfolding classNamed
-  sizes-none z = record { stays = λ j h. refl; says = λ ts G w l ks h c x sp. go G ks (h .few) c x }
+  sizes-none z = record { says = λ ts G w l ks h c x sp. go G ks (h .few) c x }
     where
-      go : (G ks : List Class) → length ks ≤ left → (c : List ℕ) (x : ℕ) → getD before (2048 + x) 0 ≡ counted (getD before (2048 + x) 0) (length (fieldsOf G c)) (classNamed ks c)
+      go : (G ks : List Class) → length ks ≤ left → (c : List ℕ) (x : ℕ) → getD before (4096 + x) 0 ≡ counted (getD before (4096 + x) 0) (length (fieldsOf G c)) (classNamed ks c)
       go G [] few c x = refl
       go G (k ∷ ks) few c x = absurd (omega arith)
 
   pub sizes-end : absent ≤ row → SizesPost tab n classes left row before before
   unfolding classNamed
-  sizes-end far = record { stays = λ j h. refl; says = λ ts G w l ks h c x sp. go ts G w ks (h .here) (h .stand) c x }
+  sizes-end far = record { says = λ ts G w l ks h c x sp. go ts G w ks (h .here) (h .stand) c x }
     where
       go : (ts : List Token) (G : List Class) → World tab n ts G → (ks : List Class) → rowClasses ks ≡ row → ClassesStand tab n ts ks → (c : List ℕ) (x : ℕ)
-          → getD before (2048 + x) 0 ≡ counted (getD before (2048 + x) 0) (length (fieldsOf G c)) (classNamed ks c)
+          → getD before (4096 + x) 0 ≡ counted (getD before (4096 + x) 0) (length (fieldsOf G c)) (classNamed ks c)
       go ts G w [] is h c x = refl
       go ts G w (k ∷ ks) is (more-classes s e h) c x = absurd (omega (arith, is, row-there (w .tokens) (k .name .row) (s .named .token .there)))
 
@@ -63,14 +63,14 @@ module _ {tab : List ℕ} {n classes left row : ℕ} {before : List ℕ} where
       → {after : List ℕ} → SizesPost tab n classes (left - 1) next mid after → SizesPost tab n classes left row before after
   unfolding classNamed
   sizes-more near {x} e₂ {mid} p {next} e₆ {after} h =
-      record { stays = λ j low. h .stays j low ∙ p .others j (λ z. omega arith); says = λ ts G w l ks a c y sp. go ts G w l ks (a .here) (a .stand) (a .few) c y sp }
+      record { says = λ ts G w l ks a c y sp. go ts G w l ks (a .here) (a .stand) (a .few) c y sp }
     where
       twice : (new : ℕ) (o : Option Class) → counted new new o ≡ new
       twice new none = refl
       twice new (some k) = refl
 
       go : (ts : List Token) (G : List Class) → World tab n ts G → length G ≡ classes → (ks : List Class) → rowClasses ks ≡ row → ClassesStand tab n ts ks → length ks ≤ left
-          → (c : List ℕ) (y : ℕ) → Spells ts c y → getD after (2048 + y) 0 ≡ counted (getD before (2048 + y) 0) (length (fieldsOf G c)) (classNamed ks c)
+          → (c : List ℕ) (y : ℕ) → Spells ts c y → getD after (4096 + y) 0 ≡ counted (getD before (4096 + y) 0) (length (fieldsOf G c)) (classNamed ks c)
       go ts G w l [] is st few c y sp = absurd (omega (arith, is))
       go ts G w l (k ∷ ks) is (more-classes s e st) few c y sp =
           let own : Spells ts (k .name .text) x = subst (Spells ts (k .name .text)) (ap (wordAt tab 2) is ∙ sym e₂) (name-word (w .tokens) (k .name .row) (s .named .token)) in
@@ -78,13 +78,13 @@ module _ {tab : List ℕ} {n classes left row : ℕ} {before : List ℕ} where
           let rest = h .says ts G w l ks (record { here = here; stand = st; few = omega arith }) c y sp in
           elim (ℕ-discrete x y) [
             | yes same ↦
-                let new : getD mid (2048 + y) 0 ≡ length (fieldsOf G c) =
-                ap (λ (i : ℕ). getD mid (2048 + i) 0) (sym same) ∙ p .says ts G w l c (subst (Spells ts c) (sym same) sp) in
+                let new : getD mid (4096 + y) 0 ≡ length (fieldsOf G c) =
+                ap (λ (i : ℕ). getD mid (4096 + i) 0) (sym same) ∙ p .says ts G w l c (subst (Spells ts c) (sym same) sp) in
                 rw (same-names own sp same)
                 (rest ∙ ap (λ (v : ℕ). counted v (length (fieldsOf G c)) (classNamed ks c)) new ∙ twice (length (fieldsOf G c)) (classNamed ks c))
             | no other ↦
                 rw (other-names own sp other)
-                (rest ∙ ap (λ (v : ℕ). counted v (length (fieldsOf G c)) (classNamed ks c)) (p .others (2048 + y) (λ z. other (omega arith))))
+                (rest ∙ ap (λ (v : ℕ). counted v (length (fieldsOf G c)) (classNamed ks c)) (p .others (4096 + y) (λ z. other (omega arith))))
           ]
 
 -- ALL CLASSES
@@ -97,7 +97,7 @@ pub all-sizes : {tab : List ℕ} {n classes row : ℕ} {before after : List ℕ}
     → {ts : List Token} {G : List Class} → World tab n ts G → length G ≡ classes → rowClasses G ≡ row → SizesHeld ts G after
 all-sizes {before = before} h zeros {ts} {G} w l is =
     record {
-      says = λ c x sp. h .says ts G w l G (record { here = is; stand = w .classes; few = w .few }) c x sp ∙ go c (getD before (2048 + x) 0) (zeros (2048 + x)) (classNamed G c) refl;
+      says = λ c x sp. h .says ts G w l G (record { here = is; stand = w .classes; few = w .few }) c x sp ∙ go c (getD before (4096 + x) 0) (zeros (4096 + x)) (classNamed G c) refl;
     }
   where
     go : (c : List ℕ) (old : ℕ) → old ≡ 0 → (o : Option Class) → classNamed G c ≡ o → counted old (length (fieldsOf G c)) o ≡ length (fieldsOf G c)

@@ -6,11 +6,11 @@ use lib.ListN.{length}
 use Rattle.lexer.specs.Tokens.{Token}
 use Rattle.lexer.specs.Rows.{firstNamed}
 use Rattle.parser.specs.Tree.{Class}
-use Rattle.lookup.specs.Standing.{absent, ClassStands, World}
+use Rattle.lookup.specs.Standing.{ClassStands, World}
+use Rattle.lookup.specs.Fields.{KeptBehind}
 use Rattle.declarations.specs.Judgements.{ClassesAt}
 use Rattle.codegen.specs.Compile.{endMethods, emitMethods, emitClasses}
 use Rattle.writer.specs.Words.{store}
-use Rattle.writer.specs.Places.{KeptFrom}
 use Rattle.writer.specs.Sizing.{SizesHeld}
 use Rattle.writer.specs.Posts.{room, Wrote}
 use Rattle.writer.specs.Methods.{entered}
@@ -28,7 +28,7 @@ enteredClasses (k ∷ ks) i E = enteredClasses ks (endMethods (k .methods) i) (e
 module _ (tab : List ℕ) (n classes : ℕ) where
   pub record ClassPost (row at : ℕ) (names names′ c c′ E E′ : List ℕ) (r : ℕ) : Type 0 where
     pub within : r ≤ room
-    pub stays : KeptFrom absent names names′
+    pub stays : KeptBehind names names′
     pub says : (ts : List Token) (G : List Class) → World tab n ts G → length G ≡ classes → SizesHeld ts G names → (k : Class) → k .name .row ≡ row → ClassStands tab n ts k
         → endMethods (k .methods) at ≤ room
         → Wrote (firstNamed ts) (emitMethods G (k .name .text) (k .methods) at) (endMethods (k .methods) at) at c c′ r × (E′ ≡ entered (k .methods) at E)

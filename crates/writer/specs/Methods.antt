@@ -10,16 +10,16 @@ use Rattle.parser.specs.Tree.{Method, Class}
 use Rattle.parser.specs.Layout.{rowMethods}
 use Rattle.checker.specs.ClassTable.{contextOf}
 use Rattle.lookup.specs.Standing.{MethodStands, MethodsStand, World}
+use Rattle.lookup.specs.Fields.{FieldsOf}
 use Rattle.codegen.specs.Code.{return}
 use Rattle.codegen.specs.Compile.{emit, middle, last, endMethods, emitMethods}
-use Rattle.writer.specs.Places.{FieldsHeld}
 use Rattle.writer.specs.Sizing.{SizesHeld}
 use Rattle.writer.specs.Posts.{room, Wrote}
 
 -- What the bodies of a class see: the class table, what a field of each name means to them, how many fields the objects of each class hold.
 pub record SeesClass (tab names : List ℕ) (n : ℕ) (ts : List Token) (G : List Class) (c : List ℕ) : Type 0 where
   pub world : World tab n ts G
-  pub fields : FieldsHeld ts G (some c) names
+  pub fields : FieldsOf ts G (length G) (some c) names
   pub sizes : SizesHeld ts G names
 
 -- where methods begin, by the row of their names

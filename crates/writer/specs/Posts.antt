@@ -28,7 +28,7 @@ room = 8192
 -- what the functions on parts ask for
 pub record Writable (tab names code : List ℕ) (n left row at : ℕ) : Type 0 where
   pub walkable : Walkable tab n
-  pub names-long : 4096 ≤ length names
+  pub names-long : 6144 ≤ length names
   pub few : left ≤ 2048
   pub low : row < 4294967296
   pub within : at ≤ room

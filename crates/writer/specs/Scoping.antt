@@ -2,24 +2,25 @@
 use Prim.Native.Nat.{ℕ, _<_}
 use mathlib.Core.Path.{_≡_}
 use mathlib.Core.List.{List, _++_}
+use lib.ListN.{length}
 use Rattle.lexer.specs.Tokens.{Token}
 use Rattle.parser.specs.Tree.{Variable, Class}
 use Rattle.checker.specs.ClassTable.{Context, meaning}
 use Rattle.lookup.specs.Standing.{Spells, ListedAt, World}
+use Rattle.lookup.specs.Fields.{FieldsOf}
 use Rattle.writer.specs.declared.scope.Scope.{Scope}
 use Rattle.writer.specs.Words.{slotOf}
-use Rattle.writer.specs.Places.{FieldsHeld}
 
 -- the scope and the array are those of the context
-pub record InScope (tab slots : List ℕ) (ts : List Token) (G : List Class) (Γ : Context) (s : Scope) : Type 0 where
+pub record InScope (tab names : List ℕ) (ts : List Token) (G : List Class) (Γ : Context) (s : Scope) : Type 0 where
   pub world : World tab (s .tokens) ts G
-  pub fields : FieldsHeld ts G (Γ .owner) slots
+  pub fields : FieldsOf ts G (length G) (Γ .owner) names
   pub given : List Variable
   pub own : List Variable
   pub seen : Γ .variables ≡ given ++ own
   pub given-listed : ListedAt tab (s .tokens) ts (s .parameters) given
   pub own-listed : ListedAt tab (s .tokens) ts (s .locals) own
 
-pub record SlotPost (tab slots : List ℕ) (s : Scope) (x : ℕ) (r : ℕ) : Type 0 where
+pub record SlotPost (tab names : List ℕ) (s : Scope) (x : ℕ) (r : ℕ) : Type 0 where
   pub most : r < 4294967296
-  pub says : (ts : List Token) (G : List Class) (Γ : Context) → InScope tab slots ts G Γ s → (text : List ℕ) → Spells ts text x → r ≡ slotOf (meaning G Γ text)
+  pub says : (ts : List Token) (G : List Class) (Γ : Context) → InScope tab names ts G Γ s → (text : List ℕ) → Spells ts text x → r ≡ slotOf (meaning G Γ text)

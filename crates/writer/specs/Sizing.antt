@@ -1,5 +1,5 @@
 -- What counting the fields of each class's objects ensures: their number stands in an array behind the words of the fields, by the number of the class's name.
-use Prim.Native.Nat.{ℕ, _+_, _<_}
+use Prim.Native.Nat.{ℕ, _+_}
 use mathlib.Core.Path.{_≡_}
 use mathlib.Core.List.{List}
 use mathlib.Core.Option.{Option, none, some}
@@ -7,21 +7,17 @@ use lib.ListN.{length, getD}
 use Rattle.lexer.specs.Tokens.{Token}
 use Rattle.parser.specs.Tree.{Class}
 use Rattle.checker.specs.ClassTable.{classNamed, fieldsOf}
-use Rattle.lookup.specs.Standing.{absent, Spells, World}
+use Rattle.lookup.specs.Standing.{Spells, World}
 use Rattle.declarations.specs.Judgements.{ClassesAt}
 
 -- how many fields an object of a class of each name holds
 pub record SizesHeld (ts : List Token) (G : List Class) (names : List ℕ) : Type 0 where
-  pub says : (c : List ℕ) (x : ℕ) → Spells ts c x → getD names (2048 + x) 0 ≡ length (fieldsOf G c)
-
--- the words of the fields stay
-abbrev pub KeptBelow : (before after : List ℕ) → Type 0
-KeptBelow before after = (j : ℕ) → j < absent → getD after j 0 ≡ getD before j 0
+  pub says : (c : List ℕ) (x : ℕ) → Spells ts c x → getD names (4096 + x) 0 ≡ length (fieldsOf G c)
 
 -- the word of the name x is written, and no other
 pub record SizePost (tab : List ℕ) (n classes x : ℕ) (before after : List ℕ) : Type 0 where
-  pub others : (j : ℕ) → (2048 + x ≡ j → ⊥) → getD after j 0 ≡ getD before j 0
-  pub says : (ts : List Token) (G : List Class) → World tab n ts G → length G ≡ classes → (c : List ℕ) → Spells ts c x → getD after (2048 + x) 0 ≡ length (fieldsOf G c)
+  pub others : (j : ℕ) → (4096 + x ≡ j → ⊥) → getD after j 0 ≡ getD before j 0
+  pub says : (ts : List Token) (G : List Class) → World tab n ts G → length G ≡ classes → (c : List ℕ) → Spells ts c x → getD after (4096 + x) 0 ≡ length (fieldsOf G c)
 
 -- the word of a name after a class of that name was looked for
 abbrev pub counted : (old new : ℕ) → Option Class → ℕ
@@ -29,6 +25,5 @@ counted old new none = old
 counted old new (some k) = new
 
 pub record SizesPost (tab : List ℕ) (n classes left row : ℕ) (before after : List ℕ) : Type 0 where
-  pub stays : KeptBelow before after
   pub says : (ts : List Token) (G : List Class) → World tab n ts G → length G ≡ classes → (ks : List Class) → ClassesAt tab n ts ks left row
-      → (c : List ℕ) (x : ℕ) → Spells ts c x → getD after (2048 + x) 0 ≡ counted (getD before (2048 + x) 0) (length (fieldsOf G c)) (classNamed ks c)
+      → (c : List ℕ) (x : ℕ) → Spells ts c x → getD after (4096 + x) 0 ≡ counted (getD before (4096 + x) 0) (length (fieldsOf G c)) (classNamed ks c)

@@ -6,21 +6,28 @@ use mathlib.Core.Option.{none}
 use lib.ListN.{length}
 use Rattle.lexer.specs.Tokens.{Token}
 use Rattle.lexer.specs.Rows.{firstNamed}
-use Rattle.parser.specs.Tree.{Program}
+use Rattle.parser.specs.Tree.{Class, Program}
+use Rattle.parser.specs.Layout.{rowClasses}
 use Rattle.parser.specs.Grammar.{DerivesProgram}
 use Rattle.checker.specs.ClassTable.{mainContext}
+use Rattle.lookup.specs.Standing.{World}
+use Rattle.lookup.specs.Fields.{FieldsOf}
 use Rattle.declarations.specs.Indexing.{Ready}
 use Rattle.codegen.specs.Code.{halt}
 use Rattle.codegen.specs.Compile.{end, emit, compile}
 use Rattle.writer.specs.Words.{store}
-use Rattle.writer.specs.Places.{FieldsHeld}
 use Rattle.writer.specs.Sizing.{SizesHeld}
 use Rattle.writer.specs.Posts.{room, Wrote}
 use Rattle.writer.specs.Classes.{enteredClasses}
 
+-- what main sees, where the classes begin in this row
+pub record BeginPost (tab : List ℕ) (n classes first : ℕ) (names : List ℕ) : Type 0 where
+  pub fields : (ts : List Token) (G : List Class) → World tab n ts G → length G ≡ classes → FieldsOf ts G (length G) none names
+  pub sizes : (ts : List Token) (G : List Class) → World tab n ts G → length G ≡ classes → rowClasses G ≡ first → SizesHeld ts G names
+
 pub record MainPost (tab names : List ℕ) (n : ℕ) (c c′ : List ℕ) (r : ℕ) : Type 0 where
   pub within : r ≤ room
-  pub says : (ts : List Token) (p : Program) → Ready tab n ts p → FieldsHeld ts (p .classes) none names → SizesHeld ts (p .classes) names → suc (end (p .statement) 0) ≤ room
+  pub says : (ts : List Token) (p : Program) → Ready tab n ts p → FieldsOf ts (p .classes) (length (p .classes)) none names → SizesHeld ts (p .classes) names → suc (end (p .statement) 0) ≤ room
       → Wrote (firstNamed ts) (λ k. emit (p .classes) mainContext (p .statement) 0 (halt ∷ k)) (suc (end (p .statement) 0)) 0 c c′ r
 
 -- whatever the accepted program is that the table holds

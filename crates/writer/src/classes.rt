@@ -1,7 +1,6 @@
 // Classes: the methods of each, one class after another. While those of a class are written, `names` holds what its fields mean to them.
-use crate::fields::clear;
-use crate::fields::fill;
 use crate::method::methods;
+use lookup::fields::fill;
 use lookup::rows::ABSENT;
 use lookup::rows::word;
 ghost use Prim.Native.Nat.{_≤_};
@@ -20,14 +19,13 @@ fn of_class(
     row: usize,
     at: usize,
 ) -> usize
-    requires { ⌜ Walkable (now table) n × (4096 ≤ length (now names)) × (2048 ≤ length (now entries)) × (classes ≤ 2048) × (at ≤ 8192) ⌝ }
+    requires { ⌜ Walkable (now table) n × (6144 ≤ length (now names)) × (2048 ≤ length (now entries)) × (classes ≤ 2048) × (at ≤ 8192) ⌝ }
     ensures { λ r. ⌜ ClassPost (now (table .entry)) n classes row at (now (names .entry)) (now (names .exit)) (now (code .entry)) (now (code .exit)) (now (entries .entry)) (now (entries .exit)) r ⌝ }
 {
     let first = word(table, 5, row);
     if ABSENT <= first {
         return at;
     }
-    clear(names);
     fill(table, names, n, classes, word(table, 2, row));
     methods(table, names, code, entries, n, n, first, at)
 }
@@ -44,7 +42,7 @@ pub fn each(
     row: usize,
     at: usize,
 )
-    requires { ⌜ Walkable (now table) n × (4096 ≤ length (now names)) × (2048 ≤ length (now entries)) × (classes ≤ 2048) × (at ≤ 8192) ⌝ }
+    requires { ⌜ Walkable (now table) n × (6144 ≤ length (now names)) × (2048 ≤ length (now entries)) × (classes ≤ 2048) × (at ≤ 8192) ⌝ }
     ensures { λ _. ⌜ ClassesPost (now (table .entry)) n classes left row at (now (names .entry)) (now (code .entry)) (now (code .exit)) (now (entries .entry)) (now (entries .exit)) ⌝ }
 {
     if left == 0 {

@@ -97,7 +97,7 @@ fn creation(
             numbers::MAKE_OBJECT,
             start,
             x,
-            names[2048 + x] as usize,
+            names[4096 + x] as usize,
         );
     }
     at

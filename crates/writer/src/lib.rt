@@ -1,10 +1,9 @@
 // The code writer: what checking leaves in the work table becomes words of code.
 pub mod classes;
 pub mod code;
-pub mod count;
 pub mod expr;
-pub mod fields;
 pub mod method;
+pub mod places;
 pub mod prepare;
 pub mod program;
 pub mod scope;

@@ -14,7 +14,7 @@ ghost use Rattle.writer.specs.Methods.{MethodPost, MethodsPost};
 
 // The method whose name stands in this row.
 fn method(table: &[u32], names: &[u32], code: &mut [u32], n: usize, row: usize, at: usize) -> usize
-    requires { ⌜ Walkable (now table) n × (4096 ≤ length (now names)) × (at ≤ 8192) × (row < 2048) ⌝ }
+    requires { ⌜ Walkable (now table) n × (6144 ≤ length (now names)) × (at ≤ 8192) × (row < 2048) ⌝ }
     ensures { λ r. ⌜ MethodPost (now (table .entry)) (now (names .entry)) n row at (now (code .entry)) (now (code .exit)) r ⌝ }
 {
     let parameters = word(table, 4, row);
@@ -48,7 +48,7 @@ pub fn methods(
     row: usize,
     at: usize,
 ) -> usize
-    requires { ⌜ Walkable (now table) n × (4096 ≤ length (now names)) × (2048 ≤ length (now entries)) × (at ≤ 8192) ⌝ }
+    requires { ⌜ Walkable (now table) n × (6144 ≤ length (now names)) × (2048 ≤ length (now entries)) × (at ≤ 8192) ⌝ }
     ensures { λ r. ⌜ MethodsPost (now (table .entry)) (now (names .entry)) n left row at (now (code .entry)) (now (code .exit)) (now (entries .entry)) (now (entries .exit)) r ⌝ }
 {
     if left == 0 {

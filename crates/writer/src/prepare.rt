@@ -10,6 +10,6 @@ pub fn prepare(table: &[u32], code: &mut [u32], entries: &mut [u32], n: usize, c
     requires { ⌜ Walkable (now table) n × (2048 ≤ length (now entries)) × (classes ≤ 2048) ⌝ }
     ensures { λ _. ⌜ Prepares n classes (now (table .entry)) (now (code .entry)) (now (code .exit)) (now (entries .entry)) (now (entries .exit)) ⌝ }
 {
-    let mut names = [0u32; 4096];
+    let mut names = [0u32; 6144];
     write(table, &mut names, code, entries, n, classes);
 }

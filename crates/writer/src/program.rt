@@ -6,16 +6,27 @@ use crate::sizes::sizes;
 use crate::stmt::single;
 use base::fill::zero_words;
 use codegen::numbers;
+use lookup::fields::fill;
 use lookup::rows::ABSENT;
 use lookup::rows::word;
 ghost use Prim.Native.Nat.{_≤_};
 ghost use lib.ListN.{length};
 ghost use Rattle.reader.specs.WalkPost.{Walkable};
-ghost use Rattle.writer.specs.Writing.{MainPost, Writes};
+ghost use Rattle.writer.specs.Writing.{BeginPost, MainPost, Writes};
+
+// What main sees: no fields, and how many fields the objects of each class hold, where the classes begin in a row.
+fn begin(table: &[u32], names: &mut [u32], n: usize, classes: usize, first: usize)
+    requires { ⌜ Walkable (now table) n × (6144 ≤ length (now names)) × (classes ≤ 2048) ⌝ }
+    ensures { λ _. ⌜ BeginPost (now (table .entry)) n classes first (now (names .exit)) ⌝ }
+{
+    zero_words(names);
+    sizes(table, names, n, classes, n, first);
+    fill(table, names, n, classes, ABSENT);
+}
 
 // Main's statement, which stands in row 14 and sees no names, and the end.
 fn main_code(table: &[u32], names: &[u32], code: &mut [u32], n: usize) -> usize
-    requires { ⌜ Walkable (now table) n × (4096 ≤ length (now names)) ⌝ }
+    requires { ⌜ Walkable (now table) n × (6144 ≤ length (now names)) ⌝ }
     ensures { λ r. ⌜ MainPost (now (table .entry)) (now (names .entry)) n (now (code .entry)) (now (code .exit)) r ⌝ }
 {
     let s = Scope {
@@ -36,12 +47,11 @@ pub fn write(
     n: usize,
     classes: usize,
 )
-    requires { ⌜ Walkable (now table) n × (4096 ≤ length (now names)) × (2048 ≤ length (now entries)) × (classes ≤ 2048) ⌝ }
+    requires { ⌜ Walkable (now table) n × (6144 ≤ length (now names)) × (2048 ≤ length (now entries)) × (classes ≤ 2048) ⌝ }
     ensures { λ _. ⌜ Writes (now (table .entry)) n classes (now (code .entry)) (now (code .exit)) (now (entries .entry)) (now (entries .exit)) ⌝ }
 {
     let first = word(table, 6, 0);
-    zero_words(names);
-    sizes(table, names, n, classes, n, first);
+    begin(table, names, n, classes, first);
     let a = main_code(table, names, code, n);
     each(table, names, code, entries, n, classes, n, first, a);
 }

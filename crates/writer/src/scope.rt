@@ -1,8 +1,9 @@
-// What a body sees: where its parameters and its locals begin, of which main has none; and the fields of the declaring class and those above it, in `slots`
-// (see `fields`).
-use crate::count::place;
+// What a body sees: where its parameters and its locals begin, of which main has none; and the fields of the declaring class and those above it, in `names`
+// (see `fields` of `lookup`).
+use crate::places::place;
 use lookup::member::count;
 use lookup::rows::ABSENT;
+use lookup::types::NOTHING;
 ghost use Prim.Native.Nat.{_≤_, _<_};
 ghost use lib.ListN.{length};
 ghost use Rattle.reader.specs.WalkPost.{Walkable};
@@ -15,9 +16,9 @@ pub struct Scope {
 }
 
 // What a name means: a parameter or local by its place among these, else the nearest field upwards from the declaring class.
-pub fn slot(table: &[u32], slots: &[u32], s: Scope, x: usize) -> usize
-    requires { ⌜ Walkable (now table) (s .tokens) × (2048 ≤ length (now slots)) ⌝ }
-    ensures { λ r. ⌜ SlotPost (now (table .entry)) (now (slots .entry)) s x r ⌝ }
+pub fn slot(table: &[u32], names: &[u32], s: Scope, x: usize) -> usize
+    requires { ⌜ Walkable (now table) (s .tokens) × (4096 ≤ length (now names)) ⌝ }
+    ensures { λ r. ⌜ SlotPost (now (table .entry)) (now (names .entry)) s x r ⌝ }
 {
     let i = place(table, s.tokens, s.parameters, x, 0);
     if i < ABSENT {
@@ -30,9 +31,8 @@ pub fn slot(table: &[u32], slots: &[u32], s: Scope, x: usize) -> usize
     if ABSENT <= x {
         return ABSENT;
     }
-    let w = slots[x] as usize;
-    if w == 0 {
+    if NOTHING <= names[x] as usize {
         return ABSENT;
     }
-    w
+    names[2048 + x] as usize
 }

@@ -1,5 +1,5 @@
-// How many fields the objects of each class hold, in the words from 2,048 on of an array, by the number of the class's name.
-use crate::count::fields;
+// How many fields the objects of each class hold, in the words from 4,096 on of an array, by the number of the class's name.
+use lookup::fields::object_size;
 use lookup::rows::ABSENT;
 use lookup::rows::word;
 ghost use Prim.Native.Nat.{_≤_};
@@ -9,17 +9,17 @@ ghost use Rattle.writer.specs.Sizing.{SizePost, SizesPost};
 
 // Those of the class whose name has the number x.
 fn size(table: &[u32], names: &mut [u32], n: usize, classes: usize, x: usize)
-    requires { ⌜ Walkable (now table) n × (4096 ≤ length (now names)) × (classes ≤ 2048) ⌝ }
+    requires { ⌜ Walkable (now table) n × (6144 ≤ length (now names)) × (classes ≤ 2048) ⌝ }
     ensures { λ _. ⌜ SizePost (now (table .entry)) n classes x (now (names .entry)) (now (names .exit)) ⌝ }
 {
     if x < ABSENT {
-        names[2048 + x] = fields(table, n, classes, x) as u32;
+        names[4096 + x] = object_size(table, n, classes, x) as u32;
     }
 }
 
 // Those of the classes from a row on, of which at most `left` may come.
 pub fn sizes(table: &[u32], names: &mut [u32], n: usize, classes: usize, left: usize, row: usize)
-    requires { ⌜ Walkable (now table) n × (4096 ≤ length (now names)) × (classes ≤ 2048) ⌝ }
+    requires { ⌜ Walkable (now table) n × (6144 ≤ length (now names)) × (classes ≤ 2048) ⌝ }
     ensures { λ _. ⌜ SizesPost (now (table .entry)) n classes left row (now (names .entry)) (now (names .exit)) ⌝ }
 {
     if left == 0 {

@@ -32,7 +32,7 @@ use Rattle.bodies.proofs.expr.+arguments+call+creation+dotted+expressio
 use Rattle.bodies.proofs.expr.atom.Reads as atom-reads
 use Rattle.bodies.proofs.expr.new_object.Reads as new-object-reads
 use Rattle.bodies.proofs.expr.same_count.Reads as same-count-reads
-use Rattle.members.proofs.find.method.Reads as method-reads
+use Rattle.lookup.proofs.chain.find_method.Reads as find-method-reads
 use Rattle.lookup.proofs.chain.fits.Reads as fits-reads
 use Rattle.lookup.proofs.rows.word.Reads as word-reads
 use Rattle.lookup.proofs.types.type_of.Reads as type-of-reads
@@ -147,7 +147,7 @@ abbrev expression-calls : ℕ → expression-lts.Claims
 expression-calls t = (kind-reads.Asked, kind-reads.Learnt, is-atom-reads.Asked, is-atom-reads.Learnt, atom-reads.Asked, atom-reads.Learnt, creation-below t, creation.Post, dotted-below t, dotted.Post, single-below t, single.Post, pair-below t, pair.Post)
 
 abbrev invocation-calls : ℕ → invocation-lts.Claims
-invocation-calls t = (word-reads.Asked, word-reads.Learnt, method-reads.Asked, method-reads.Learnt, same-count-reads.Asked, same-count-reads.Learnt, arguments-below t, arguments.Post, type-of-reads.Asked, type-of-reads.Learnt)
+invocation-calls t = (word-reads.Asked, word-reads.Learnt, find-method-reads.Asked, find-method-reads.Learnt, same-count-reads.Asked, same-count-reads.Learnt, arguments-below t, arguments.Post, type-of-reads.Asked, type-of-reads.Learnt)
 
 abbrev operand-calls : ℕ → operand-lts.Claims
 operand-calls t = (expression-below t, expression.Post, fits-reads.Asked, fits-reads.Learnt, word-reads.Asked, word-reads.Learnt)
@@ -345,8 +345,8 @@ module _ (t : ℕ) where
   invocation-word-requires : invocation-lts.Need-word-requires (invocation-calls t) (invocation-at t) invocation.Post
   invocation-word-requires c κs = search needs
 
-  invocation-method-requires : invocation-lts.Need-method-requires (invocation-calls t) (invocation-at t) invocation.Post
-  invocation-method-requires c κs = search needs
+  invocation-find-method-requires : invocation-lts.Need-find-method-requires (invocation-calls t) (invocation-at t) invocation.Post
+  invocation-find-method-requires c κs = search needs
 
   invocation-add-word-2 : invocation-lts.Need-add-word-2 (invocation-calls t) (invocation-at t) invocation.Post
   invocation-add-word-2 c = search needs
@@ -479,7 +479,7 @@ pub +arguments+call+creation+dotted+expression+invocation+operand+pair+single-sp
     (λ t. creation-lts.spec (creation-calls t) (creation-at t) creation.Post (creation-add-kind t) (creation-kind-requires t) (creation-single-requires t) (creation-returns t) (creation-new-object-requires t) (creation-returns-2 t))
     (λ t. dotted-lts.spec (dotted-calls t) (dotted-at t) dotted.Post (dotted-add-kind t) (dotted-kind-requires t) (dotted-single-requires t) (dotted-returns t) (dotted-call-requires t) (dotted-returns-2 t))
     (λ t. expression-lts.spec (expression-calls t) (expression-at t) expression.Post (expression-returns t) (expression-kind-requires t) (expression-is-atom-requires t) (expression-atom-requires t) (expression-returns-2 t) (expression-sub-creation t) (expression-creation-requires t) (expression-returns-3 t) (expression-sub-dotted t) (expression-dotted-requires t) (expression-returns-4 t) (expression-sub-single t) (expression-single-requires t) (expression-returns-5 t) (expression-sub-pair t) (expression-pair-requires t) (expression-returns-6 t) (expression-sub-pair-2 t) (expression-pair-requires-2 t) (expression-returns-7 t) (expression-sub-pair-3 t) (expression-pair-requires-3 t) (expression-returns-8 t) (expression-sub-pair-4 t) (expression-pair-requires-4 t) (expression-returns-9 t))
-    (λ t. invocation-lts.spec (invocation-calls t) (invocation-at t) invocation.Post (invocation-add-word t) (invocation-word-requires t) (invocation-method-requires t) (invocation-add-word-2 t) (invocation-word-requires-2 t) (invocation-returns t) (invocation-word-requires-3 t) (invocation-word-requires-4 t) (invocation-same-count-requires t) (invocation-arguments-requires t) (invocation-enum-told t) (invocation-word-requires-5 t) (invocation-type-of-requires t) (invocation-returns-2 t) (invocation-enum-known-a t) (invocation-returns-3 t) (invocation-add-word-3 t) (invocation-word-requires-6 t) (invocation-returns-4 t))
+    (λ t. invocation-lts.spec (invocation-calls t) (invocation-at t) invocation.Post (invocation-add-word t) (invocation-word-requires t) (invocation-find-method-requires t) (invocation-add-word-2 t) (invocation-word-requires-2 t) (invocation-returns t) (invocation-word-requires-3 t) (invocation-word-requires-4 t) (invocation-same-count-requires t) (invocation-arguments-requires t) (invocation-enum-told t) (invocation-word-requires-5 t) (invocation-type-of-requires t) (invocation-returns-2 t) (invocation-enum-known-a t) (invocation-returns-3 t) (invocation-add-word-3 t) (invocation-word-requires-6 t) (invocation-returns-4 t))
     (λ t. operand-lts.spec (operand-calls t) (operand-at t) operand.Post (operand-expression-requires t) (operand-enum-known-e t) (operand-fits-requires t) (operand-returns t) (operand-word-requires t) (operand-enum-known-e-2 t) (operand-returns-2 t) (operand-returns-3 t))
     (λ t. pair-lts.spec (pair-calls t) (pair-at t) pair.Post (pair-word-requires t) (pair-operand-requires t) (pair-enum-told t) (pair-word-requires-2 t) (pair-operand-requires-2 t) (pair-enum-told-2 t) (pair-enum-known-b t) (pair-enum-known-a t) (pair-returns t) (pair-returns-2 t) (pair-returns-3 t))
     (λ t. single-lts.spec (single-calls t) (single-at t) single.Post (single-word-requires t) (single-operand-requires t) (single-enum-told t) (single-enum-known-a t) (single-returns t) (single-returns-2 t))

@@ -1,8 +1,9 @@
 -- Each return is a law of `ScopeLaws`.
-use borrow.Author.Needs.{needs}
 use Rattle.bodies.proofs.scope.name_type.Statement.{statement}
 use Rattle.bodies.proofs.scope.name_type.Tie as tie
-use Rattle.bodies.proofs.ScopeLaws.{name-parameter, name-local, name-field}
+use borrow.Author.Needs.{needs}
+use native.Mathlib.Omega.{arith}
+use Rattle.bodies.proofs.ScopeLaws.{name-parameter, name-local, name-past, name-field}
 
 variable-type-requires : tie.Need-variable-type-requires
 variable-type-requires c κs = search needs
@@ -16,11 +17,20 @@ variable-type-requires-2 c κs = search needs
 returns-2 : tie.Need-returns-2
 returns-2 c = search name-local
 
-field-requires : tie.Need-field-requires
-field-requires c κs = search needs
-
 returns-3 : tie.Need-returns-3
-returns-3 c = search name-field
+returns-3 c = search name-past
+
+mul-result : tie.Need-mul-result
+mul-result c = search needs
+
+shared-slice-read-result : tie.Need-shared-slice-read-result
+shared-slice-read-result c = search needs
+
+cast-result : tie.Need-cast-result
+cast-result c = omega (arith, c .shared-slice-known3 .given (c .before .before .before .before .before .before .before .before .args .x))
+
+returns-4 : tie.Need-returns-4
+returns-4 c = search name-field
 
 pub name-type-spec : {M : Type 1} → statement M
 name-type-spec =
@@ -30,5 +40,8 @@ name-type-spec =
     returns
     variable-type-requires-2
     returns-2
-    field-requires
-    returns-3)
+    returns-3
+    mul-result
+    shared-slice-read-result
+    cast-result
+    returns-4)

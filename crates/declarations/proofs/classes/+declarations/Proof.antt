@@ -13,19 +13,19 @@ use borrow.Author.Needs.{needs}
 use Prim.Native.Nat.{_-_}
 use Rattle.declarations.proofs.ClassLaws.{declarations-none-left, declarations-absent, declarations-next, declarations-stop}
 
-abbrev μ-declarations : Measures 3 declarations-kinds.ps ℕ
-μ-declarations κs a = a .1 .1 .1 .1 .1 .0
+abbrev μ-declarations : Measures 2 declarations-kinds.ps ℕ
+μ-declarations κs a = a .1 .1 .1 .1 .0
 
-abbrev declarations-at : ℕ → In 3 declarations-kinds.ps
+abbrev declarations-at : ℕ → In 2 declarations-kinds.ps
 declarations-at t =
-    and 3 declarations-kinds.ps (is 3 declarations-kinds.ps μ-declarations t) declarations.Pre
+    and 2 declarations-kinds.ps (is 2 declarations-kinds.ps μ-declarations t) declarations.Pre
 
-abbrev declarations-below : ℕ → In 3 declarations-kinds.ps
+abbrev declarations-below : ℕ → In 2 declarations-kinds.ps
 declarations-below t =
     and
-    3
+    2
     declarations-kinds.ps
-    (falls 3 declarations-kinds.ps _<_ μ-declarations t)
+    (falls 2 declarations-kinds.ps _<_ μ-declarations t)
     declarations.Pre
 
 abbrev declarations-calls : ℕ → declarations-lts.Claims
@@ -55,7 +55,7 @@ module _ (t : ℕ) where
 
   declarations-declarations-requires : declarations-lts.Need-declarations-requires (declarations-calls t) (declarations-at t) declarations.Post
   declarations-declarations-requires c κs =
-      (search needs, (search needs, search needs, search needs, c .before .before .before .before .before .before .members .ensures .below, search needs))
+      (search needs, (search needs, search needs, c .before .before .before .before .before .before .members .ensures .below, search needs))
 
   declarations-enum-known-m : declarations-lts.Need-enum-known-m (declarations-calls t) (declarations-at t) declarations.Post
   declarations-enum-known-m c = search needs

@@ -13,14 +13,14 @@ use borrow.Author.Needs.{needs}
 use Prim.Native.Nat.{_-_}
 use Rattle.declarations.proofs.HeadLaws.{heads-none-left, heads-absent, heads-next, heads-stop}
 
-abbrev μ-heads : Measures 3 heads-kinds.ps ℕ
-μ-heads κs a = a .1 .1 .1 .1 .1 .0
+abbrev μ-heads : Measures 2 heads-kinds.ps ℕ
+μ-heads κs a = a .1 .1 .1 .1 .0
 
-abbrev heads-at : ℕ → In 3 heads-kinds.ps
-heads-at t = and 3 heads-kinds.ps (is 3 heads-kinds.ps μ-heads t) heads.Pre
+abbrev heads-at : ℕ → In 2 heads-kinds.ps
+heads-at t = and 2 heads-kinds.ps (is 2 heads-kinds.ps μ-heads t) heads.Pre
 
-abbrev heads-below : ℕ → In 3 heads-kinds.ps
-heads-below t = and 3 heads-kinds.ps (falls 3 heads-kinds.ps _<_ μ-heads t) heads.Pre
+abbrev heads-below : ℕ → In 2 heads-kinds.ps
+heads-below t = and 2 heads-kinds.ps (falls 2 heads-kinds.ps _<_ μ-heads t) heads.Pre
 
 abbrev heads-calls : ℕ → heads-lts.Claims
 heads-calls t = (head-reads.Asked, head-reads.Learnt, word-reads.Asked, word-reads.Learnt, heads-below t, heads.Post)
@@ -45,7 +45,7 @@ module _ (t : ℕ) where
   heads-word-requires c κs = search needs
 
   heads-heads-requires : heads-lts.Need-heads-requires (heads-calls t) (heads-at t) heads.Post
-  heads-heads-requires c κs = (search needs, (search needs, search needs, search needs))
+  heads-heads-requires c κs = (search needs, (search needs, search needs))
 
   heads-enum-known-h : heads-lts.Need-enum-known-h (heads-calls t) (heads-at t) heads.Post
   heads-enum-known-h c = search needs

@@ -7,14 +7,14 @@ use Rattle.declarations.proofs.HeadLaws.{compatible-empty, compatible-n
 returns : tie.Need-returns
 returns c = search compatible-empty
 
-sub-method : tie.Need-sub-method
-sub-method c = search needs
+sub-find-method : tie.Need-sub-find-method
+sub-find-method c = search needs
 
 word-requires : tie.Need-word-requires
 word-requires c κs = search needs
 
-method-requires : tie.Need-method-requires
-method-requires c κs = search needs
+find-method-requires : tie.Need-find-method-requires
+find-method-requires c κs = search needs
 
 returns-2 : tie.Need-returns-2
 returns-2 c = search compatible-new
@@ -30,9 +30,9 @@ is-compatible-spec =
     tie.close
     (tie.spec
     returns
-    sub-method
+    sub-find-method
     word-requires
-    method-requires
+    find-method-requires
     returns-2
     redeclares-requires
     returns-3)

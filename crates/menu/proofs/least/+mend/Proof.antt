@@ -5,7 +5,7 @@ use borrow.Fn.PlainCycle.{Measures, is, falls, and}
 use Rattle.menu.proofs.least.mend.Reads as mend
 use Rattle.menu.proofs.least.mend.Kinds as mend-kinds
 use Rattle.menu.proofs.least.+mend.Lts-mend as mend-lts
-use Rattle.members.proofs.trie.cell.Reads as cell-reads
+use Rattle.menu.proofs.least.cell.Reads as cell-reads
 use Rattle.menu.proofs.least.lesser.Reads as lesser-reads
 use Rattle.menu.proofs.least.put.Reads as put-reads
 use Rattle.menu.proofs.least.+mend.{statement}

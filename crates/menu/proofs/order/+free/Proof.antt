@@ -5,7 +5,7 @@ use borrow.Fn.PlainCycle.{Measures, is, falls, and}
 use Rattle.menu.proofs.order.free.Reads as free
 use Rattle.menu.proofs.order.free.Kinds as free-kinds
 use Rattle.menu.proofs.order.+free.Lts-free as free-lts
-use Rattle.members.proofs.trie.cell.Reads as cell-reads
+use Rattle.menu.proofs.least.cell.Reads as cell-reads
 use Rattle.menu.proofs.least.enter.Reads as enter-reads
 use Rattle.menu.proofs.order.+free.{statement}
 use Rattle.menu.proofs.order.+free.Tie.{close}

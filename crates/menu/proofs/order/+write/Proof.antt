@@ -6,7 +6,7 @@ use Rattle.menu.proofs.order.write.Reads as write
 use Rattle.menu.proofs.order.write.Kinds as write-kinds
 use Rattle.menu.proofs.order.+write.Lts-write as write-lts
 use Rattle.lookup.proofs.rows.word.Reads as word-reads
-use Rattle.members.proofs.trie.cell.Reads as cell-reads
+use Rattle.menu.proofs.least.cell.Reads as cell-reads
 use Rattle.menu.proofs.least.put.Reads as put-reads
 use Rattle.menu.proofs.least.remove.Reads as remove-reads
 use Rattle.menu.proofs.order.free.Reads as free-reads

@@ -1,29 +1,17 @@
 -- Each return is a law of `VerdictLaws`.
-use borrow.Author.Needs.{needs}
 use Rattle.typecheck.proofs.check.contents.Statement.{statement}
 use Rattle.typecheck.proofs.check.contents.Tie as tie
+use borrow.Author.Needs.{needs}
 use Rattle.typecheck.proofs.VerdictLaws.{zeros-below, contents-bodies, contents-refused}
-
-slice-aggregate-build : tie.Need-slice-aggregate-build
-slice-aggregate-build c = search needs
-
-build-requires : tie.Need-build-requires
-build-requires c κs = search needs
 
 slice-aggregate-declarations : tie.Need-slice-aggregate-declarations
 slice-aggregate-declarations c = search needs
 
-slice-aggregate-declarations-2 : tie.Need-slice-aggregate-declarations-2
-slice-aggregate-declarations-2 c = search needs
-
 declarations-requires : tie.Need-declarations-requires
-declarations-requires c κs = (search needs, search needs, search needs, zeros-below 2048, search needs)
+declarations-requires c κs = (search needs, search needs, zeros-below 2048, search needs)
 
 enum-told : tie.Need-enum-told
 enum-told c = search needs
-
-slice-aggregate-bodies : tie.Need-slice-aggregate-bodies
-slice-aggregate-bodies c = search needs
 
 bodies-requires : tie.Need-bodies-requires
 bodies-requires c κs = search needs
@@ -41,13 +29,9 @@ pub contents-spec : {M : Type 1} → statement M
 contents-spec =
     tie.close
     (tie.spec
-    slice-aggregate-build
-    build-requires
     slice-aggregate-declarations
-    slice-aggregate-declarations-2
     declarations-requires
     enum-told
-    slice-aggregate-bodies
     bodies-requires
     enum-known-d
     returns

@@ -10,9 +10,6 @@ word-requires c κs = search needs
 returns : tie.Need-returns
 returns c = search class-empty
 
-clear-requires : tie.Need-clear-requires
-clear-requires c κs = search needs
-
 word-requires-2 : tie.Need-word-requires-2
 word-requires-2 c κs = search needs
 
@@ -40,7 +37,6 @@ of-class-spec =
     (tie.spec
     word-requires
     returns
-    clear-requires
     word-requires-2
     fill-requires
     methods-requires

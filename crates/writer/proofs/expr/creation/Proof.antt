@@ -26,10 +26,10 @@ shared-slice-read-put : tie.Need-shared-slice-read-put
 shared-slice-read-put c = search needs
 
 cast-put : tie.Need-cast-put
-cast-put c = omega (arith, c .shared-slice-known3 .given (2048 + c .before .before .before .before .word .result))
+cast-put c = omega (arith, c .shared-slice-known3 .given (4096 + c .before .before .before .before .word .result))
 
 put-requires : tie.Need-put-requires
-put-requires c κs = omega (arith, c .shared-slice-known3 .given (2048 + c .before .before .before .before .word .result))
+put-requires c κs = omega (arith, c .shared-slice-known3 .given (4096 + c .before .before .before .before .word .result))
 
 same-length : tie.Need-same-length
 same-length c = search needs

@@ -7,11 +7,8 @@ use Rattle.writer.proofs.ProgramLaws.{all-wrote}
 word-requires : tie.Need-word-requires
 word-requires c κs = search needs
 
-zero-words-requires : tie.Need-zero-words-requires
-zero-words-requires c κs = search needs
-
-sizes-requires : tie.Need-sizes-requires
-sizes-requires c κs = search needs
+begin-requires : tie.Need-begin-requires
+begin-requires c κs = search needs
 
 main-code-requires : tie.Need-main-code-requires
 main-code-requires c κs = search needs
@@ -36,8 +33,7 @@ write-spec =
     tie.close
     (tie.spec
     word-requires
-    zero-words-requires
-    sizes-requires
+    begin-requires
     main-code-requires
     each-requires
     same-length

@@ -4,8 +4,8 @@ use Rattle.writer.proofs.sizes.size.Tie as tie
 use borrow.Author.Needs.{needs}
 use Rattle.writer.proofs.SizeLaws.{size-written, size-past}
 
-fields-requires : tie.Need-fields-requires
-fields-requires c κs = search needs
+object-size-requires : tie.Need-object-size-requires
+object-size-requires c κs = search needs
 
 cast-names : tie.Need-cast-names
 cast-names c = search needs
@@ -32,7 +32,7 @@ pub size-spec : {M : Type 1} → statement M
 size-spec =
     tie.close
     (tie.spec
-    fields-requires
+    object-size-requires
     cast-names
     add-names
     mul-names

@@ -1,0 +1,69 @@
+-- The measure is what is left. Each return is a law of `FieldLaws`.
+use Prim.Native.Nat.{ℕ, _<_}
+use borrow.Fn.Kinds.{In}
+use borrow.Fn.PlainCycle.{Measures, is, falls, and}
+use Rattle.lookup.proofs.fields.climb.Reads as climb
+use Rattle.lookup.proofs.fields.climb.Kinds as climb-kinds
+use Rattle.lookup.proofs.fields.+climb.Lts-climb as climb-lts
+use Rattle.lookup.proofs.chain.above.Reads as above-reads
+use Rattle.lookup.proofs.fields.own.Reads as own-reads
+use Rattle.lookup.proofs.member.count.Reads as count-reads
+use Rattle.lookup.proofs.rows.word.Reads as word-reads
+use Rattle.lookup.proofs.fields.+climb.{statement}
+use Rattle.lookup.proofs.fields.+climb.Tie.{close}
+use borrow.Author.Needs.{needs}
+use Rattle.lookup.proofs.FieldLaws.{climb-none-left, climb-top, climb-more}
+
+abbrev μ-climb : Measures 2 climb-kinds.ps ℕ
+μ-climb κs a = a .1 .1 .1 .0
+
+abbrev climb-at : ℕ → In 2 climb-kinds.ps
+climb-at t = and 2 climb-kinds.ps (is 2 climb-kinds.ps μ-climb t) climb.Pre
+
+abbrev climb-below : ℕ → In 2 climb-kinds.ps
+climb-below t = and 2 climb-kinds.ps (falls 2 climb-kinds.ps _<_ μ-climb t) climb.Pre
+
+abbrev climb-calls : ℕ → climb-lts.Claims
+climb-calls t = (word-reads.Asked, word-reads.Learnt, above-reads.Asked, above-reads.Learnt, climb-below t, climb.Post, own-reads.Asked, own-reads.Learnt, count-reads.Asked, count-reads.Learnt)
+
+module _ (t : ℕ) where
+  climb-returns : climb-lts.Need-returns (climb-calls t) (climb-at t) climb.Post
+  climb-returns c = search climb-none-left
+
+  climb-word-requires : climb-lts.Need-word-requires (climb-calls t) (climb-at t) climb.Post
+  climb-word-requires c κs = search needs
+
+  climb-returns-2 : climb-lts.Need-returns-2 (climb-calls t) (climb-at t) climb.Post
+  climb-returns-2 c = search climb-top
+
+  climb-word-requires-2 : climb-lts.Need-word-requires-2 (climb-calls t) (climb-at t) climb.Post
+  climb-word-requires-2 c κs = search needs
+
+  climb-sub-climb : climb-lts.Need-sub-climb (climb-calls t) (climb-at t) climb.Post
+  climb-sub-climb c = search needs
+
+  climb-above-requires : climb-lts.Need-above-requires (climb-calls t) (climb-at t) climb.Post
+  climb-above-requires c κs = search needs
+
+  climb-climb-requires : climb-lts.Need-climb-requires (climb-calls t) (climb-at t) climb.Post
+  climb-climb-requires c κs = search needs
+
+  climb-own-requires : climb-lts.Need-own-requires (climb-calls t) (climb-at t) climb.Post
+  climb-own-requires c κs = search needs
+
+  climb-count-requires : climb-lts.Need-count-requires (climb-calls t) (climb-at t) climb.Post
+  climb-count-requires c κs = search needs
+
+  climb-add-result : climb-lts.Need-add-result (climb-calls t) (climb-at t) climb.Post
+  climb-add-result c = search needs
+
+  climb-same-length : climb-lts.Need-same-length (climb-calls t) (climb-at t) climb.Post
+  climb-same-length c = search needs
+
+  climb-returns-3 : climb-lts.Need-returns-3 (climb-calls t) (climb-at t) climb.Post
+  climb-returns-3 c = search climb-more
+
+pub +climb-spec : {M : Type 1} → statement M
++climb-spec =
+    close μ-climb
+    (λ t. climb-lts.spec (climb-calls t) (climb-at t) climb.Post (climb-returns t) (climb-word-requires t) (climb-returns-2 t) (climb-word-requires-2 t) (climb-sub-climb t) (climb-above-requires t) (climb-climb-requires t) (climb-own-requires t) (climb-count-requires t) (climb-add-result t) (climb-same-length t) (climb-returns-3 t))

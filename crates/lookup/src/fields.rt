@@ -1,0 +1,98 @@
+// What a field of each name means to the bodies of a class, in an array by the number of the name: word x is the number of the field's type, NOTHING where no
+// field has the name, and word 2,048 + x its slot, which is 32 and its place in the object: the slots below are for parameters and locals. The words from 4,096
+// on stay.
+use crate::chain::above;
+use crate::member::count;
+use crate::rows::ABSENT;
+use crate::rows::word;
+use crate::types::NOTHING;
+use crate::types::type_of;
+ghost use mathlib.Core.Path.{_≡_};
+ghost use Prim.Native.Nat.{_+_, _≤_, _<_};
+ghost use lib.ListN.{length, set};
+ghost use Rattle.reader.specs.WalkPost.{Walkable};
+ghost use Rattle.lookup.specs.Fields.{ObjectSize, Cleared, OwnHeld, Climbed, Filled};
+
+// How many fields an object of the class holds whose name has the number c, with those from above, of which at most `left` classes may come.
+pub fn object_size(table: &[u32], n: usize, left: usize, c: usize) -> usize
+    requires { ⌜ Walkable (now table) n × (left ≤ 2048) ⌝ }
+    ensures { λ r. ⌜ ObjectSize (now (table .entry)) n left c r ⌝ }
+{
+    if left == 0 {
+        return 0;
+    }
+    let class = word(table, 7, c);
+    if ABSENT <= class {
+        return 0;
+    }
+    let own = count(table, n, word(table, 4, class));
+    object_size(table, n, left - 1, above(table, class)) + own
+}
+
+// No field has any name, of which there are n at most.
+fn clear(fields: &mut [u32], n: usize)
+    requires { ⌜ (4096 ≤ length (now fields)) × (n ≤ 2048) ⌝ }
+    ensures { λ _. ⌜ Cleared n (now (fields .entry)) (now (fields .exit)) ⌝ }
+{
+    let mut i: usize = 0;
+    while i < n {
+        fields[i] = NOTHING as u32;
+        i += 1;
+    }
+}
+
+// A field of the name x has this type and this slot.
+fn enter(fields: &mut [u32], x: usize, t: usize, slot: usize)
+    requires { ⌜ (4096 ≤ length (now fields)) × (x < 2048) × (t < 4294967296) × (slot < 4294967296) ⌝ }
+    ensures { λ _. ⌜ now (fields .exit) ≡ set (set (now (fields .entry)) x t) (2048 + x) slot ⌝ }
+{
+    fields[x] = t as u32;
+    fields[2048 + x] = slot as u32;
+}
+
+// The fields of a list, of which at most `left` may come, from place `at` on. The last is written first, so that of two of one name the first stays.
+fn own(table: &[u32], fields: &mut [u32], n: usize, left: usize, row: usize, at: usize)
+    requires { ⌜ Walkable (now table) n × (4096 ≤ length (now fields)) × (at + left ≤ 4194304) ⌝ }
+    ensures { λ _. ⌜ OwnHeld (now (table .entry)) n left row at (now (fields .entry)) (now (fields .exit)) ⌝ }
+{
+    if left == 0 {
+        return;
+    }
+    if ABSENT <= row {
+        return;
+    }
+    own(table, fields, n, left - 1, word(table, 6, row), at + 1);
+    let x = word(table, 2, row);
+    if x < ABSENT {
+        let t = type_of(table, n, word(table, 3, row));
+        enter(fields, x, t, 32 + at);
+    }
+}
+
+// The fields of the class whose name has the number c and of those above it, of which at most `left` may come: the topmost class first, so that a field
+// hides one of its name from above. The answer is how many fields an object of the class holds.
+fn climb(table: &[u32], fields: &mut [u32], n: usize, left: usize, c: usize) -> usize
+    requires { ⌜ Walkable (now table) n × (4096 ≤ length (now fields)) × (left ≤ 2048) ⌝ }
+    ensures { λ r. ⌜ Climbed (now (table .entry)) n left c (now (fields .entry)) (now (fields .exit)) r ⌝ }
+{
+    if left == 0 {
+        return 0;
+    }
+    let class = word(table, 7, c);
+    if ABSENT <= class {
+        return 0;
+    }
+    let first = word(table, 4, class);
+    let at = climb(table, fields, n, left - 1, above(table, class));
+    own(table, fields, n, n, first, at);
+    at + count(table, n, first)
+}
+
+// What the fields mean to the bodies of the class whose name has the number c, in a table of this many classes; to main, where c is no name, there are none.
+pub fn fill(table: &[u32], fields: &mut [u32], n: usize, classes: usize, c: usize)
+    requires { ⌜ Walkable (now table) n × (4096 ≤ length (now fields)) × (classes ≤ 2048) ⌝ }
+    ensures { λ _. ⌜ Filled (now (table .entry)) n classes c (now (fields .entry)) (now (fields .exit)) ⌝ }
+{
+    clear(fields, n);
+    climb(table, fields, n, classes, c);
+}

@@ -1,0 +1,23 @@
+// Places of variables in their lists. `left` is how many may still come.
+use lookup::rows::ABSENT;
+use lookup::rows::word;
+ghost use Prim.Native.Nat.{_+_, _≤_};
+ghost use lib.ListN.{length};
+ghost use Rattle.writer.specs.Places.{PlacePost};
+
+// Which variable of a list, counted on from `at`, is the first of a name; ABSENT where none is.
+pub fn place(table: &[u32], left: usize, row: usize, x: usize, at: usize) -> usize
+    requires { ⌜ (16384 ≤ length (now table)) × (at + left ≤ 2048) ⌝ }
+    ensures { λ r. ⌜ PlacePost (now (table .entry)) left row x at r ⌝ }
+{
+    if left == 0 {
+        return ABSENT;
+    }
+    if ABSENT <= row {
+        return ABSENT;
+    }
+    if word(table, 2, row) == x {
+        return at;
+    }
+    place(table, left - 1, word(table, 6, row), x, at + 1)
+}
