@@ -50,7 +50,31 @@ def declared_classes(k):
     return EMPTY + class_of(chain[0]) + "".join(class_of(c, "", p) for p, c in zip(chain, chain[1:]))
 
 
-FAMILIES = [uses_of_a_local, uses_of_a_field, inherited_fields, calls, inherited_calls, climbs, declared_fields, declared_classes]
+def fields_of_many(k):
+    """Classes with a body each, below one of many fields."""
+    fields = class_of("A", "".join("int %s;" % f for f in names("f", 6 * k)))
+    return EMPTY + fields + "".join(class_of(c, method(value="f000"), "A") for c in names("C", k))
+
+
+def members_in_a_chain(k):
+    """Each class of a chain has a field and a method of its own."""
+    chain = names("C", k)
+    contents = ["int f%s;" % c + method(name="m%s" % c, value="f%s" % chain[0]) for c in chain]
+    return EMPTY + "".join(class_of(c, t, p) for c, t, p in zip(chain, contents, [None] + chain))
+
+
+FAMILIES = [
+    uses_of_a_local,
+    uses_of_a_field,
+    inherited_fields,
+    fields_of_many,
+    members_in_a_chain,
+    calls,
+    inherited_calls,
+    climbs,
+    declared_fields,
+    declared_classes,
+]
 
 
 def largest(family):

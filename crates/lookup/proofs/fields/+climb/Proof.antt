@@ -61,7 +61,15 @@ module _ (t : ℕ) where
   climb-same-length c = search needs
 
   climb-returns-3 : climb-lts.Need-returns-3 (climb-calls t) (climb-at t) climb.Post
-  climb-returns-3 c = search climb-more
+  climb-returns-3 c =
+      climb-more
+      (c .before .before .before .before .before .before .before .before .before .before .before .before .word .ensures .0)
+      (search needs) (search needs) (search needs)
+      (c .before .before .before .before .before .before .before .before .before .before .word2 .ensures .0)
+      (c .before .before .before .before .before .before .before .before .above .ensures)
+      (c .before .before .before .before .before .before .before .climb .ensures)
+      (c .before .before .before .own .ensures)
+      (c .count .ensures)
 
 pub +climb-spec : {M : Type 1} → statement M
 +climb-spec =
