@@ -30,7 +30,7 @@ use Rattle.declarations.specs.Indexing.{Ready}
 use Rattle.typecheck.specs.declared.check.Found.{Found}
 use Rattle.typecheck.specs.declared.check.Found.the-variants.{Program as found, Refused as unfit}
 use Rattle.typecheck.specs.declared.check.CheckAnswer.{CheckAnswer}
-use Rattle.typecheck.specs.CheckPost.{Leaves, answerOf}
+use Rattle.typecheck.specs.CheckPost.{Finds, Leaves, answerOf}
 use Rattle.menu.specs.Menu.{menuOrder, writing, positions, listing, menu, Menus}
 use Rattle.menu.specs.Order.{each-once, many-same}
 use Rattle.menu.specs.MenuPost.{rowOf, Rising, rising-none, rising-more, Tabled, Empty, Gathered, overwritten, Closed, Written, listed, Fills}
@@ -129,9 +129,9 @@ module _ {tab : List ℕ} {classes : ℕ} {before : List ℕ} where
 
 module _ (s : List ℕ) (f : Found) (middle before : List ℕ) (l : Leaves s (checking s) f middle) where
   pub answer-found : {n k : ℕ} → f ≡ found n k → {r : CheckAnswer} {after : List ℕ} → Fills middle k before (listed r after) → listed r after ≡ listing (checking s) before
-  answer-found {n} {k} is {r} {after} g = go (checking s) l
+  answer-found {n} {k} is {r} {after} g = go (checking s) (l .finds)
     where
-      go : (w : Outcome Program) → Leaves s w f middle → listed r after ≡ listing w before
+      go : (w : Outcome Program) → Finds s w f middle → listed r after ≡ listing w before
       go (accepted p) h =
           let z = h .answer in
           let c : length (p .classes) ≡ k = cc in
@@ -139,9 +139,9 @@ module _ (s : List ℕ) (f : Found) (middle before : List ℕ) (l : Leaves s (ch
       go (refused m q) h = let z = h in apart (cc)
 
   pub answer-unfit : {n q : ℕ} → f ≡ unfit n q → listed (record { number = n; position = q; classes = 0 }) before ≡ listing (checking s) before
-  answer-unfit {n} {q} is = go (checking s) l
+  answer-unfit {n} {q} is = go (checking s) (l .finds)
     where
-      go : (w : Outcome Program) → Leaves s w f middle → listed (record { number = n; position = q; classes = 0 }) before ≡ listing w before
+      go : (w : Outcome Program) → Finds s w f middle → listed (record { number = n; position = q; classes = 0 }) before ≡ listing w before
       go (accepted p) h = let z = h .answer in apart (cc)
       go (refused m p) h = let z = h in let a : n ≡ m = cc in let b : q ≡ p = cc in rw (a, b)
 

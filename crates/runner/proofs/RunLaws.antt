@@ -18,7 +18,7 @@ use Rattle.checker.specs.Check.{checking}
 use Rattle.typecheck.specs.declared.check.Found.{Found}
 use Rattle.typecheck.specs.declared.check.Found.the-variants.{Program as found, Refused as unfit}
 use Rattle.writer.specs.Preparing.{Accepted, Prepares}
-use Rattle.typecheck.specs.CheckPost.{Checked, Leaves}
+use Rattle.typecheck.specs.CheckPost.{Checked, Finds, Leaves}
 use Rattle.driver.specs.declared.calls.Sizes.{Sizes}
 use Rattle.semantics.specs.Run.{Strips, refusal, RunMeets, Runs}
 use Rattle.semantics.specs.Run as Run
@@ -33,9 +33,9 @@ use Rattle.runner.specs.RunPost.{strips, Completes, Compiled, Performs, 
 
 -- it is within its bounds: the table can be walked over
 pub accepted-few : {s : List ℕ} {z : Sizes} {tab : List ℕ} → Known s z tab → 0 < z .tokens → (z .tokens ≤ 2048) × (z .classes ≤ 2048)
-accepted-few {s} {z} {tab} k l = by (checking s) (k .says l)
+accepted-few {s} {z} {tab} k l = by (checking s) (k .says l .finds)
   where
-    by : (v : Outcome Program) → Leaves s v (found (z .tokens) (z .classes)) tab → (z .tokens ≤ 2048) × (z .classes ≤ 2048)
+    by : (v : Outcome Program) → Finds s v (found (z .tokens) (z .classes)) tab → (z .tokens ≤ 2048) × (z .classes ≤ 2048)
     by (accepted p) a =
         let e = a .answer in
         let t : length (a .stream) ≡ z .tokens = cc in
@@ -58,9 +58,9 @@ statement-nodes p = omega (arith, some-nodes (p .statement))
 
 -- it has a token
 pub accepted-some : (s tab : List ℕ) {tokens classes : ℕ} {f : Found} → Leaves s (checking s) f tab → f ≡ found tokens classes → 0 < tokens
-accepted-some s tab {tokens} {classes} {f} h q = by (checking s) h
+accepted-some s tab {tokens} {classes} {f} h q = by (checking s) (h .finds)
   where
-    by : (v : Outcome Program) → Leaves s v f tab → 0 < tokens
+    by : (v : Outcome Program) → Finds s v f tab → 0 < tokens
     by (accepted p) a =
         let e = a .answer in
         let t : length (a .stream) ≡ tokens = cc in
@@ -94,9 +94,9 @@ runnable s p tokens classes tab code code′ entries entries′ h a long many =
 pub completed : (tab code fast values : List ℕ) (sz : Sizes) (b : Bounds) (heap output : List ℤ) {code′ entries′ : List ℕ} {x : Ended} {output′ : List ℤ}
     → Prepares (sz .tokens) (sz .classes) tab code code′ (replicate 2048 0) entries′ → Executed tab code′ entries′ fast values sz b heap output x output′
     → Compiled tab code fast values sz b heap output (answerOf x) output′
-completed tab code fast values sz b heap output {code′} {entries′} {x} {output′} w E = record { says = λ long roomy. record { says = λ s h. by long roomy s (checking s) h } }
+completed tab code fast values sz b heap output {code′} {entries′} {x} {output′} w E = record { says = λ long roomy. record { says = λ s h. by long roomy s (checking s) (h .finds) } }
   where
-    by : 16 * sz .tokens ≤ length code → Roomy (sz .tokens) (b .calls) fast values → (s : List ℕ) (v : Outcome Program) → Leaves s v (found (sz .tokens) (sz .classes)) tab
+    by : 16 * sz .tokens ≤ length code → Roomy (sz .tokens) (b .calls) fast values → (s : List ℕ) (v : Outcome Program) → Finds s v (found (sz .tokens) (sz .classes)) tab
         → Performs v b heap output (answerOf x) output′
     by long roomy s (accepted p) h =
         let many : length (replicate {A = ℕ} 2048 0) ≡ 2048 = length-replicate {A = ℕ} 2048 0 in
@@ -131,9 +131,9 @@ performed {s} k l C = record { performs = C .says s (k .says l); clears = λ e. 
 
 refuses-so : (s : List ℕ) (b : Bounds) (heap output : List ℤ) (tab : List ℕ) {n p : ℕ} {f : Found} {a : Run.RunAnswer}
     → Leaves s (checking s) f tab → f ≡ unfit n p → a ≡ refusal n p → Performs (checking s) b heap output a output
-refuses-so s b heap output tab {n} {p} {f} {a} h q e = by (checking s) h
+refuses-so s b heap output tab {n} {p} {f} {a} h q e = by (checking s) (h .finds)
   where
-    by : (v : Outcome Program) → Leaves s v f tab → Performs v b heap output a output
+    by : (v : Outcome Program) → Finds s v f tab → Performs v b heap output a output
     by (accepted p) c = let z = c .answer in apart (cc)
     by (refused k i) c = let z = c in let x : n ≡ k = cc in let y : p ≡ i = cc in (e ∙ rw (x, y), refl)
 

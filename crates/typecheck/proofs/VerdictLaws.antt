@@ -37,7 +37,7 @@ use Rattle.typecheck.specs.declared.check.Found.{Found}
 use Rattle.typecheck.specs.declared.check.Found.the-variants.{Program as found, Refused as unfit}
 use Rattle.typecheck.specs.declared.check.CheckAnswer.{CheckAnswer}
 use Rattle.typecheck.specs.MethodPost.{BodiesJudged}
-use Rattle.typecheck.specs.CheckPost.{told, Holding, Settles, Checked, Leaves, contentsOf, ContentsJudged, chainsOn, ChainedJudged, parentsOn, IndexedJudged, TreeJudged, answerOf}
+use Rattle.typecheck.specs.CheckPost.{told, Holding, Settles, Checked, Finds, Leaves, contentsOf, ContentsJudged, chainsOn, ChainedJudged, parentsOn, IndexedJudged, TreeJudged, answerOf}
 
 -- before the first list of members no name has a stamp
 pub zeros-below : (m : ℕ) → Below 1 (replicate m 0)
@@ -156,7 +156,7 @@ module _ {n : ℕ} {before middle : List ℕ} {v : Judged} (f : IndexMade n befo
 -- THE SOURCE
 
 -- what is told of a finding that is right is what Check answers
-told-right : (s : List ℕ) (v : Outcome Program) (f : Found) (tab : List ℕ) → Leaves s v f tab → told f ≡ checkAnswer v
+told-right : (s : List ℕ) (v : Outcome Program) (f : Found) (tab : List ℕ) → Finds s v f tab → told f ≡ checkAnswer v
 told-right s (accepted p) f tab h = ap told (h .answer)
 told-right s (refused n q) f tab h = ap told h
 
@@ -185,25 +185,35 @@ promised s d p after e q h =
     }
 
 module _ (s : List ℕ) (a : Filled) (middle : List ℕ) (f : Fills (reading s) a middle) where
-  pub find-refused : (after : List ℕ) {n q : ℕ} → a ≡ notRead n q → Leaves s (checking s) (unfit n q) after
+  finds-refused : (after : List ℕ) {n q : ℕ} → a ≡ notRead n q → Finds s (checking s) (unfit n q) after
   unfolding checking
-  find-refused after {n} {q} is = go (reading s) f
+  finds-refused after {n} {q} is = go (reading s) f
     where
-      go : (o : Outcome Reading) → Fills o a middle → Leaves s (o >>= λ r. judged (r .tree)) (unfit n q) after
+      go : (o : Outcome Reading) → Fills o a middle → Finds s (o >>= λ r. judged (r .tree)) (unfit n q) after
       go (accepted r) h = let z = h .0 in apart (cc)
       go (refused k p) h = let z = h in cc
 
-  pub find-tree : {after : List ℕ} {n m : ℕ} → a ≡ Tree n m → {r : Found} → TreeJudged n middle r after → Leaves s (checking s) r after
+  finds-tree : {after : List ℕ} {n m : ℕ} → a ≡ Tree n m → {r : Found} → TreeJudged n middle r after → Finds s (checking s) r after
   unfolding checking
-  find-tree {after} {n} {m} is {r} g = go (reading s) refl f
+  finds-tree {after} {n} {m} is {r} g = go (reading s) refl f
     where
-      go : (o : Outcome Reading) → reading s ≡ o → Fills o a middle → Leaves s (o >>= λ d. judged (d .tree)) r after
+      go : (o : Outcome Reading) → reading s ≡ o → Fills o a middle → Finds s (o >>= λ d. judged (d .tree)) r after
       go (accepted d) e h = let z = h .0 in let l : length (d .stream) ≡ n = cc in by (judged (d .tree)) refl (g .says d (h .1) l)
         where
-          by : (v : Outcome Program) → judged (d .tree) ≡ v → Settles (d .stream) v r after → Leaves s v r after
+          by : (v : Outcome Program) → judged (d .tree) ≡ v → Settles (d .stream) v r after → Finds s v r after
           by (accepted p) q x = promised s d p after e q x
           by (refused k p) q x = x
       go (refused k p) e h = let z = h in apart (cc)
+
+  pub find-refused : (after : List ℕ) {n q : ℕ} → a ≡ notRead n q → Leaves s (checking s) (unfit n q) after
+  find-refused after {n} {q} is =
+      let x = finds-refused after is in
+      record { answers = told-right s (checking s) (unfit n q) after x; finds = x }
+
+  pub find-tree : {after : List ℕ} {n m : ℕ} → a ≡ Tree n m → {r : Found} → TreeJudged n middle r after → Leaves s (checking s) r after
+  find-tree {after} is {r} g =
+      let x = finds-tree is g in
+      record { answers = told-right s (checking s) r after x; finds = x }
 
   -- the bound that the table's functions ask for
   pub find-few : {n m : ℕ} → a ≡ Tree n m → n ≤ 2048
@@ -215,10 +225,10 @@ module _ (s : List ℕ) (a : Filled) (middle : List ℕ) (f : Fills (reading s) 
 
   -- what is told of it
   pub answer-refused : {n q : ℕ} → a ≡ notRead n q → {x : CheckAnswer} → answerOf x ≡ told (unfit n q) → answerOf x ≡ checkAnswer (checking s)
-  answer-refused {n} {q} is t = t ∙ told-right s (checking s) (unfit n q) [] (find-refused [] is)
+  answer-refused is t = t ∙ find-refused [] is .answers
 
   pub answer-tree : {after : List ℕ} {n m : ℕ} → a ≡ Tree n m → {r : Found} → TreeJudged n middle r after → {x : CheckAnswer} → answerOf x ≡ told r → answerOf x ≡ checkAnswer (checking s)
-  answer-tree {after} is {r} g t = t ∙ told-right s (checking s) r after (find-tree is g)
+  answer-tree is g t = t ∙ find-tree is g .answers
 
 -- THE OPERATION
 

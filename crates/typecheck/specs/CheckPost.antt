@@ -20,7 +20,7 @@ use Rattle.reader.specs.ReadPost.{Filling}
 use Rattle.checker.specs.ClassTable.{classNamed}
 use Rattle.checker.specs.Typing.{Ends, ProgramTyped}
 use Rattle.checker.specs.Declarations.{knownParents, endingChains, declarations}
-use Rattle.checker.specs.Check.{allBodies, judged, CheckAnswer as SpecAnswer}
+use Rattle.checker.specs.Check.{allBodies, judged, CheckAnswer as SpecAnswer, checkAnswer}
 use Rattle.lookup.specs.declared.answer.Judged.{Judged}
 use Rattle.lookup.specs.Answers.{settled}
 use Rattle.declarations.specs.Indexing.{Ready}
@@ -59,10 +59,15 @@ pub record Checked (s : List ℕ) (p : Program) (r : Found) (tab : List ℕ) : T
   pub typed : ProgramTyped p
   pub ends : (c : List ℕ) {k : Class} → classNamed (p .classes) c ≡ some k → Ends (p .classes) c
 
--- the answers and tables that are right for what Check finds of a source
-abbrev pub Leaves : List ℕ → Outcome Program → Found → List ℕ → Type 0
-Leaves s (accepted p) r tab = Checked s p r tab
-Leaves s (refused n q) r tab = r ≡ unfit n q
+-- the cases and tables that are right for what Check finds of a source
+abbrev pub Finds : List ℕ → Outcome Program → Found → List ℕ → Type 0
+Finds s (accepted p) r tab = Checked s p r tab
+Finds s (refused n q) r tab = r ≡ unfit n q
+
+-- what is found tells Check's answer, and is left in the table
+pub record Leaves (s : List ℕ) (v : Outcome Program) (r : Found) (tab : List ℕ) : Type 0 where
+  pub answers : told r ≡ checkAnswer v
+  pub finds : Finds s v r tab
 
 -- declarations and bodies; chains before these; parents before these
 abbrev pub contentsOf : Program → Outcome (Unit {0})
