@@ -8,10 +8,10 @@ use Rattle.base.specs.Outcome.{accepted}
 use Rattle.lexer.specs.Tokens.{Token}
 use Rattle.parser.specs.Tree.{Program}
 use Rattle.parser.specs.Read.{reading}
-use Rattle.checker.specs.Check.{checking}
-use Rattle.checker.specs.Typing.{ProgramTyped}
-use Rattle.typing.specs.Agreement.{program-agrees}
-use Rattle.typing.specs.Choices.{bound}
+use Rattle.typesystem.specs.Check.{checking}
+use Rattle.typesystem.specs.TypingRules.{ProgramTyped}
+use Rattle.typing.specs.laws.Agreement.{program-agrees}
+use Rattle.typing.specs.laws.Choices.{bound}
 use Rattle.acceptance.specs.Read.{Readable, readable-exactly}
 
 -- what document 01 allows: a source that is not too long, whose tokens are the yield of a derivation of the program p, of depth at most 64,
@@ -29,10 +29,10 @@ allowed s p e =
     let ts = v .0 .stream in
     subst (Allowed s) (sym (t .0)) (record { stream = ts; readable = readable-exactly s ts (v .0 .tree) .0 (v .1); typed = t .1 })
 
-pub accepts : (s : List ℕ) (p : Program) → Allowed s p → checking s ≡ accepted p
+pub allowed-accepted : (s : List ℕ) (p : Program) → Allowed s p → checking s ≡ accepted p
 unfolding checking
-accepts s p h = rw (readable-exactly s (h .stream) p .1 (h .readable)) (program-agrees p p .1 (refl, h .typed))
+allowed-accepted s p h = rw (readable-exactly s (h .stream) p .1 (h .readable)) (program-agrees p p .1 (refl, h .typed))
 
 -- A source is accepted, with its tree, exactly when it is allowed.
 pub accepted-exactly : (s : List ℕ) (p : Program) → (checking s ≡ accepted p) ↔ Allowed s p
-accepted-exactly s p = (allowed s p, accepts s p)
+accepted-exactly s p = (allowed s p, allowed-accepted s p)

@@ -10,22 +10,22 @@ use Rattle.base.specs.Codes.{success, tableTooShort, tableLeast}
 use Rattle.base.specs.Outcome.{Outcome, accepted, refused}
 use Rattle.parser.specs.Tree.{Program}
 use Rattle.parser.specs.Read.{tableAfter}
-use Rattle.checker.specs.Check.{checking, CheckAnswer, refusal, checkAnswer, check, Checks}
+use Rattle.typesystem.specs.Check.{checking, CheckAnswer, checkRefusal, checkAnswer, check, Checks}
 use Rattle.acceptance.specs.Numbers.{CheckRefusal}
 use Rattle.acceptance.specs.Refusals.{check-refusal, not-success}
-use Rattle.acceptance.specs.Accepted.{Allowed, allowed, accepts}
+use Rattle.acceptance.specs.Accepted.{Allowed, allowed, allowed-accepted}
 
 -- what is right to answer: 0 and the number of classes for a lesson that is allowed; else one of Check's refusals, with its number and
 -- position
 pub data Answers (s : List ℕ) : CheckAnswer → Type 0 where
   succeeds : {p : Program} → Allowed s p → Answers s (record { number = success; position = 0; classes = length (p .classes) })
-  refuses : {n q : ℕ} → CheckRefusal n → checking s ≡ refused n q → Answers s (refusal n q)
+  refuses : {n q : ℕ} → CheckRefusal n → checking s ≡ refused n q → Answers s (checkRefusal n q)
 
 -- THE OPERATION
 
 -- 1: table under 16,384 words, which touches nothing.
 pub check-table-short : {s before : List ℕ} {a : CheckAnswer} {after : List ℕ} → Checks s before a after → length before < tableLeast
-    → (a ≡ refusal tableTooShort 0) × (after ≡ before)
+    → (a ≡ checkRefusal tableTooShort 0) × (after ≡ before)
 unfolding check tableAfter
 check-table-short {before = before} C l =
     let e = lt-ltb (length before) tableLeast l in
@@ -44,7 +44,7 @@ module _ {s before : List ℕ} {a : CheckAnswer} {after : List ℕ} (C : Checks 
   pub check-succeeds : (a .number ≡ success) ↔ ((p : Program) × Allowed s p)
   check-succeeds = (
     λ e. by (checking s) refl (sym (number-of (checking s) refl) ∙ e),
-    λ h. number-of (accepted (h .0)) (accepts s (h .0) (h .1)),
+    λ h. number-of (accepted (h .0)) (allowed-accepted s (h .0) (h .1)),
   )
     where
       by : (o : Outcome Program) → checking s ≡ o → checkAnswer o .number ≡ success → (p : Program) × Allowed s p

@@ -11,7 +11,7 @@ use Rattle.lexer.specs.Tokens.{Token, tokens}
 use Rattle.parser.specs.Stream.{startAt}
 use Rattle.parser.specs.Grammar.{Sentence, Viable}
 use Rattle.parser.specs.Read.{reading}
-use Rattle.acceptance.specs.KindLaws.{kinds, same-sentence, same-viable}
+use Rattle.acceptance.specs.laws.KindLaws.{kinds, same-sentence, same-viable}
 use Rattle.acceptance.specs.Read.{refused-at-token}
 
 -- Two lists of tokens with the same kinds are programs together.

@@ -16,10 +16,10 @@ use Rattle.parser.specs.Stream.{startAt}
 use Rattle.parser.specs.Grammar.{DerivesProgram, Sentence, Viable}
 use Rattle.parser.specs.Measure.{programDeep}
 use Rattle.parser.specs.Read.{Reading, reading, ReadAnswer, readAnswer, read, tableAfter, Reads}
-use Rattle.reader.specs.ReadingLaws.{too-long, not-lexed}
+use Rattle.reader.specs.laws.ReadingLaws.{too-long, not-lexed}
 use Rattle.acceptance.specs.Numbers.{of-read}
 use Rattle.acceptance.specs.Refusals.{read-refusal, not-success}
-use Rattle.acceptance.specs.ReadLaws.{at-token, at-end, deep-program, good-program, by-grammar, token-at, end-at, deep-at, program-of, by-tokens, read-whole}
+use Rattle.acceptance.specs.laws.ReadLaws.{at-token, at-end, deep-program, good-program, by-grammar, token-at, end-at, deep-at, program-of, by-tokens, read-whole}
 
 -- WHAT IS FOUND IN A SOURCE
 

@@ -8,9 +8,9 @@ use native.Mathlib.Omega.{arith}
 use Rattle.base.specs.Codes.{success}
 use Rattle.base.specs.Outcome.{refused}
 use Rattle.parser.specs.Read.{reading}
-use Rattle.checker.specs.Check.{checking}
+use Rattle.typesystem.specs.Check.{checking}
 use Rattle.acceptance.specs.Numbers.{ReadRefusal, CheckRefusal}
-use Rattle.acceptance.specs.RefusalLaws.{refusal-of, reading-refuses, checking-refuses, at-least-ten}
+use Rattle.acceptance.specs.laws.RefusalLaws.{refusal-of, reading-refuses, checking-refuses, at-least-ten}
 
 -- Read refuses with 10 to 17 or 60.
 pub read-refusal : (s : List ℕ) (n q : ℕ) → reading s ≡ refused n q → ReadRefusal n

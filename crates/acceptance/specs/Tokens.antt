@@ -9,7 +9,7 @@ use lib.Dec.{leb}
 use Rattle.base.specs.Choice.{if_then_else_}
 use Rattle.base.specs.Outcome.{Outcome, accepted}
 use Rattle.lexer.specs.Tokens.{Token, item, turn, tokensFrom, tokens}
-use Rattle.acceptance.specs.TokenLaws.{any-fuel}
+use Rattle.acceptance.specs.laws.TokenLaws.{any-fuel}
 
 -- Any two fuels that are no smaller than the number of bytes left give the same tokens, or the same refusal.
 pub fuel-unused : (s : List ℕ) (count i f g : ℕ) → length s ≤ i + f → length s ≤ i + g → tokensFrom f s count i ≡ tokensFrom g s count i

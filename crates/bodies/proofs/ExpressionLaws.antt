@@ -10,33 +10,34 @@ use mathlib.Core.Option.{Option, none, some}
 use lib.ListN.{length}
 use lib.Dec.{eqb, leb}
 use borrow.Author.Tests.{eqb-true, eqb-false, eq-eqb, ne-eqb, le-leb, lt-leb}
+use Rattle.base.specs.Codes.{argumentCount, methodUnknown, nameUnknown, thisInMain, typeUnknown, wrongType}
 use Rattle.base.specs.Choice.{option}
 use Rattle.base.specs.Outcome.{Outcome, accepted, refused, _>>=_}
-use Rattle.base.specs.Table.{col}
+use Rattle.base.specs.contracts.Table.{col}
 use Rattle.lexer.specs.Kinds.{kLiteral, kTrue, kFalse, kThis, isName}
 use Rattle.lexer.specs.Tokens.{Token}
 use Rattle.parser.specs.Tree.{Place, Name, Operator.and, Operator.less, Operator.plus, Operator.minus, Operator.times, Sort, Sort.arguments, Part, Expression, placeE, Ty, Ty.int, Ty.boolean, Ty.intArray, Ty.class, Variable, Class}
 use Rattle.parser.specs.Tree.{Part.literal, Part.truth, Part.variable, Part.this, Part.newArray, Part.newObject, Part.negation, Part.binary, Part.element, Part.arrayLength, Part.call, Part.noArguments, Part.argument}
 use Rattle.parser.specs.Stream.{kindAt, startAt}
-use Rattle.parser.specs.Layout.{rowOf, rowVariables}
-use Rattle.reader.specs.Counting.{covers}
-use Rattle.parser.specs.Post.{isAtom, kindIn}
-use Rattle.reader.specs.Holds.{Holds}
-use Rattle.reader.specs.Matches.{Matches, NameIs}
-use Rattle.checker.specs.ClassTable.{Found, Context, Meaning, meaningType, chain, methodOf, meaning}
-use Rattle.checker.specs.Judge.{judge, must, receiver, arity, invocation}
-use Rattle.base.specs.Tests.{apart, or-neither}
-use Rattle.typing.specs.Choices.{bind-assoc}
+use Rattle.parser.specs.contracts.Layout.{absent, rowOf, rowVariables}
+use Rattle.reader.specs.laws.Counting.{covers}
+use Rattle.parser.specs.contracts.Post.{isAtom, kindInTable}
+use Rattle.reader.specs.contracts.Holds.{Holds}
+use Rattle.reader.specs.contracts.Matches.{Matches, NameIs}
+use Rattle.typesystem.specs.ClassTable.{Found, Context, Meaning, meaningType, chain, methodOf, meaning}
+use Rattle.typesystem.specs.Judge.{judge, must, receiver, arity, invocation}
+use Rattle.base.specs.laws.Tests.{apart, or-neither}
+use Rattle.typing.specs.laws.Choices.{bind-assoc}
 use Rattle.lookup.specs.declared.answer.Judged.{Judged}
 use Rattle.lookup.specs.declared.answer.Judged.the-variants.{Fine, Refused}
-use Rattle.lookup.specs.Standing.{absent, wordAt, Lexemes, Spells, Numbers, no-name, a-name, nothing, Codes, code-int, code-boolean, code-intArray, code-class, VariablesStand, more-variables, MethodStands, World, ListedAt}
-use Rattle.lookup.specs.StandingLaws.{word-in, name-kind, kinds, start-word, name-word, row-there, codes-below}
-use Rattle.lookup.specs.Lookups.{TypeOf, Knows, Fits, rowFound, FindsMethod}
-use Rattle.lookup.specs.ChainLaws.{found-stands}
-use Rattle.lookup.specs.Answers.{settled, settled-fine, settled-refused, Judges, well, ill}
+use Rattle.lookup.specs.contracts.HeldClasses.{wordAt, Lexemes, NameNumber, MaybeNumber, no-name, a-name, noType, Codes, code-int, code-boolean, code-intArray, code-class, VariablesHeld, more-variables, MethodHeld, ClassTableHeld, ListedAt}
+use Rattle.lookup.specs.laws.HeldLaws.{word-in, name-kind, kinds, start-word, name-word, row-there, codes-below}
+use Rattle.lookup.specs.contracts.Lookups.{TypeOf, Knows, Fits, rowFound, FindsMethod}
+use Rattle.lookup.specs.laws.ChainLaws.{found-stands}
+use Rattle.lookup.specs.contracts.Answers.{asJudged, asJudged-fine, asJudged-refused, Judges, well, ill}
 use Rattle.bodies.specs.declared.scope.Scope.{Scope}
-use Rattle.bodies.specs.Scoping.{InScope, PartAt, Means, unmeant, meant, NameTyped}
-use Rattle.bodies.specs.ExpressionPost.{NamePost, ThisPost, AtomPost, ExpressionPost, OperandPost, SinglePost, PairPost, CreationPost, DottedPost, CallPost, InvocationPost, ArgumentsPost, ObjectPost, SameCount}
+use Rattle.bodies.specs.contracts.Scoping.{InScope, PartAt, Means, unmeant, meant, NameTyped}
+use Rattle.bodies.specs.contracts.ExpressionPost.{NamePost, ThisPost, AtomPost, ExpressionPost, OperandPost, SinglePost, PairPost, CreationPost, DottedPost, CallPost, InvocationPost, ArgumentsPost, ObjectPost, SameCount}
 
 -- ANSWERS
 
@@ -130,38 +131,38 @@ few-tokens i = omega (arith, i .world .tokens .count, i .world .tokens .few)
 -- ATOMS
 
 module _ {tab : List ℕ} {s : Scope} {row : ℕ} where
-  pub name-known : {x t : ℕ} → x ≡ wordAt tab 2 row → NameTyped tab s x t → t < nothing → NamePost tab s row (Fine t)
+  pub name-known : {x t : ℕ} → x ≡ wordAt tab 2 row → NameTyped tab s x t → t < noType → NamePost tab s row (Fine t)
   name-known {x} {t} e₂ h low = record { says = λ ts G Γ i p y at m c. go (p .start) (meaning G Γ y) (h .says ts G Γ i y (spelt i p y at m)) }
     where
-      spelt : {ts : List Token} {G : List Class} {Γ : Context} → InScope tab ts G Γ s → (p : Place) (y : List ℕ) → p .row ≡ row → NameIs ts (p .row) y → Spells ts y x
-      spelt {ts} i p y at m = subst (Spells ts y) (ap (wordAt tab 2) at ∙ sym e₂) (name-word (i .world .tokens) (p .row) m)
+      spelt : {ts : List Token} {G : List Class} {Γ : Context} → InScope tab ts G Γ s → (p : Place) (y : List ℕ) → p .row ≡ row → NameIs ts (p .row) y → NameNumber ts y x
+      spelt {ts} i p y at m = subst (NameNumber ts y) (ap (wordAt tab 2) at ∙ sym e₂) (name-word (i .world .tokens) (p .row) m)
 
-      go : {ts : List Token} (p : ℕ) (o : Option Meaning) → Means ts o t → Judges ts (option o (refused 30 p) λ m. accepted (meaningType m)) (Fine t)
+      go : {ts : List Token} (p : ℕ) (o : Option Meaning) → Means ts o t → Judges ts (option o (refused nameUnknown p) λ m. accepted (meaningType m)) (Fine t)
       go p none (unmeant q) = absurd (omega arith)
       go p (some m) (meant c) = well c
 
-  pub name-unknown : {x t at₃ : ℕ} → x ≡ wordAt tab 2 row → NameTyped tab s x t → nothing ≤ t → at₃ ≡ wordAt tab 3 row → NamePost tab s row (Refused 30 at₃)
+  pub name-unknown : {x t at₃ : ℕ} → x ≡ wordAt tab 2 row → NameTyped tab s x t → noType ≤ t → at₃ ≡ wordAt tab 3 row → NamePost tab s row (Refused nameUnknown at₃)
   name-unknown {x} {t} {at₃} e₂ h high e₃ =
       record { says = λ ts G Γ i p y at m c. go (few-tokens i) (p .start) (meaning G Γ y) (place ts i p at m c) (h .says ts G Γ i y (spelt i p y at m)) }
     where
-      spelt : {ts : List Token} {G : List Class} {Γ : Context} → InScope tab ts G Γ s → (p : Place) (y : List ℕ) → p .row ≡ row → NameIs ts (p .row) y → Spells ts y x
-      spelt {ts} i p y at m = subst (Spells ts y) (ap (wordAt tab 2) at ∙ sym e₂) (name-word (i .world .tokens) (p .row) m)
+      spelt : {ts : List Token} {G : List Class} {Γ : Context} → InScope tab ts G Γ s → (p : Place) (y : List ℕ) → p .row ≡ row → NameIs ts (p .row) y → NameNumber ts y x
+      spelt {ts} i p y at m = subst (NameNumber ts y) (ap (wordAt tab 2) at ∙ sym e₂) (name-word (i .world .tokens) (p .row) m)
 
       place : (ts : List Token) {G : List Class} {Γ : Context} → InScope tab ts G Γ s → (p : Place) {y : List ℕ} → p .row ≡ row → NameIs ts (p .row) y → col tab 3 (p .row) ≡ p .start
           → p .start ≡ at₃
       place ts i p at m c = sym (word-in tab 3 (p .row) (row-there (i .world .tokens) (p .row) (m .there)) c) ∙ ap (wordAt tab 3) at ∙ sym e₃
 
       go : {ts : List Token} → length ts ≤ 2048 → (p : ℕ) (o : Option Meaning) → p ≡ at₃ → Means ts o t
-          → Judges ts (option o (refused 30 p) λ m. accepted (meaningType m)) (Refused 30 at₃)
+          → Judges ts (option o (refused nameUnknown p) λ m. accepted (meaningType m)) (Refused nameUnknown at₃)
       go few p none z (unmeant q) = rw z ill
       go few p (some m) z (meant c) = absurd (omega (arith, codes-below few c))
 
-  pub this-main : {at₃ : ℕ} → absent ≤ s .owner → at₃ ≡ wordAt tab 3 row → ThisPost tab s row (Refused 34 at₃)
+  pub this-main : {at₃ : ℕ} → absent ≤ s .owner → at₃ ≡ wordAt tab 3 row → ThisPost tab s row (Refused thisInMain at₃)
   unfolding judge
   this-main {at₃} far e₃ = record { says = λ ts G Γ i p h. go ts i p (Γ .owner) (i .declarer) (sym (start-of row (few-tokens i) h) ∙ sym e₃) }
     where
-      go : (ts : List Token) {G : List Class} {Γ : Context} → InScope tab ts G Γ s → (p : Place) (o : Option (List ℕ)) → Numbers ts o (s .owner) → p .start ≡ at₃
-          → Judges ts (option o (refused 34 (p .start)) λ c. accepted (class c)) (Refused 34 at₃)
+      go : (ts : List Token) {G : List Class} {Γ : Context} → InScope tab ts G Γ s → (p : Place) (o : Option (List ℕ)) → MaybeNumber ts o (s .owner) → p .start ≡ at₃
+          → Judges ts (option o (refused thisInMain (p .start)) λ c. accepted (class c)) (Refused thisInMain at₃)
       go ts i p none (no-name q) z = rw z ill
       go ts i p (some c) (a-name sp) z = absurd (omega (arith, row-there (i .world .tokens) (s .owner) (sp .there)))
 
@@ -169,7 +170,7 @@ module _ {tab : List ℕ} {s : Scope} {row : ℕ} where
   unfolding judge
   this-object near = record { says = λ ts G Γ i p h. go ts p (Γ .owner) (i .declarer) }
     where
-      go : (ts : List Token) (p : Place) (o : Option (List ℕ)) → Numbers ts o (s .owner) → Judges ts (option o (refused 34 (p .start)) λ c. accepted (class c)) (Fine (s .owner))
+      go : (ts : List Token) (p : Place) (o : Option (List ℕ)) → MaybeNumber ts o (s .owner) → Judges ts (option o (refused thisInMain (p .start)) λ c. accepted (class c)) (Fine (s .owner))
       go ts p none (no-name q) = absurd (omega arith)
       go ts p (some c) (a-name sp) = well (code-class sp)
 
@@ -298,10 +299,10 @@ named : {tab : List ℕ} {ts : List Token} (row : ℕ) (p : Place) (c : Name) {l
 unfolding Matches
 named row p c h = (h .matches .1 ∙ ap (λ (j : ℕ). j + 1) (h .at), h .matches .2 .token, h .matches .2 .start)
 
-spells : {tab : List ℕ} {ts : List Token} {G : List Class} {n : ℕ} (row x : ℕ) → x ≡ wordAt tab 2 (row + 1) → World tab n ts G → (p : Place) (c : Name) {left : ℕ} → PartAt tab ts row left (newObject p c) → Spells ts (c .text) x
+spells : {tab : List ℕ} {ts : List Token} {G : List Class} {n : ℕ} (row x : ℕ) → x ≡ wordAt tab 2 (row + 1) → ClassTableHeld tab n ts G → (p : Place) (c : Name) {left : ℕ} → PartAt tab ts row left (newObject p c) → NameNumber ts (c .text) x
 spells {tab} {ts} row x e₂ w p c h =
     let m = named row p c h in
-    subst (Spells ts (c .text)) (ap (wordAt tab 2) (m .0) ∙ sym e₂) (name-word (w .tokens) (c .row) (m .1))
+    subst (NameNumber ts (c .text)) (ap (wordAt tab 2) (m .0) ∙ sym e₂) (name-word (w .tokens) (c .row) (m .1))
 
 module _ {tab : List ℕ} {n row x : ℕ} (e₂ : x ≡ wordAt tab 2 (row + 1)) {b : Bool} (f : Knows tab n x b) where
   pub object-known : b ≡ true → ObjectPost tab n row (Fine x)
@@ -309,17 +310,17 @@ module _ {tab : List ℕ} {n row x : ℕ} (e₂ : x ≡ wordAt tab 2 (row + 1)) 
   object-known is =
       record {
         says = λ s e ts G Γ i p c left h.
-            let w = subst (λ (k : ℕ). World tab k ts G) e (i .world) in
+            let w = subst (λ (k : ℕ). ClassTableHeld tab k ts G) e (i .world) in
             let sp = spells row x e₂ w p c h in
             rw (sym (f .says ts G w (class (c .text)) (code-class sp)) ∙ is) (well (code-class sp));
       }
 
-  pub object-unknown : b ≡ false → {at₁ : ℕ} → at₁ ≡ wordAt tab 1 (row + 1) → ObjectPost tab n row (Refused 24 at₁)
+  pub object-unknown : b ≡ false → {at₁ : ℕ} → at₁ ≡ wordAt tab 1 (row + 1) → ObjectPost tab n row (Refused typeUnknown at₁)
   unfolding judge
   object-unknown is {at₁} e₁ =
       record {
         says = λ s e ts G Γ i p c left h.
-            let w = subst (λ (k : ℕ). World tab k ts G) e (i .world) in
+            let w = subst (λ (k : ℕ). ClassTableHeld tab k ts G) e (i .world) in
             let sp = spells row x e₂ w p c h in
             let m = named row p c h in
             let z : c .start ≡ at₁ = sym (m .2) ∙ sym (start-word (w .tokens) (c .row) (m .1 .there)) ∙ ap (wordAt tab 1) (m .0) ∙ sym e₁ in
@@ -345,7 +346,7 @@ module _ {tab : List ℕ} {left a p : ℕ} where
   unfolding arity Matches
   count-ends far = record { says = λ n ts few es h vs l. go ts few es (h .at) (h .matches) vs (l .at) (l .stand) }
     where
-      go : (ts : List Token) → length ts ≤ 2048 → (es : Part arguments) → rowOf es ≡ a → Matches ts es → (vs : List Variable) → rowVariables vs ≡ p → VariablesStand tab ts vs
+      go : (ts : List Token) → length ts ≤ 2048 → (es : Part arguments) → rowOf es ≡ a → Matches ts es → (vs : List Variable) → rowVariables vs ≡ p → VariablesHeld tab ts vs
           → leb absent p ≡ eqb (arity es) (length vs)
       go ts few noArguments at m [] d s = le-leb absent p (omega (arith, d))
       go ts few noArguments at m (v ∷ vs) d (more-variables w c₃ c₆ s) =
@@ -357,7 +358,7 @@ module _ {tab : List ℕ} {left a p : ℕ} where
     unfolding arity
     count-short far = record { says = λ n ts few es h vs l. go ts few es (h .at) vs (l .at) (l .stand) }
       where
-        go : (ts : List Token) → length ts ≤ 2048 → (es : Part arguments) → rowOf es ≡ a → (vs : List Variable) → rowVariables vs ≡ p → VariablesStand tab ts vs
+        go : (ts : List Token) → length ts ≤ 2048 → (es : Part arguments) → rowOf es ≡ a → (vs : List Variable) → rowVariables vs ≡ p → VariablesHeld tab ts vs
             → false ≡ eqb (arity es) (length vs)
         go ts few noArguments at vs d s = absurd (omega (arith, at))
         go ts few (argument e es) at [] d s = sym (ne-eqb (1 + arity es) 0 (λ z. omega arith))
@@ -368,7 +369,7 @@ module _ {tab : List ℕ} {left a p : ℕ} where
     count-next low {a′} {p′} {r} ea ep f = record { says = λ n ts few es h vs l. go n ts few es (h .at) (h .holds) (h .matches) (h .few) vs (l .at) (l .stand) (l .few) }
       where
         go : (n : ℕ) (ts : List Token) → length ts ≤ 2048 → (es : Part arguments) → rowOf es ≡ a → Holds tab es → Matches ts es → covers es ≤ left → (vs : List Variable) → rowVariables vs ≡ p
-            → VariablesStand tab ts vs → length vs ≤ left → r ≡ eqb (arity es) (length vs)
+            → VariablesHeld tab ts vs → length vs ≤ left → r ≡ eqb (arity es) (length vs)
         go n ts few noArguments at h m l vs d s g = absurd (omega (arith, at))
         go n ts few (argument e es) at h m l [] d s g = absurd (omega (arith, d))
         go n ts few (argument e es) at h m l (v ∷ vs) d (more-variables w c₃ c₆ s) g =
@@ -380,7 +381,7 @@ module _ {tab : List ℕ} {left a p : ℕ} where
 -- EXPRESSIONS
 
 -- the kind of a node's own token
-pub own : {tab : List ℕ} {ts : List Token} {G : List Class} {Γ : Context} {s : Scope} (row : ℕ) {k : ℕ} → k ≡ kindIn tab (s .tokens) row → InScope tab ts G Γ s → k ≡ kindAt ts row
+pub own : {tab : List ℕ} {ts : List Token} {G : List Class} {Γ : Context} {s : Scope} (row : ℕ) {k : ℕ} → k ≡ kindInTable tab (s .tokens) row → InScope tab ts G Γ s → k ≡ kindAt ts row
 own row kind i = kind ∙ kinds (i .world .tokens) row
 
 fewer : {tab : List ℕ} {ts : List Token} (row left : ℕ) {e : Expression} → (left ≡ 0 → ⊥) → PartAt tab ts row left e → PartAt tab ts row (left - 1 + 1) e
@@ -390,7 +391,7 @@ module _ {tab : List ℕ} {s : Scope} {left row : ℕ} where
   pub expression-none : left ≡ 0 → {n p : ℕ} → ExpressionPost tab s left row (Refused n p)
   expression-none z = record { says = λ ts G Γ i e h. absurd (omega (arith, positive e, h .few)) }
 
-  module _ (more : left ≡ 0 → ⊥) {k : ℕ} (kind : k ≡ kindIn tab (s .tokens) row) where
+  module _ (more : left ≡ 0 → ⊥) {k : ℕ} (kind : k ≡ kindInTable tab (s .tokens) row) where
     pub expression-atom : {a : Bool} → a ≡ isAtom k → a ≡ true → {r : Judged} → AtomPost tab s k row r → ExpressionPost tab s left row r
     expression-atom ea is f = record { says = λ ts G Γ i e h. f .says ts G Γ i e left h (own row kind i) (sym ea ∙ is) }
 
@@ -527,7 +528,7 @@ module _ {tab : List ℕ} {s : Scope} {left row want : ℕ} {v : Judged} (f : Ex
               rw (w .1, sym (g .says ts G (i .world) (i .many) (w .0) u (w .2) c) ∙ yes′);
         }
 
-    pub operand-wrong : b ≡ false → {at₃ : ℕ} → at₃ ≡ wordAt tab 3 row → OperandPost tab s left row want (Refused 31 at₃)
+    pub operand-wrong : b ≡ false → {at₃ : ℕ} → at₃ ≡ wordAt tab 3 row → OperandPost tab s left row want (Refused wrongType at₃)
     operand-wrong no′ e₃ =
         record {
           says = λ ts G Γ i e h u c.
@@ -539,19 +540,19 @@ module _ {tab : List ℕ} {s : Scope} {left row want : ℕ} {v : Judged} (f : Ex
   operand-refused is = record { says = λ ts G Γ i e h u c. rw (judges-refused (f .says ts G Γ i e h) is) }
 
 -- the answer for a part that must fit, and what follows
-pub goes : {A : Type 0} (o : Outcome Ty) (test : Ty → Outcome (Unit {0})) (next : Outcome A) {v : Judged} {w : ℕ} → v ≡ settled (o >>= test) → v ≡ Fine w
+pub goes : {A : Type 0} (o : Outcome Ty) (test : Ty → Outcome (Unit {0})) (next : Outcome A) {v : Judged} {w : ℕ} → v ≡ asJudged (o >>= test) → v ≡ Fine w
     → (o >>= λ t. test t >>= λ _. next) ≡ next
 goes o test next e is = bind-assoc o test (λ _. next) ∙ rest
   where
     rest : (o >>= test >>= λ _. next) ≡ next
-    rest = rw (settled-fine (o >>= test) e is)
+    rest = rw (asJudged-fine (o >>= test) e is)
 
-pub halts : {A : Type 0} (o : Outcome Ty) (test : Ty → Outcome (Unit {0})) (next : Outcome A) {v : Judged} {n p : ℕ} → v ≡ settled (o >>= test) → v ≡ Refused n p
+pub halts : {A : Type 0} (o : Outcome Ty) (test : Ty → Outcome (Unit {0})) (next : Outcome A) {v : Judged} {n p : ℕ} → v ≡ asJudged (o >>= test) → v ≡ Refused n p
     → (o >>= λ t. test t >>= λ _. next) ≡ refused n p
 halts o test next {n = n} {p = p} e is = bind-assoc o test (λ _. next) ∙ rest
   where
     rest : (o >>= test >>= λ _. next) ≡ refused n p
-    rest = rw (settled-refused (o >>= test) e is)
+    rest = rw (asJudged-refused (o >>= test) e is)
 
 module _ {tab : List ℕ} {s : Scope} {left row want answer first : ℕ} (e₄ : first ≡ wordAt tab 4 row) {v : Judged} (f : OperandPost tab s left first want v) where
   pub single-fine : {w : ℕ} → v ≡ Fine w → SinglePost tab s left row want answer (Fine answer)
@@ -599,10 +600,10 @@ module _ {tab : List ℕ} {s : Scope} {left row want want′ answer first : ℕ}
 -- `new` AND `.`
 
 -- the kind of the token after the node's own
-pub next : {tab : List ℕ} {ts : List Token} {G : List Class} {Γ : Context} {s : Scope} (row : ℕ) {k : ℕ} → k ≡ kindIn tab (s .tokens) (row + 1) → InScope tab ts G Γ s → (r : ℕ) → r ≡ row → k ≡ kindAt ts (r + 1)
+pub next : {tab : List ℕ} {ts : List Token} {G : List Class} {Γ : Context} {s : Scope} (row : ℕ) {k : ℕ} → k ≡ kindInTable tab (s .tokens) (row + 1) → InScope tab ts G Γ s → (r : ℕ) → r ≡ row → k ≡ kindAt ts (r + 1)
 next {ts = ts} row kind i r e = kind ∙ kinds (i .world .tokens) (row + 1) ∙ ap (λ (j : ℕ). kindAt ts (j + 1)) (sym e)
 
-module _ {tab : List ℕ} {s : Scope} {left row k : ℕ} (kind : k ≡ kindIn tab (s .tokens) (row + 1)) where
+module _ {tab : List ℕ} {s : Scope} {left row k : ℕ} (kind : k ≡ kindInTable tab (s .tokens) (row + 1)) where
   pub creation-array : k ≡ 11 → {a : Judged} → SinglePost tab s left row 2048 2050 a → CreationPost tab s left row a
   unfolding Holds Matches judge covers
   creation-array is′ {a} f = record { says = λ ts G Γ i e h is. go ts G Γ i e (ap (kindAt ts) (h .at) ∙ is) (h .at) (h .holds) (h .matches) (h .few) }
@@ -711,7 +712,7 @@ module _ {tab : List ℕ} {s : Scope} {left row first : ℕ} (e₄ : first ≡ w
       record { says = λ ts G Γ i p e m es h. judged-refused (rw (judges-refused (f .says ts G Γ i e (object i p e m es h)) is)) }
 
   module _ {t : ℕ} (is : v ≡ Fine t) where
-    pub call-plain : 2048 ≤ t → {at₃ : ℕ} → at₃ ≡ wordAt tab 3 first → CallPost tab s left row (Refused 31 at₃)
+    pub call-plain : 2048 ≤ t → {at₃ : ℕ} → at₃ ≡ wordAt tab 3 first → CallPost tab s left row (Refused wrongType at₃)
     unfolding judge
     call-plain high {at₃} e₃ =
         record {
@@ -721,7 +722,7 @@ module _ {tab : List ℕ} {s : Scope} {left row first : ℕ} (e₄ : first ≡ w
         }
       where
         go : (ts : List Token) (G : List Class) (Γ : Context) → InScope tab ts G Γ s → (e : Expression) → PartAt tab ts first left e → (u : Ty) → Codes ts u t → (k : List ℕ → Outcome Ty)
-            → Judges ts (receiver e u k) (Refused 31 at₃)
+            → Judges ts (receiver e u k) (Refused wrongType at₃)
         go ts G Γ i e h int c k = judged-refused (rw (sym (start-of first (few-tokens i) h) ∙ sym e₃))
         go ts G Γ i e h boolean c k = judged-refused (rw (sym (start-of first (few-tokens i) h) ∙ sym e₃))
         go ts G Γ i e h intArray c k = judged-refused (rw (sym (start-of first (few-tokens i) h) ∙ sym e₃))
@@ -736,7 +737,7 @@ module _ {tab : List ℕ} {s : Scope} {left row first : ℕ} (e₄ : first ≡ w
               rw (w .1) (go ts e (w .0) (w .2) _ (λ c sp. g .says ts G Γ i p e m es h c sp));
         }
       where
-        go : (ts : List Token) (e : Expression) (u : Ty) → Codes ts u t → (k : List ℕ → Outcome Ty) → ((c : List ℕ) → Spells ts c t → Judges ts (k c) r) → Judges ts (receiver e u k) r
+        go : (ts : List Token) (e : Expression) (u : Ty) → Codes ts u t → (k : List ℕ → Outcome Ty) → ((c : List ℕ) → NameNumber ts c t → Judges ts (k c) r) → Judges ts (receiver e u k) r
         go ts e int (code-int q) k g = absurd (omega arith)
         go ts e boolean (code-boolean q) k g = absurd (omega arith)
         go ts e intArray (code-intArray q) k g = absurd (omega arith)
@@ -765,19 +766,19 @@ arguments-at row left lx p e m es h =
 -- what is known of the method that is looked for, and of its parameters
 module _ (tab : List ℕ) (s : Scope) (left row c x f : ℕ) {ts : List Token} {G : List Class} {Γ : Context} (i : InScope tab ts G Γ s) where
   looked : x ≡ wordAt tab 2 (row + 1) → FindsMethod tab (s .tokens) (s .classes) c x f → (p : Place) (e : Expression) (m : Name) (es : Part arguments)
-      → PartAt tab ts row (left + 1) (Part.call p e m es) → (name : List ℕ) → Spells ts name c → f ≡ rowFound (methodOf G name (m .text))
+      → PartAt tab ts row (left + 1) (Part.call p e m es) → (name : List ℕ) → NameNumber ts name c → f ≡ rowFound (methodOf G name (m .text))
   unfolding methodOf chain
   looked e₂ finds p e m es h name sp =
       let w = called row p e m es h in
       rw (i .many)
       (finds .says ts G (i .world) (some name) (a-name sp) (m .text)
-      (subst (Spells ts (m .text)) (ap (wordAt tab 2) (w .0) ∙ sym e₂) (name-word (i .world .tokens) (m .row) (w .1))))
+      (subst (NameNumber ts (m .text)) (ap (wordAt tab 2) (w .0) ∙ sym e₂) (name-word (i .world .tokens) (m .row) (w .1))))
 
-  stands : (name y : List ℕ) {F : Found} → methodOf G name y ≡ some F → MethodStands tab (s .tokens) ts (F .method)
+  stands : (name y : List ℕ) {F : Found} → methodOf G name y ≡ some F → MethodHeld tab (s .tokens) ts (F .method)
   unfolding methodOf chain
   stands name y z = found-stands (i .world) (length G) (some name) y z
 
-  module _ (taken : ℕ) (near : f < absent) (e₄ : taken ≡ wordAt tab 4 f) (F : Found) (z : f ≡ F .method .name .row) (st : MethodStands tab (s .tokens) ts (F .method)) where
+  module _ (taken : ℕ) (near : f < absent) (e₄ : taken ≡ wordAt tab 4 f) (F : Found) (z : f ≡ F .method .name .row) (st : MethodHeld tab (s .tokens) ts (F .method)) where
     taken-at : ListedAt tab (s .tokens) ts taken (F .method .parameters)
     taken-at =
         record {
@@ -798,7 +799,7 @@ module _ (tab : List ℕ) (s : Scope) (left row c x f : ℕ) {ts : List Token} {
         type .says ts (i .world .tokens) (F .method .result) d (st .head .type)
 
 module _ {tab : List ℕ} {s : Scope} {left row c x f : ℕ} (e₂ : x ≡ wordAt tab 2 (row + 1)) (finds : FindsMethod tab (s .tokens) (s .classes) c x f) where
-  pub invocation-unknown : absent ≤ f → {at₁ : ℕ} → at₁ ≡ wordAt tab 1 (row + 1) → InvocationPost tab s left row c (Refused 32 at₁)
+  pub invocation-unknown : absent ≤ f → {at₁ : ℕ} → at₁ ≡ wordAt tab 1 (row + 1) → InvocationPost tab s left row c (Refused methodUnknown at₁)
   invocation-unknown far {at₁} e₁ =
       record {
         says = λ ts G Γ i p e m es h name sp.
@@ -807,13 +808,13 @@ module _ {tab : List ℕ} {s : Scope} {left row c x f : ℕ} (e₂ : x ≡ wordA
       }
     where
       go : {ts : List Token} {G : List Class} {Γ : Context} → InScope tab ts G Γ s → (m : Name) (count : ℕ) (k : List Variable → Outcome (Unit {0})) (o : Option Found)
-          → ((F : Found) → o ≡ some F → MethodStands tab (s .tokens) ts (F .method)) → f ≡ rowFound o → m .start ≡ at₁ → Judges ts (invocation m count k o) (Refused 32 at₁)
+          → ((F : Found) → o ≡ some F → MethodHeld tab (s .tokens) ts (F .method)) → f ≡ rowFound o → m .start ≡ at₁ → Judges ts (invocation m count k o) (Refused methodUnknown at₁)
       go i m count k none st e z = rw z ill
       go i m count k (some F) st e z = absurd (omega (arith, e, row-there (i .world .tokens) (F .method .name .row) (st F refl .head .name .token .there)))
 
   -- an invocation is answered where the method is there
   found : (near : f < absent) (r : Judged) → ((ts : List Token) (G : List Class) (Γ : Context) (i : InScope tab ts G Γ s) (p : Place) (e : Expression) (m : Name) (es : Part arguments)
-      → PartAt tab ts row (left + 1) (Part.call p e m es) → (F : Found) → f ≡ F .method .name .row → MethodStands tab (s .tokens) ts (F .method)
+      → PartAt tab ts row (left + 1) (Part.call p e m es) → (F : Found) → f ≡ F .method .name .row → MethodHeld tab (s .tokens) ts (F .method)
       → Judges ts (invocation m (arity es) (judge G Γ es) (some F)) r)
       → InvocationPost tab s left row c r
   found near r g =
@@ -823,15 +824,15 @@ module _ {tab : List ℕ} {s : Scope} {left row c x f : ℕ} (e₂ : x ≡ wordA
       }
     where
       go : (ts : List Token) (G : List Class) (Γ : Context) → InScope tab ts G Γ s → (p : Place) (e : Expression) (m : Name) (es : Part arguments) → PartAt tab ts row (left + 1) (Part.call p e m es)
-          → (o : Option Found) → ((F : Found) → o ≡ some F → MethodStands tab (s .tokens) ts (F .method)) → f ≡ rowFound o → Judges ts (invocation m (arity es) (judge G Γ es) o) r
+          → (o : Option Found) → ((F : Found) → o ≡ some F → MethodHeld tab (s .tokens) ts (F .method)) → f ≡ rowFound o → Judges ts (invocation m (arity es) (judge G Γ es) o) r
       go ts G Γ i p e m es h none st z = absurd (omega (arith, z))
       go ts G Γ i p e m es h (some F) st z = g ts G Γ i p e m es h F z (st F refl)
 
   module _ (near : f < absent) {given taken : ℕ} (e₅ : given ≡ wordAt tab 5 row) (e₄ : taken ≡ wordAt tab 4 f) {b : Bool} (same : SameCount tab (s .tokens) given taken b)
       (most : left ≤ s .tokens) where
-    pub invocation-count : b ≡ false → {at₁ : ℕ} → at₁ ≡ wordAt tab 1 (row + 1) → InvocationPost tab s left row c (Refused 33 at₁)
+    pub invocation-count : b ≡ false → {at₁ : ℕ} → at₁ ≡ wordAt tab 1 (row + 1) → InvocationPost tab s left row c (Refused argumentCount at₁)
     invocation-count no′ {at₁} e₁ =
-        found near (Refused 33 at₁) λ ts G Γ i p e m es h F z st.
+        found near (Refused argumentCount at₁) λ ts G Γ i p e m es h F z st.
         let q = sym (counts tab s left row c x f i taken near e₄ F z st given e₅ most same p e m es h) ∙ no′ in
         let d = name-start row (i .world .tokens) p e m es h e₁ in
         rw (q, d) ill
@@ -844,7 +845,7 @@ module _ {tab : List ℕ} {s : Scope} {left row c x f : ℕ} (e₂ : x ≡ wordA
           let k = eqb-true (arity es) (length (F .method .parameters)) q in
           let u = arguments-at row left (i .world .tokens) p e m es h in
           let l = taken-at tab s left row c x f i taken near e₄ F z st in
-          let a = settled-fine (judge G Γ es (F .method .parameters))
+          let a = asJudged-fine (judge G Γ es (F .method .parameters))
           (args .says ts G Γ i es (record { at = u .at ∙ sym e₅; holds = u .holds; matches = u .matches; few = u .few }) (s .tokens) (F .method .parameters) l k) is in
           rw (q, a) (well (result-code tab s left row c x f i taken near e₄ F z st e₃ type))
 
@@ -855,7 +856,7 @@ module _ {tab : List ℕ} {s : Scope} {left row c x f : ℕ} (e₂ : x ≡ wordA
           let k = eqb-true (arity es) (length (F .method .parameters)) q in
           let u = arguments-at row left (i .world .tokens) p e m es h in
           let l = taken-at tab s left row c x f i taken near e₄ F z st in
-          let a = settled-refused (judge G Γ es (F .method .parameters))
+          let a = asJudged-refused (judge G Γ es (F .method .parameters))
           (args .says ts G Γ i es (record { at = u .at ∙ sym e₅; holds = u .holds; matches = u .matches; few = u .few }) (s .tokens) (F .method .parameters) l k) is in
           rw (q, a) ill
 
@@ -869,14 +870,14 @@ module _ {tab : List ℕ} {s : Scope} {left row parameter : ℕ} where
   unfolding judge Matches
   arguments-end far = record { says = λ ts G Γ i es h n vs l a. go ts G Γ (few-tokens i) es vs (h .at) (h .matches) }
     where
-      go : (ts : List Token) (G : List Class) (Γ : Context) → length ts ≤ 2048 → (es : Part arguments) (vs : List Variable) → rowOf es ≡ row → Matches ts es → Fine 0 ≡ settled (judge G Γ es vs)
+      go : (ts : List Token) (G : List Class) (Γ : Context) → length ts ≤ 2048 → (es : Part arguments) (vs : List Variable) → rowOf es ≡ row → Matches ts es → Fine 0 ≡ asJudged (judge G Γ es vs)
       go ts G Γ few noArguments vs at m = refl
       go ts G Γ few (argument e es) vs at m = absurd (omega (arith, there ts e (m .0), at))
 
   module _ (near : row < absent) {t want : ℕ} (e₃ : t ≡ wordAt tab 3 parameter) (type : TypeOf tab (s .tokens) t want) {v : Judged} (f : OperandPost tab s left row want v) where
     -- the first argument and its parameter
     one : {ts : List Token} {G : List Class} {Γ : Context} → InScope tab ts G Γ s → (e : Expression) (es : Part arguments) → rowOf e ≡ row → Holds tab (argument e es) → Matches ts (argument e es)
-        → covers (argument e es) ≤ left → (w : Variable) (vs : List Variable) → w .name .row ≡ parameter → VariablesStand tab ts (w ∷ vs) → v ≡ settled (judge G Γ e >>= λ u. must G e (w .type .type) u)
+        → covers (argument e es) ≤ left → (w : Variable) (vs : List Variable) → w .name .row ≡ parameter → VariablesHeld tab ts (w ∷ vs) → v ≡ asJudged (judge G Γ e >>= λ u. must G e (w .type .type) u)
     unfolding Holds Matches covers
     one {ts} {G} {Γ} i e es at h m few w vs d (more-variables x c₃ c₆ st) =
         f .says ts G Γ i e (record { at = at; holds = h .0; matches = m .0; few = omega arith }) (w .type .type)
@@ -888,7 +889,7 @@ module _ {tab : List ℕ} {s : Scope} {left row parameter : ℕ} where
     arguments-refused {n} {p} is = record { says = λ ts G Γ i es h k vs l a. go ts G Γ i es (h .at) (h .holds) (h .matches) (h .few) vs (l .at) (l .stand) a }
       where
         go : (ts : List Token) (G : List Class) (Γ : Context) → InScope tab ts G Γ s → (es : Part arguments) → rowOf es ≡ row → Holds tab es → Matches ts es → covers es ≤ left → (vs : List Variable)
-            → rowVariables vs ≡ parameter → VariablesStand tab ts vs → arity es ≡ length vs → Refused n p ≡ settled (judge G Γ es vs)
+            → rowVariables vs ≡ parameter → VariablesHeld tab ts vs → arity es ≡ length vs → Refused n p ≡ asJudged (judge G Γ es vs)
         go ts G Γ i noArguments at h m few vs d st a = absurd (omega (arith, at))
         go ts G Γ i (argument e es) at h m few [] d st a = absurd (omega arith)
         go ts G Γ i (argument e es) at h m few (w ∷ vs) d st a =
@@ -905,8 +906,8 @@ module _ {tab : List ℕ} {s : Scope} {left row parameter : ℕ} where
             record { at = sym (word-in tab 6 (rowOf e) (omega (arith, at, near)) (h .1)) ∙ ap (wordAt tab 6) at ∙ sym e₆; holds = h .2; matches = m .1; few = omega (arith, positive e) }
 
         rest : (ts : List Token) (G : List Class) (Γ : Context) → InScope tab ts G Γ s → (e : Expression) (es : Part arguments) → rowOf e ≡ row → Holds tab (argument e es) → Matches ts (argument e es)
-            → covers (argument e es) ≤ left → (k : ℕ) (w : Variable) (vs : List Variable) → w .name .row ≡ parameter → VariablesStand tab ts (w ∷ vs) → length (w ∷ vs) ≤ k
-            → arity es ≡ length vs → r ≡ settled (judge G Γ es vs)
+            → covers (argument e es) ≤ left → (k : ℕ) (w : Variable) (vs : List Variable) → w .name .row ≡ parameter → VariablesHeld tab ts (w ∷ vs) → length (w ∷ vs) ≤ k
+            → arity es ≡ length vs → r ≡ asJudged (judge G Γ es vs)
         rest ts G Γ i e es at h m few k w vs d (more-variables x c₃ c₆ st) l a =
             g .says ts G Γ i es (after ts e es at h m few) k vs
             (record {
@@ -917,7 +918,7 @@ module _ {tab : List ℕ} {s : Scope} {left row parameter : ℕ} where
             a
 
         go : (ts : List Token) (G : List Class) (Γ : Context) → InScope tab ts G Γ s → (es : Part arguments) → rowOf es ≡ row → Holds tab es → Matches ts es → covers es ≤ left → (k : ℕ) (vs : List Variable)
-            → rowVariables vs ≡ parameter → VariablesStand tab ts vs → length vs ≤ k → arity es ≡ length vs → r ≡ settled (judge G Γ es vs)
+            → rowVariables vs ≡ parameter → VariablesHeld tab ts vs → length vs ≤ k → arity es ≡ length vs → r ≡ asJudged (judge G Γ es vs)
         go ts G Γ i noArguments at h m few k vs d st l a = absurd (omega (arith, at))
         go ts G Γ i (argument e es) at h m few k [] d st l a = absurd (omega arith)
         go ts G Γ i (argument e es) at h m few k (w ∷ vs) d st l a =

@@ -8,21 +8,21 @@ use lib.ListN.{length, getD}
 use Rattle.base.specs.Choice.{option}
 use Rattle.lexer.specs.Tokens.{Token}
 use Rattle.parser.specs.Tree.{Variable, Class}
-use Rattle.checker.specs.ClassTable.{Slot, Context, ofObject, variableNamed, chain, nearestField, meaning}
-use Rattle.lookup.specs.Standing.{Lexemes, Spells, nothing, chainFrom, ListedAt}
-use Rattle.lookup.specs.Lookups.{Typed, typed, VariableTyped}
-use Rattle.lookup.specs.Fields.{Tells, no-field, a-field, FieldsHeld}
-use Rattle.lookup.specs.VariableLaws.{typed-some, typed-none, variable-left, variable-right}
+use Rattle.typesystem.specs.ClassTable.{Slot, Context, ofObject, variableNamed, chain, nearestField, meaning}
+use Rattle.lookup.specs.contracts.HeldClasses.{Lexemes, NameNumber, noType, chainFrom, ListedAt}
+use Rattle.lookup.specs.contracts.Lookups.{SlotTyped, typed, VariableTyped}
+use Rattle.lookup.specs.contracts.Fields.{Tells, no-field, a-field, FieldsHeld}
+use Rattle.lookup.specs.laws.VariableLaws.{typed-some, typed-none, variable-left, variable-right}
 use Rattle.bodies.specs.declared.scope.Scope.{Scope}
-use Rattle.bodies.specs.Scoping.{InScope, Means, unmeant, meant, NameTyped}
+use Rattle.bodies.specs.contracts.Scoping.{InScope, Means, unmeant, meant, NameTyped}
 
 -- what a list of variables says of a name
 listed : {tab : List ℕ} {n x t : ℕ} (row : ℕ) → VariableTyped tab n n row x t → {ts : List Token} → Lexemes tab n ts → {vs : List Variable} → ListedAt tab n ts row vs
-    → (text : List ℕ) → Spells ts text x → Typed ts (variableNamed vs text) t
+    → (text : List ℕ) → NameNumber ts text x → SlotTyped ts (variableNamed vs text) t
 listed row v {ts} lx {vs} l text sp = v .says ts lx vs (l .at) (l .stand) (l .few) text sp
 
 -- a variable is what the name means
-variable-means : {ts : List Token} (G : List Class) (Γ : Context) (text : List ℕ) {t : ℕ} → t < nothing → Typed ts (variableNamed (Γ .variables) text) t → Means ts (meaning G Γ text) t
+variable-means : {ts : List Token} (G : List Class) (Γ : Context) (text : List ℕ) {t : ℕ} → t < noType → SlotTyped ts (variableNamed (Γ .variables) text) t → Means ts (meaning G Γ text) t
 unfolding meaning
 variable-means G Γ text low h = let w = typed-some low h in rw (w .1) (meant (w .2))
 
@@ -42,7 +42,7 @@ field-means {ts} G Γ text {t} {p} e h = rw e (go (Γ .owner) h)
     go (some c) h = pick (nearestField (chain G c) text) h
 
 module _ {tab : List ℕ} {s : Scope} {x t : ℕ} (first : VariableTyped tab (s .tokens) (s .tokens) (s .parameters) x t) where
-  pub name-parameter : t < nothing → NameTyped tab s x t
+  pub name-parameter : t < noType → NameTyped tab s x t
   name-parameter low =
       record {
         says = λ ts G Γ i text sp.
@@ -50,21 +50,21 @@ module _ {tab : List ℕ} {s : Scope} {x t : ℕ} (first : VariableTyped tab (s 
             variable-means G Γ text low (rw (i .seen, variable-left (i .given) (i .own) text (w .1)) (typed (w .2)));
       }
 
-  module _ (high : nothing ≤ t) {u : ℕ} (second : VariableTyped tab (s .tokens) (s .tokens) (s .locals) x u) where
+  module _ (high : noType ≤ t) {u : ℕ} (second : VariableTyped tab (s .tokens) (s .tokens) (s .locals) x u) where
     -- what parameters and locals say
-    both : {ts : List Token} {G : List Class} {Γ : Context} → InScope tab ts G Γ s → (text : List ℕ) → Spells ts text x → Typed ts (variableNamed (Γ .variables) text) u
+    both : {ts : List Token} {G : List Class} {Γ : Context} → InScope tab ts G Γ s → (text : List ℕ) → NameNumber ts text x → SlotTyped ts (variableNamed (Γ .variables) text) u
     both {ts} i text sp =
         let few : length ts ≤ 2048 = omega (arith, i .world .tokens .count, i .world .tokens .few) in
         rw (i .seen)
         (variable-right (i .given) (i .own) text (typed-none few high (listed (s .parameters) first (i .world .tokens) (i .given-listed) text sp))
         (listed (s .locals) second (i .world .tokens) (i .own-listed) text sp))
 
-    pub name-local : u < nothing → NameTyped tab s x u
+    pub name-local : u < noType → NameTyped tab s x u
     name-local low = record { says = λ ts G Γ i text sp. variable-means G Γ text low (both i text sp) }
 
-    module _ (far : nothing ≤ u) where
+    module _ (far : noType ≤ u) where
       -- a number of no name means nothing
-      pub name-past : 2048 ≤ x → NameTyped tab s x nothing
+      pub name-past : 2048 ≤ x → NameTyped tab s x noType
       name-past high′ = record { says = λ ts G Γ i text sp. absurd (omega (arith, sp .there, i .world .tokens .count, i .world .tokens .few)) }
 
       pub name-field : {fields : List ℕ} → FieldsHeld tab (s .tokens) (s .classes) (s .owner) fields → NameTyped tab s x (getD fields x 0)

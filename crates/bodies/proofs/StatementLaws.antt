@@ -6,30 +6,31 @@ use mathlib.Core.Path.{_≡_, refl, sym, ap, _∙_}
 use mathlib.Core.List.{List}
 use mathlib.Core.Bool.{Bool, true, false}
 use lib.ListN.{length}
+use Rattle.base.specs.Codes.{wrongType}
 use Rattle.base.specs.Outcome.{_>>=_}
-use Rattle.base.specs.Table.{col}
+use Rattle.base.specs.contracts.Table.{col}
 use Rattle.lexer.specs.Kinds.{isName}
 use Rattle.lexer.specs.Tokens.{Token}
 use Rattle.parser.specs.Tree.{Place, Sort.statements, Part, Expression, Statement, Ty.int, Ty.boolean, Ty.intArray, Class}
 use Rattle.parser.specs.Tree.{Part.block, Part.conditional, Part.loop, Part.print, Part.assign, Part.assignElement, Part.noStatements, Part.sequence}
 use Rattle.parser.specs.Stream.{kindAt}
-use Rattle.parser.specs.Layout.{rowOf}
-use Rattle.reader.specs.Counting.{covers}
-use Rattle.parser.specs.Post.{kindIn}
-use Rattle.reader.specs.Holds.{Holds}
-use Rattle.reader.specs.Matches.{Matches}
-use Rattle.checker.specs.ClassTable.{Context}
-use Rattle.checker.specs.Judge.{judge, must}
+use Rattle.parser.specs.contracts.Layout.{absent, rowOf}
+use Rattle.reader.specs.laws.Counting.{covers}
+use Rattle.parser.specs.contracts.Post.{kindInTable}
+use Rattle.reader.specs.contracts.Holds.{Holds}
+use Rattle.reader.specs.contracts.Matches.{Matches}
+use Rattle.typesystem.specs.ClassTable.{Context}
+use Rattle.typesystem.specs.Judge.{judge, must}
 use Rattle.lookup.specs.declared.answer.Judged.{Judged}
 use Rattle.lookup.specs.declared.answer.Judged.the-variants.{Fine, Refused}
-use Rattle.lookup.specs.Standing.{absent, wordAt, code-int, code-boolean, code-intArray}
-use Rattle.lookup.specs.StandingLaws.{word-in, name-kind, row-there}
-use Rattle.lookup.specs.Lookups.{Fits}
-use Rattle.lookup.specs.Answers.{settled, goes-on, stops}
+use Rattle.lookup.specs.contracts.HeldClasses.{wordAt, code-int, code-boolean, code-intArray}
+use Rattle.lookup.specs.laws.HeldLaws.{word-in, name-kind, row-there}
+use Rattle.lookup.specs.contracts.Lookups.{Fits}
+use Rattle.lookup.specs.contracts.Answers.{asJudged, goes-on, stops}
 use Rattle.bodies.specs.declared.scope.Scope.{Scope}
-use Rattle.bodies.specs.Scoping.{InScope, PartAt}
-use Rattle.bodies.specs.ExpressionPost.{NamePost, OperandPost}
-use Rattle.bodies.specs.StatementPost.{StatementPost, ListPost, ConditionalPost, BranchesPost, LoopPost, AssignmentPost, AssignedPost, ValuePost}
+use Rattle.bodies.specs.contracts.Scoping.{InScope, PartAt}
+use Rattle.bodies.specs.contracts.ExpressionPost.{NamePost, OperandPost}
+use Rattle.bodies.specs.contracts.StatementPost.{StatementPost, ListPost, ConditionalPost, BranchesPost, LoopPost, AssignmentPost, AssignedPost, ValuePost}
 use Rattle.bodies.proofs.ExpressionLaws.{judges-fine, judges-refused, part-in, few-tokens, goes, halts, own, next}
 
 -- a statement has a node
@@ -64,7 +65,7 @@ module _ (tab : List ℕ) (ts : List Token) (row left : ℕ) (p : Place) (x : Li
 
 module _ {tab : List ℕ} {s : Scope} {left row first : ℕ} (e₄ : first ≡ wordAt tab 4 row) {v : Judged} (f : OperandPost tab s left first 2048 v) where
   index-settled : (ts : List Token) (G : List Class) (Γ : Context) → InScope tab ts G Γ s → (p : Place) (x : List ℕ) (i e : Expression)
-      → PartAt tab ts row (left + 1) (assignElement p x i e) → v ≡ settled (judge G Γ i >>= λ u. must G i int u)
+      → PartAt tab ts row (left + 1) (assignElement p x i e) → v ≡ asJudged (judge G Γ i >>= λ u. must G i int u)
   index-settled ts G Γ sc p x i e h = f .says ts G Γ sc i (rw e₄ (index-at tab ts row left p x i e (few-tokens sc) h)) int (code-int refl)
 
   pub value-first : {n p : ℕ} → v ≡ Refused n p → ValuePost tab s left row (Refused n p)
@@ -88,17 +89,17 @@ name-place : (tab : List ℕ) (ts : List Token) (row : ℕ) (p : Place) → p .r
 name-place tab ts row p at low c = ap (wordAt tab 3) (sym at) ∙ word-in tab 3 (p .row) low c
 
 -- the token after the name tells which assignment it is
-no-element : {tab : List ℕ} {ts : List Token} {G : List Class} {Γ : Context} {s : Scope} (row left : ℕ) {k : ℕ} → k ≡ kindIn tab (s .tokens) (row + 1) → (k ≡ 36 → ⊥) → InScope tab ts G Γ s
+no-element : {tab : List ℕ} {ts : List Token} {G : List Class} {Γ : Context} {s : Scope} (row left : ℕ) {k : ℕ} → k ≡ kindInTable tab (s .tokens) (row + 1) → (k ≡ 36 → ⊥) → InScope tab ts G Γ s
     → (p : Place) (x : List ℕ) (i e : Expression) → PartAt tab ts row left (assignElement p x i e) → ⊥
 unfolding Matches
 no-element row left kind other sc p x i e h = other (next row kind sc (p .row) (h .at) ∙ h .matches .1 .is)
 
-no-whole : {tab : List ℕ} {ts : List Token} {G : List Class} {Γ : Context} {s : Scope} (row left : ℕ) {k : ℕ} → k ≡ kindIn tab (s .tokens) (row + 1) → k ≡ 36 → InScope tab ts G Γ s
+no-whole : {tab : List ℕ} {ts : List Token} {G : List Class} {Γ : Context} {s : Scope} (row left : ℕ) {k : ℕ} → k ≡ kindInTable tab (s .tokens) (row + 1) → k ≡ 36 → InScope tab ts G Γ s
     → (p : Place) (x : List ℕ) (e : Expression) → PartAt tab ts row left (assign p x e) → ⊥
 unfolding Matches
 no-whole row left kind is sc p x e h = omega (arith, is, next row kind sc (p .row) (h .at), h .matches .1 .is)
 
-module _ {tab : List ℕ} {s : Scope} {left row target k : ℕ} (kind : k ≡ kindIn tab (s .tokens) (row + 1)) where
+module _ {tab : List ℕ} {s : Scope} {left row target k : ℕ} (kind : k ≡ kindInTable tab (s .tokens) (row + 1)) where
   pub assigned-whole : (k ≡ 36 → ⊥) → {first : ℕ} → first ≡ wordAt tab 4 row → {r : Judged} → OperandPost tab s left first target r → AssignedPost tab s left row target r
   unfolding Holds Matches covers
   assigned-whole other {first} e₄ f =
@@ -119,7 +120,7 @@ module _ {tab : List ℕ} {s : Scope} {left row target k : ℕ} (kind : k ≡ ki
               rw (sym (fit .says ts G (sc .world) (sc .many) t intArray c (code-intArray refl)) ∙ yes′) (f .says ts G Γ sc p x i e h);
         }
 
-    pub assigned-wrong : b ≡ false → {at₃ : ℕ} → at₃ ≡ wordAt tab 3 row → AssignedPost tab s left row target (Refused 31 at₃)
+    pub assigned-wrong : b ≡ false → {at₃ : ℕ} → at₃ ≡ wordAt tab 3 row → AssignedPost tab s left row target (Refused wrongType at₃)
     unfolding Holds Matches
     assigned-wrong no′ e₃ =
         record {
@@ -135,7 +136,7 @@ module _ {tab : List ℕ} {s : Scope} {left row : ℕ} {v : Judged} (f : NamePos
   assignment-refused {n} {p} is = record { says = λ ts G Γ sc t h k. go ts G Γ sc t (h .at) (h .holds) (h .matches) (ap (kindAt ts) (h .at)) (name-kind _ k) }
     where
       go : (ts : List Token) (G : List Class) (Γ : Context) → InScope tab ts G Γ s → (t : Statement) → rowOf t ≡ row → Holds tab t → Matches ts t → kindAt ts (rowOf t) ≡ kindAt ts row → kindAt ts row ≤ 3
-          → Refused n p ≡ settled (judge G Γ t)
+          → Refused n p ≡ asJudged (judge G Γ t)
       go ts G Γ sc (block q ss) at h m k l = absurd (omega (arith, k, l, m .0 .is))
       go ts G Γ sc (conditional q e a b) at h m k l = absurd (omega (arith, k, l, m .0 .is))
       go ts G Γ sc (loop q e a) at h m k l = absurd (omega (arith, k, l, m .0 .is))
@@ -148,7 +149,7 @@ module _ {tab : List ℕ} {s : Scope} {left row : ℕ} {v : Judged} (f : NamePos
   assignment-target is {r} g = record { says = λ ts G Γ sc t h k. go ts G Γ sc t h (h .at) (h .holds) (h .matches) (ap (kindAt ts) (h .at)) (name-kind _ k) }
     where
       go : (ts : List Token) (G : List Class) (Γ : Context) → InScope tab ts G Γ s → (t : Statement) → PartAt tab ts row (left + 1) t → rowOf t ≡ row → Holds tab t → Matches ts t
-          → kindAt ts (rowOf t) ≡ kindAt ts row → kindAt ts row ≤ 3 → r ≡ settled (judge G Γ t)
+          → kindAt ts (rowOf t) ≡ kindAt ts row → kindAt ts row ≤ 3 → r ≡ asJudged (judge G Γ t)
       go ts G Γ sc (block q ss) w at h m k l = absurd (omega (arith, k, l, m .0 .is))
       go ts G Γ sc (conditional q e a b) w at h m k l = absurd (omega (arith, k, l, m .0 .is))
       go ts G Γ sc (loop q e a) w at h m k l = absurd (omega (arith, k, l, m .0 .is))
@@ -164,7 +165,7 @@ module _ {tab : List ℕ} {s : Scope} {left row : ℕ} {v : Judged} (f : NamePos
 
 module _ {tab : List ℕ} {s : Scope} {left row second : ℕ} (e₅ : second ≡ wordAt tab 5 row) {v : Judged} (f : StatementPost tab s left second v) where
   branch-settled : (ts : List Token) (G : List Class) (Γ : Context) → InScope tab ts G Γ s → (p : Place) (e : Expression) (a b : Statement)
-      → PartAt tab ts row (left + 1) (conditional p e a b) → v ≡ settled (judge G Γ a)
+      → PartAt tab ts row (left + 1) (conditional p e a b) → v ≡ asJudged (judge G Γ a)
   unfolding Holds Matches covers
   branch-settled ts G Γ sc p e a b h =
       f .says ts G Γ sc a
@@ -185,7 +186,7 @@ module _ {tab : List ℕ} {s : Scope} {left row second : ℕ} (e₅ : second ≡
 
 module _ {tab : List ℕ} {s : Scope} {left row first : ℕ} (e₄ : first ≡ wordAt tab 4 row) {v : Judged} (f : OperandPost tab s left first 2049 v) where
   if-test : (ts : List Token) (G : List Class) (Γ : Context) → InScope tab ts G Γ s → (p : Place) (e : Expression) (a b : Statement)
-      → PartAt tab ts row (left + 1) (conditional p e a b) → v ≡ settled (judge G Γ e >>= λ u. must G e boolean u)
+      → PartAt tab ts row (left + 1) (conditional p e a b) → v ≡ asJudged (judge G Γ e >>= λ u. must G e boolean u)
   unfolding Holds Matches covers
   if-test ts G Γ sc p e a b h =
       f .says ts G Γ sc e
@@ -206,7 +207,7 @@ module _ {tab : List ℕ} {s : Scope} {left row first : ℕ} (e₄ : first ≡ w
       }
 
   while-test : (ts : List Token) (G : List Class) (Γ : Context) → InScope tab ts G Γ s → (p : Place) (e : Expression) (a : Statement)
-      → PartAt tab ts row (left + 1) (loop p e a) → v ≡ settled (judge G Γ e >>= λ u. must G e boolean u)
+      → PartAt tab ts row (left + 1) (loop p e a) → v ≡ asJudged (judge G Γ e >>= λ u. must G e boolean u)
   unfolding Holds Matches covers
   while-test ts G Γ sc p e a h =
       f .says ts G Γ sc e
@@ -233,13 +234,13 @@ module _ {tab : List ℕ} {s : Scope} {left row : ℕ} where
   pub statement-none : left ≡ 0 → {n p : ℕ} → StatementPost tab s left row (Refused n p)
   statement-none z = record { says = λ ts G Γ sc t h. absurd (omega (arith, positive t, h .few)) }
 
-  module _ (more : left ≡ 0 → ⊥) {k : ℕ} (kind : k ≡ kindIn tab (s .tokens) row) where
+  module _ (more : left ≡ 0 → ⊥) {k : ℕ} (kind : k ≡ kindInTable tab (s .tokens) row) where
     pub statement-block : k ≡ 38 → {first : ℕ} → first ≡ wordAt tab 4 row → {r : Judged} → ListPost tab s (left - 1) first r → StatementPost tab s left row r
     unfolding judge Holds Matches covers
     statement-block is e₄ {r} f = record { says = λ ts G Γ sc t h. go ts G Γ sc t (own row kind sc ∙ ap (kindAt ts) (sym (h .at))) (h .at) (h .holds) (h .matches) (h .few) }
       where
         go : (ts : List Token) (G : List Class) (Γ : Context) → InScope tab ts G Γ s → (t : Statement) → k ≡ kindAt ts (rowOf t) → rowOf t ≡ row → Holds tab t → Matches ts t → covers t ≤ left
-            → r ≡ settled (judge G Γ t)
+            → r ≡ asJudged (judge G Γ t)
         go ts G Γ sc (block q ss) q′ at h m few = f .says ts G Γ sc ss (rw e₄ (part-in 4 row (q .row) at (row-there (sc .world .tokens) (q .row) (m .0 .there)) (h .0 .first) (h .1) (m .1) (omega arith)))
         go ts G Γ sc (conditional q e a b) q′ at h m few = absurd (omega (arith, q′, is, m .0 .is))
         go ts G Γ sc (loop q e a) q′ at h m few = absurd (omega (arith, q′, is, m .0 .is))
@@ -252,7 +253,7 @@ module _ {tab : List ℕ} {s : Scope} {left row : ℕ} where
     statement-if is {r} f = record { says = λ ts G Γ sc t h. go ts G Γ sc t (own row kind sc ∙ ap (kindAt ts) (sym (h .at))) (h .at) (h .holds) (h .matches) (h .few) }
       where
         go : (ts : List Token) (G : List Class) (Γ : Context) → InScope tab ts G Γ s → (t : Statement) → k ≡ kindAt ts (rowOf t) → rowOf t ≡ row → Holds tab t → Matches ts t → covers t ≤ left
-            → r ≡ settled (judge G Γ t)
+            → r ≡ asJudged (judge G Γ t)
         go ts G Γ sc (block q ss) q′ at h m few = absurd (omega (arith, q′, is, m .0 .is))
         go ts G Γ sc (conditional q e a b) q′ at h m few = f .says ts G Γ sc q e a b (record { at = at; holds = h; matches = m; few = omega arith })
         go ts G Γ sc (loop q e a) q′ at h m few = absurd (omega (arith, q′, is, m .0 .is))
@@ -265,7 +266,7 @@ module _ {tab : List ℕ} {s : Scope} {left row : ℕ} where
     statement-while is {r} f = record { says = λ ts G Γ sc t h. go ts G Γ sc t (own row kind sc ∙ ap (kindAt ts) (sym (h .at))) (h .at) (h .holds) (h .matches) (h .few) }
       where
         go : (ts : List Token) (G : List Class) (Γ : Context) → InScope tab ts G Γ s → (t : Statement) → k ≡ kindAt ts (rowOf t) → rowOf t ≡ row → Holds tab t → Matches ts t → covers t ≤ left
-            → r ≡ settled (judge G Γ t)
+            → r ≡ asJudged (judge G Γ t)
         go ts G Γ sc (block q ss) q′ at h m few = absurd (omega (arith, q′, is, m .0 .is))
         go ts G Γ sc (conditional q e a b) q′ at h m few = absurd (omega (arith, q′, is, m .0 .is))
         go ts G Γ sc (loop q e a) q′ at h m few = f .says ts G Γ sc q e a (record { at = at; holds = h; matches = m; few = omega arith })
@@ -278,7 +279,7 @@ module _ {tab : List ℕ} {s : Scope} {left row : ℕ} where
     statement-print is e₄ {r} f = record { says = λ ts G Γ sc t h. go ts G Γ sc t (own row kind sc ∙ ap (kindAt ts) (sym (h .at))) (h .at) (h .holds) (h .matches) (h .few) }
       where
         go : (ts : List Token) (G : List Class) (Γ : Context) → InScope tab ts G Γ s → (t : Statement) → k ≡ kindAt ts (rowOf t) → rowOf t ≡ row → Holds tab t → Matches ts t → covers t ≤ left
-            → r ≡ settled (judge G Γ t)
+            → r ≡ asJudged (judge G Γ t)
         go ts G Γ sc (block q ss) q′ at h m few = absurd (omega (arith, q′, is, m .0 .is))
         go ts G Γ sc (conditional q e a b) q′ at h m few = absurd (omega (arith, q′, is, m .0 .is))
         go ts G Γ sc (loop q e a) q′ at h m few = absurd (omega (arith, q′, is, m .0 .is))
@@ -291,7 +292,7 @@ module _ {tab : List ℕ} {s : Scope} {left row : ℕ} where
     statement-assignment n₁ n₂ n₃ n₄ {r} f = record { says = λ ts G Γ sc t h. go ts G Γ sc t (own row kind sc ∙ ap (kindAt ts) (sym (h .at))) (h .at) (h .holds) (h .matches) (h .few) }
       where
         go : (ts : List Token) (G : List Class) (Γ : Context) → InScope tab ts G Γ s → (t : Statement) → k ≡ kindAt ts (rowOf t) → rowOf t ≡ row → Holds tab t → Matches ts t → covers t ≤ left
-            → r ≡ settled (judge G Γ t)
+            → r ≡ asJudged (judge G Γ t)
         go ts G Γ sc (block q ss) q′ at h m few = absurd (n₁ (q′ ∙ m .0 .is))
         go ts G Γ sc (conditional q e a b) q′ at h m few = absurd (n₂ (q′ ∙ m .0 .is))
         go ts G Γ sc (loop q e a) q′ at h m few = absurd (n₃ (q′ ∙ m .0 .is))
@@ -314,7 +315,7 @@ module _ {tab : List ℕ} {s : Scope} {left row : ℕ} where
   unfolding judge Matches
   list-end far = record { says = λ ts G Γ sc ss h. go ts G Γ (few-tokens sc) ss (h .at) (h .matches) }
     where
-      go : (ts : List Token) (G : List Class) (Γ : Context) → length ts ≤ 2048 → (ss : Part statements) → rowOf ss ≡ row → Matches ts ss → Fine 0 ≡ settled (judge G Γ ss)
+      go : (ts : List Token) (G : List Class) (Γ : Context) → length ts ≤ 2048 → (ss : Part statements) → rowOf ss ≡ row → Matches ts ss → Fine 0 ≡ asJudged (judge G Γ ss)
       go ts G Γ few noStatements at m = refl
       go ts G Γ few (sequence t ss) at m = absurd (omega (arith, there ts t (m .0), at))
 
@@ -324,7 +325,7 @@ module _ {tab : List ℕ} {s : Scope} {left row : ℕ} where
     list-refused {n} {p} is = record { says = λ ts G Γ sc ss h. go ts G Γ sc ss (h .at) (h .holds) (h .matches) (h .few) }
       where
         go : (ts : List Token) (G : List Class) (Γ : Context) → InScope tab ts G Γ s → (ss : Part statements) → rowOf ss ≡ row → Holds tab ss → Matches ts ss → covers ss ≤ left
-            → Refused n p ≡ settled (judge G Γ ss)
+            → Refused n p ≡ asJudged (judge G Γ ss)
         go ts G Γ sc noStatements at h m few = absurd (omega (arith, at))
         go ts G Γ sc (sequence t ss) at h m few =
             rw (stops (judge G Γ t) (λ _. judge G Γ ss) (f .says ts G Γ sc t (record { at = at; holds = h .0; matches = m .0; few = omega arith })) is)
@@ -333,7 +334,7 @@ module _ {tab : List ℕ} {s : Scope} {left row : ℕ} where
     unfolding judge Holds Matches covers
     list-next is {after} e₆ {r} g = record { says = λ ts G Γ sc ss h. go ts G Γ sc ss (h .at) (h .holds) (h .matches) (h .few) }
       where
-        go : (ts : List Token) (G : List Class) (Γ : Context) → InScope tab ts G Γ s → (ss : Part statements) → rowOf ss ≡ row → Holds tab ss → Matches ts ss → covers ss ≤ left → r ≡ settled (judge G Γ ss)
+        go : (ts : List Token) (G : List Class) (Γ : Context) → InScope tab ts G Γ s → (ss : Part statements) → rowOf ss ≡ row → Holds tab ss → Matches ts ss → covers ss ≤ left → r ≡ asJudged (judge G Γ ss)
         go ts G Γ sc noStatements at h m few = absurd (omega (arith, at))
         go ts G Γ sc (sequence t ss) at h m few =
             rw (goes-on (judge G Γ t) (λ _. judge G Γ ss) (f .says ts G Γ sc t (record { at = at; holds = h .0; matches = m .0; few = omega arith })) is)

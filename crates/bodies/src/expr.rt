@@ -1,12 +1,12 @@
 // Expressions are judged in a cycle: an expression, its parts, the arguments of a call. `left` is how many tokens may still be covered: a part covers fewer than its whole.
 use crate::scope::Scope;
 use crate::scope::name_type;
+use base::codes;
+use base::codes::BROKEN;
 use lexer::kinds;
-use lookup::answer::BROKEN;
 use lookup::answer::Judged;
 use lookup::chain::find_method;
 use lookup::chain::fits;
-use lookup::rows::ABSENT;
 use lookup::rows::word;
 use lookup::types::BOOLEAN;
 use lookup::types::INT;
@@ -14,14 +14,16 @@ use lookup::types::INT_ARRAY;
 use lookup::types::NOTHING;
 use lookup::types::known;
 use lookup::types::type_of;
+use parser::columns;
+use parser::columns::ABSENT;
 use parser::kinds::is_atom;
 use parser::table::kind;
 ghost use Prim.Native.Nat.{_≤_, _<_};
 ghost use lib.ListN.{length};
-ghost use Rattle.reader.specs.WalkPost.{Walkable};
-ghost use Rattle.bodies.specs.Scoping.{Judgeable};
-ghost use Rattle.bodies.specs.ExpressionPost.{NamePost, ThisPost, AtomPost, ExpressionPost, OperandPost, SinglePost, PairPost};
-ghost use Rattle.bodies.specs.ExpressionPost.{CreationPost, DottedPost, CallPost, InvocationPost, ArgumentsPost, ObjectPost, SameCount};
+ghost use Rattle.reader.specs.contracts.WalkPost.{Walkable};
+ghost use Rattle.bodies.specs.contracts.Scoping.{Judgeable};
+ghost use Rattle.bodies.specs.contracts.ExpressionPost.{NamePost, ThisPost, AtomPost, ExpressionPost, OperandPost, SinglePost, PairPost};
+ghost use Rattle.bodies.specs.contracts.ExpressionPost.{CreationPost, DottedPost, CallPost, InvocationPost, ArgumentsPost, ObjectPost, SameCount};
 
 // `this`, which main has not: 34.
 fn receiver(table: &[u32], s: Scope, row: usize) -> Judged
@@ -29,7 +31,7 @@ fn receiver(table: &[u32], s: Scope, row: usize) -> Judged
     ensures { λ r. ⌜ ThisPost (now (table .entry)) s row r ⌝ }
 {
     if ABSENT <= s.owner {
-        return Judged::Refused(34, word(table, 3, row));
+        return Judged::Refused(codes::THIS_IN_MAIN, word(table, columns::BEGIN, row));
     }
     Judged::Fine(s.owner)
 }
@@ -39,11 +41,11 @@ pub fn name(table: &[u32], fields: &[u32], s: Scope, row: usize) -> Judged
     requires { ⌜ Judgeable (now table) (now fields) s ⌝ }
     ensures { λ r. ⌜ NamePost (now (table .entry)) s row r ⌝ }
 {
-    let t = name_type(table, fields, s, word(table, 2, row));
+    let t = name_type(table, fields, s, word(table, columns::NUMBER, row));
     if t < NOTHING {
         return Judged::Fine(t);
     }
-    Judged::Refused(30, word(table, 3, row))
+    Judged::Refused(codes::NAME_UNKNOWN, word(table, columns::BEGIN, row))
 }
 
 // An expression of one token, of kind k.
@@ -71,11 +73,11 @@ fn new_object(table: &[u32], n: usize, row: usize) -> Judged
     requires { ⌜ Walkable (now table) n × (row < 4294967296) ⌝ }
     ensures { λ r. ⌜ ObjectPost (now (table .entry)) n row r ⌝ }
 {
-    let x = word(table, 2, row + 1);
+    let x = word(table, columns::NUMBER, row + 1);
     if known(table, n, x) {
         return Judged::Fine(x);
     }
-    Judged::Refused(24, word(table, 1, row + 1))
+    Judged::Refused(codes::TYPE_UNKNOWN, word(table, columns::START, row + 1))
 }
 
 // Whether a list of arguments is as long as a list of parameters.
@@ -92,7 +94,12 @@ fn same_count(table: &[u32], left: usize, a: usize, p: usize) -> bool
     if left == 0 {
         return false;
     }
-    same_count(table, left - 1, word(table, 6, a), word(table, 6, p))
+    same_count(
+        table,
+        left - 1,
+        word(table, columns::NEXT, a),
+        word(table, columns::NEXT, p),
+    )
 }
 
 // An expression.
@@ -146,7 +153,7 @@ pub fn operand(
             if fits(table, s.tokens, s.classes, t, want) {
                 return Judged::Fine(0);
             }
-            Judged::Refused(31, word(table, 3, row))
+            Judged::Refused(codes::WRONG_TYPE, word(table, columns::BEGIN, row))
         }
         Judged::Refused(number, at) => Judged::Refused(number, at),
     }
@@ -165,7 +172,14 @@ fn single(
     requires { ⌜ Judgeable (now table) (now fields) s × (row < 4294967296) × (left ≤ s .tokens) ⌝ }
     ensures { λ r. ⌜ SinglePost (now (table .entry)) s left row want answer r ⌝ }
 {
-    let a = operand(table, fields, s, left, word(table, 4, row), want);
+    let a = operand(
+        table,
+        fields,
+        s,
+        left,
+        word(table, columns::FIRST, row),
+        want,
+    );
     match a {
         Judged::Fine(_) => Judged::Fine(answer),
         Judged::Refused(number, at) => Judged::Refused(number, at),
@@ -186,10 +200,24 @@ fn pair(
     requires { ⌜ Judgeable (now table) (now fields) s × (row < 4294967296) × (left ≤ s .tokens) ⌝ }
     ensures { λ r. ⌜ PairPost (now (table .entry)) s left row first second answer r ⌝ }
 {
-    let a = operand(table, fields, s, left, word(table, 4, row), first);
+    let a = operand(
+        table,
+        fields,
+        s,
+        left,
+        word(table, columns::FIRST, row),
+        first,
+    );
     match a {
         Judged::Fine(_) => {
-            let b = operand(table, fields, s, left, word(table, 5, row), second);
+            let b = operand(
+                table,
+                fields,
+                s,
+                left,
+                word(table, columns::SECOND, row),
+                second,
+            );
             match b {
                 Judged::Fine(_) => Judged::Fine(answer),
                 Judged::Refused(number, at) => Judged::Refused(number, at),
@@ -226,12 +254,12 @@ fn call(table: &[u32], fields: &[u32], s: Scope, left: usize, row: usize) -> Jud
     requires { ⌜ Judgeable (now table) (now fields) s × (row < 4294967296) × (left ≤ s .tokens) ⌝ }
     ensures { λ r. ⌜ CallPost (now (table .entry)) s left row r ⌝ }
 {
-    let first = word(table, 4, row);
+    let first = word(table, columns::FIRST, row);
     let e = expression(table, fields, s, left, first);
     match e {
         Judged::Fine(t) => {
             if INT <= t {
-                return Judged::Refused(31, word(table, 3, first));
+                return Judged::Refused(codes::WRONG_TYPE, word(table, columns::BEGIN, first));
             }
             invocation(table, fields, s, left, row, t)
         }
@@ -244,24 +272,30 @@ fn invocation(table: &[u32], fields: &[u32], s: Scope, left: usize, row: usize, 
     requires { ⌜ Judgeable (now table) (now fields) s × (row < 4294967296) × (left ≤ s .tokens) ⌝ }
     ensures { λ r. ⌜ InvocationPost (now (table .entry)) s left row c r ⌝ }
 {
-    let m = find_method(table, s.tokens, s.classes, c, word(table, 2, row + 1));
+    let m = find_method(
+        table,
+        s.tokens,
+        s.classes,
+        c,
+        word(table, columns::NUMBER, row + 1),
+    );
     if ABSENT <= m {
-        return Judged::Refused(32, word(table, 1, row + 1));
+        return Judged::Refused(codes::METHOD_UNKNOWN, word(table, columns::START, row + 1));
     }
-    let given = word(table, 5, row);
-    let taken = word(table, 4, m);
+    let given = word(table, columns::SECOND, row);
+    let taken = word(table, columns::PARAMETERS, m);
     if same_count(table, s.tokens, given, taken) {
         let a = arguments(table, fields, s, left, given, taken);
         match a {
             Judged::Fine(_) => {
-                return Judged::Fine(type_of(table, s.tokens, word(table, 3, m)));
+                return Judged::Fine(type_of(table, s.tokens, word(table, columns::TYPE, m)));
             }
             Judged::Refused(number, at) => {
                 return Judged::Refused(number, at);
             }
         }
     }
-    Judged::Refused(33, word(table, 1, row + 1))
+    Judged::Refused(codes::ARGUMENT_COUNT, word(table, columns::START, row + 1))
 }
 
 // Arguments, each of which must fit its parameter.
@@ -282,7 +316,7 @@ fn arguments(
     if left == 0 {
         return Judged::Refused(BROKEN, 0);
     }
-    let want = type_of(table, s.tokens, word(table, 3, parameter));
+    let want = type_of(table, s.tokens, word(table, columns::TYPE, parameter));
     let a = operand(table, fields, s, left, row, want);
     match a {
         Judged::Fine(_) => arguments(
@@ -290,8 +324,8 @@ fn arguments(
             fields,
             s,
             left - 1,
-            word(table, 6, row),
-            word(table, 6, parameter),
+            word(table, columns::NEXT, row),
+            word(table, columns::NEXT, parameter),
         ),
         Judged::Refused(number, at) => Judged::Refused(number, at),
     }

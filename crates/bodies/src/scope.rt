@@ -1,9 +1,9 @@
 // What a body sees: the declaring class, by the number of its name, and where its parameters and its locals begin; in main there are none of these. What the
 // fields of the class and those above it mean stands in `fields` (see `lookup`).
 use lookup::member::variable_type;
-use lookup::rows::ABSENT;
 use lookup::types::NOTHING;
-ghost use Rattle.bodies.specs.Scoping.{Judgeable, NameTyped};
+use parser::columns::ABSENT;
+ghost use Rattle.bodies.specs.contracts.Scoping.{Judgeable, NameTyped};
 
 pub struct Scope {
     pub tokens: usize,

@@ -2,28 +2,44 @@
 use crate::expr::name;
 use crate::expr::operand;
 use crate::scope::Scope;
+use base::codes;
+use base::codes::BROKEN;
 use lexer::kinds;
-use lookup::answer::BROKEN;
 use lookup::answer::Judged;
 use lookup::chain::fits;
-use lookup::rows::ABSENT;
 use lookup::rows::word;
 use lookup::types::BOOLEAN;
 use lookup::types::INT;
 use lookup::types::INT_ARRAY;
+use parser::columns;
+use parser::columns::ABSENT;
 use parser::table::kind;
 ghost use Prim.Native.Nat.{_≤_, _<_};
-ghost use Rattle.bodies.specs.Scoping.{Judgeable};
-ghost use Rattle.bodies.specs.StatementPost.{StatementPost, ListPost, ConditionalPost, BranchesPost, LoopPost, AssignmentPost, AssignedPost, ValuePost};
+ghost use Rattle.bodies.specs.contracts.Scoping.{Judgeable};
+ghost use Rattle.bodies.specs.contracts.StatementPost.{StatementPost, ListPost, ConditionalPost, BranchesPost, LoopPost, AssignmentPost, AssignedPost, ValuePost};
 
 // Index and value of an assignment to an element.
 fn index_and_value(table: &[u32], fields: &[u32], s: Scope, left: usize, row: usize) -> Judged
     requires { ⌜ Judgeable (now table) (now fields) s × (row < 4294967296) × (left ≤ s .tokens) ⌝ }
     ensures { λ r. ⌜ ValuePost (now (table .entry)) s left row r ⌝ }
 {
-    let i = operand(table, fields, s, left, word(table, 4, row), INT);
+    let i = operand(
+        table,
+        fields,
+        s,
+        left,
+        word(table, columns::FIRST, row),
+        INT,
+    );
     match i {
-        Judged::Fine(_) => operand(table, fields, s, left, word(table, 5, row), INT),
+        Judged::Fine(_) => operand(
+            table,
+            fields,
+            s,
+            left,
+            word(table, columns::SECOND, row),
+            INT,
+        ),
         Judged::Refused(number, at) => Judged::Refused(number, at),
     }
 }
@@ -37,9 +53,9 @@ fn assigned(table: &[u32], fields: &[u32], s: Scope, left: usize, row: usize, t:
         if fits(table, s.tokens, s.classes, t, INT_ARRAY) {
             return index_and_value(table, fields, s, left, row);
         }
-        return Judged::Refused(31, word(table, 3, row));
+        return Judged::Refused(codes::WRONG_TYPE, word(table, columns::BEGIN, row));
     }
-    operand(table, fields, s, left, word(table, 4, row), t)
+    operand(table, fields, s, left, word(table, columns::FIRST, row), t)
 }
 
 // An assignment: the target is looked up first.
@@ -64,7 +80,7 @@ pub fn single(table: &[u32], fields: &[u32], s: Scope, left: usize, row: usize) 
     }
     let k = kind(table, s.tokens, row);
     if k == kinds::OPEN_BRACE {
-        return list(table, fields, s, left - 1, word(table, 4, row));
+        return list(table, fields, s, left - 1, word(table, columns::FIRST, row));
     }
     if k == kinds::IF {
         return conditional(table, fields, s, left - 1, row);
@@ -73,7 +89,14 @@ pub fn single(table: &[u32], fields: &[u32], s: Scope, left: usize, row: usize) 
         return repeated(table, fields, s, left - 1, row);
     }
     if k == kinds::SYSTEM {
-        return operand(table, fields, s, left - 1, word(table, 4, row), INT);
+        return operand(
+            table,
+            fields,
+            s,
+            left - 1,
+            word(table, columns::FIRST, row),
+            INT,
+        );
     }
     assignment(table, fields, s, left - 1, row)
 }
@@ -83,9 +106,9 @@ fn branches(table: &[u32], fields: &[u32], s: Scope, left: usize, row: usize) ->
     requires { ⌜ Judgeable (now table) (now fields) s × (row < 4294967296) × (left ≤ s .tokens) ⌝ }
     ensures { λ r. ⌜ BranchesPost (now (table .entry)) s left row r ⌝ }
 {
-    let a = single(table, fields, s, left, word(table, 5, row));
+    let a = single(table, fields, s, left, word(table, columns::SECOND, row));
     match a {
-        Judged::Fine(_) => single(table, fields, s, left, word(table, 7, row)),
+        Judged::Fine(_) => single(table, fields, s, left, word(table, columns::THIRD, row)),
         Judged::Refused(number, at) => Judged::Refused(number, at),
     }
 }
@@ -95,7 +118,14 @@ fn conditional(table: &[u32], fields: &[u32], s: Scope, left: usize, row: usize)
     requires { ⌜ Judgeable (now table) (now fields) s × (row < 4294967296) × (left ≤ s .tokens) ⌝ }
     ensures { λ r. ⌜ ConditionalPost (now (table .entry)) s left row r ⌝ }
 {
-    let t = operand(table, fields, s, left, word(table, 4, row), BOOLEAN);
+    let t = operand(
+        table,
+        fields,
+        s,
+        left,
+        word(table, columns::FIRST, row),
+        BOOLEAN,
+    );
     match t {
         Judged::Fine(_) => branches(table, fields, s, left, row),
         Judged::Refused(number, at) => Judged::Refused(number, at),
@@ -107,9 +137,16 @@ fn repeated(table: &[u32], fields: &[u32], s: Scope, left: usize, row: usize) ->
     requires { ⌜ Judgeable (now table) (now fields) s × (row < 4294967296) × (left ≤ s .tokens) ⌝ }
     ensures { λ r. ⌜ LoopPost (now (table .entry)) s left row r ⌝ }
 {
-    let t = operand(table, fields, s, left, word(table, 4, row), BOOLEAN);
+    let t = operand(
+        table,
+        fields,
+        s,
+        left,
+        word(table, columns::FIRST, row),
+        BOOLEAN,
+    );
     match t {
-        Judged::Fine(_) => single(table, fields, s, left, word(table, 5, row)),
+        Judged::Fine(_) => single(table, fields, s, left, word(table, columns::SECOND, row)),
         Judged::Refused(number, at) => Judged::Refused(number, at),
     }
 }
@@ -127,7 +164,7 @@ pub fn list(table: &[u32], fields: &[u32], s: Scope, left: usize, row: usize) ->
     }
     let a = single(table, fields, s, left, row);
     match a {
-        Judged::Fine(_) => list(table, fields, s, left - 1, word(table, 6, row)),
+        Judged::Fine(_) => list(table, fields, s, left - 1, word(table, columns::NEXT, row)),
         Judged::Refused(number, at) => Judged::Refused(number, at),
     }
 }

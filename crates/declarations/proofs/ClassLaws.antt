@@ -9,45 +9,46 @@ use mathlib.Core.Option.{Option, none, some}
 use lib.ListN.{length}
 use lib.Dec.{leb}
 use borrow.Author.Tests.{le-leb, lt-leb}
+use Rattle.base.specs.Codes.{parentUnknown}
 use Rattle.base.specs.Choice.{option}
-use Rattle.base.specs.Lists.{all-cons}
+use Rattle.base.specs.All.{all-cons}
 use Rattle.base.specs.Outcome.{Outcome, accepted, refused, _>>=_}
-use Rattle.base.specs.Table.{col}
+use Rattle.base.specs.contracts.Table.{col}
 use Rattle.lexer.specs.Tokens.{Token}
 use Rattle.parser.specs.Tree.{Name, Class}
-use Rattle.parser.specs.Layout.{rowParent, rowClasses}
-use Rattle.reader.specs.Matches.{ParentMatches}
-use Rattle.checker.specs.ClassTable.{classNamed}
-use Rattle.checker.specs.Declarations.{knownParent, knownParents, fields, heads, declarations}
-use Rattle.typing.specs.Choices.{bind-assoc}
+use Rattle.parser.specs.contracts.Layout.{absent, rowParent, rowClasses}
+use Rattle.reader.specs.contracts.Matches.{ParentMatches}
+use Rattle.typesystem.specs.ClassTable.{classNamed}
+use Rattle.typesystem.specs.Declarations.{knownParent, knownParents, fields, heads, declarations}
+use Rattle.typing.specs.laws.Choices.{bind-assoc}
 use Rattle.lookup.specs.declared.answer.Judged.{Judged}
 use Rattle.lookup.specs.declared.answer.Judged.the-variants.{Fine, Refused}
-use Rattle.lookup.specs.Standing.{absent, wordAt, Lexemes, Spells, a-name, ClassStands, ClassesStand, more-classes, World}
-use Rattle.lookup.specs.StandingLaws.{word-in, start-word, name-word, row-there, ClassAt, no-class, a-class, class-at, none-left}
-use Rattle.lookup.specs.Lookups.{Above}
-use Rattle.lookup.specs.Answers.{settled, goes-on, stops}
-use Rattle.declarations.specs.Marking.{Below}
-use Rattle.declarations.specs.Judgements.{FieldsJudged, HeadsJudged, orphaned, OrphanAt, ClassesAt, ParentsJudged, Own, MembersJudged, DeclarationsJudged}
+use Rattle.lookup.specs.contracts.HeldClasses.{wordAt, Lexemes, NameNumber, a-name, ClassHeld, ClassesHeld, more-classes, ClassTableHeld}
+use Rattle.lookup.specs.laws.HeldLaws.{word-in, start-word, name-word, row-there, ClassAt, no-class, a-class, class-at, none-left}
+use Rattle.lookup.specs.contracts.Lookups.{Above}
+use Rattle.lookup.specs.contracts.Answers.{asJudged, goes-on, stops}
+use Rattle.declarations.specs.contracts.Marking.{StampsBelow}
+use Rattle.declarations.specs.contracts.Judgements.{FieldsJudged, HeadsJudged, orphaned, OrphanAt, ClassesAt, ParentsJudged, FoundByName, MembersJudged, DeclarationsJudged}
 use Rattle.declarations.proofs.MarkLaws.{below-more, none-marked}
 
 -- ROWS
 
 -- a word of the row of a class
-class-word : {tab : List ℕ} {n : ℕ} {ts : List Token} → Lexemes tab n ts → (k : Class) {row : ℕ} → k .name .row ≡ row → ClassStands tab n ts k → (j : ℕ) {w v : ℕ}
+class-word : {tab : List ℕ} {n : ℕ} {ts : List Token} → Lexemes tab n ts → (k : Class) {row : ℕ} → k .name .row ≡ row → ClassHeld tab n ts k → (j : ℕ) {w v : ℕ}
     → w ≡ wordAt tab j row → col tab j (k .name .row) ≡ v → w ≡ v
 class-word {tab} lx k at s j e c = e ∙ ap (wordAt tab j) (sym at) ∙ word-in tab j (k .name .row) (row-there lx (k .name .row) (s .named .token .there)) c
 
 -- the first of the classes of a row, and the others
 pub record FirstClass (tab : List ℕ) (n : ℕ) (ts : List Token) (k : Class) (ks : List Class) (left row : ℕ) : Type 0 where
   pub near : row < absent
-  pub stands : ClassStands tab n ts k
+  pub stands : ClassHeld tab n ts k
   pub rest : {next : ℕ} → next ≡ wordAt tab 6 row → (left ≡ 0 → ⊥) → ClassesAt tab n ts ks (left - 1) next
 
 pub first-class : {tab : List ℕ} {n : ℕ} {ts : List Token} → Lexemes tab n ts → {k : Class} {ks : List Class} {left row : ℕ} → ClassesAt tab n ts (k ∷ ks) left row
     → FirstClass tab n ts k ks left row
 first-class {tab} {n} {ts} lx {k} {ks} {left} {row} a = go (a .stand)
   where
-    go : ClassesStand tab n ts (k ∷ ks) → FirstClass tab n ts k ks left row
+    go : ClassesHeld tab n ts (k ∷ ks) → FirstClass tab n ts k ks left row
     go (more-classes s c₆ h) = record {
       near = omega (arith, a .here, row-there lx (k .name .row) (s .named .token .there));
       stands = s;
@@ -61,7 +62,7 @@ module _ {tab : List ℕ} {class p : ℕ} (e₃ : p ≡ wordAt tab 3 class) wher
   unfolding ParentMatches
   orphan-none far = record { says = λ n ts G w k at s. go n ts G w (k .parent) (s .parent-matches) (class-word (w .tokens) k at s 3 e₃ (s .above)) }
     where
-      go : (n : ℕ) (ts : List Token) (G : List Class) → World tab n ts G → (q : Option Name) → ParentMatches ts q → p ≡ rowParent q → false ≡ orphaned G q
+      go : (n : ℕ) (ts : List Token) (G : List Class) → ClassTableHeld tab n ts G → (q : Option Name) → ParentMatches ts q → p ≡ rowParent q → false ≡ orphaned G q
       go n ts G w none m e = refl
       go n ts G w (some q) m e = absurd (omega (arith, e, row-there (w .tokens) (q .row) (m .token .there)))
 
@@ -73,16 +74,16 @@ module _ {tab : List ℕ} {class p : ℕ} (e₃ : p ≡ wordAt tab 3 class) wher
       found n ts G q (no-class e far) = rw (e, le-leb absent c far)
       found n ts G q (a-class k e at low s sp) = rw (e, lt-leb absent c low)
 
-      go : (n : ℕ) (ts : List Token) (G : List Class) → World tab n ts G → (q : Option Name) → ParentMatches ts q → p ≡ rowParent q → leb absent c ≡ orphaned G q
+      go : (n : ℕ) (ts : List Token) (G : List Class) → ClassTableHeld tab n ts G → (q : Option Name) → ParentMatches ts q → p ≡ rowParent q → leb absent c ≡ orphaned G q
       go n ts G w none m e = absurd (omega (arith, e))
       go n ts G w (some q) m e =
-          found n ts G q (class-at w (some (q .text)) x c (a-name (subst (Spells ts (q .text)) (ap (wordAt tab 2) (sym e) ∙ sym e₂) (name-word (w .tokens) (q .row) (m .token)))) e₇)
+          found n ts G q (class-at w (some (q .text)) x c (a-name (subst (NameNumber ts (q .text)) (ap (wordAt tab 2) (sym e) ∙ sym e₂) (name-word (w .tokens) (q .row) (m .token)))) e₇)
 
 -- 21 by the class that a parent's name finds
 abbrev parentBy : Option Class → (start : ℕ) → Outcome (Unit {0})
-parentBy o start = option o (refused 21 start) λ _. accepted tt
+parentBy o start = option o (refused parentUnknown start) λ _. accepted tt
 
-unknown : (o : Option Class) (start : ℕ) → true ≡ (option o true λ _. false) → parentBy o start ≡ refused 21 start
+unknown : (o : Option Class) (start : ℕ) → true ≡ (option o true λ _. false) → parentBy o start ≡ refused parentUnknown start
 unknown none start e = refl
 unknown (some k) start e = absurd (true≢false e)
 
@@ -98,23 +99,23 @@ module _ {tab : List ℕ} {left row : ℕ} where
   unfolding knownParents
   parents-absent far = record { says = λ n ts G w ks a. go n ts G w ks a }
     where
-      go : (n : ℕ) (ts : List Token) (G : List Class) → World tab n ts G → (ks : List Class) → ClassesAt tab n ts ks left row → Fine 0 ≡ settled (knownParents G ks)
+      go : (n : ℕ) (ts : List Token) (G : List Class) → ClassTableHeld tab n ts G → (ks : List Class) → ClassesAt tab n ts ks left row → Fine 0 ≡ asJudged (knownParents G ks)
       go n ts G w [] a = refl
       go n ts G w (k ∷ ks) a = absurd (omega (arith, first-class (w .tokens) a .near))
 
   module _ (near : row < absent) {b : Bool} (h : OrphanAt tab row b) where
-    pub parents-orphan : b ≡ true → {p q : ℕ} → p ≡ wordAt tab 3 row → q ≡ wordAt tab 1 p → ParentsJudged tab left row (Refused 21 q)
+    pub parents-orphan : b ≡ true → {p q : ℕ} → p ≡ wordAt tab 3 row → q ≡ wordAt tab 1 p → ParentsJudged tab left row (Refused parentUnknown q)
     unfolding knownParents ParentMatches
     parents-orphan is {p} {q} e₃ e₁ = record { says = λ n ts G w ks a. go n ts G w ks a }
       where
-        parent : (n : ℕ) (ts : List Token) (G : List Class) → World tab n ts G → (o : Option Name) → ParentMatches ts o → p ≡ rowParent o → true ≡ orphaned G o
-            → knownParent G o ≡ refused 21 q
+        parent : (n : ℕ) (ts : List Token) (G : List Class) → ClassTableHeld tab n ts G → (o : Option Name) → ParentMatches ts o → p ≡ rowParent o → true ≡ orphaned G o
+            → knownParent G o ≡ refused parentUnknown q
         parent n ts G w none m e r = absurd (true≢false r)
         parent n ts G w (some x) m e r =
             unknown (classNamed G (x .text)) (x .start) r
-            ∙ ap (λ (i : ℕ). refused 21 i) (sym (e₁ ∙ ap (wordAt tab 1) e ∙ start-word (w .tokens) (x .row) (m .token .there) ∙ m .start))
+            ∙ ap (λ (i : ℕ). refused parentUnknown i) (sym (e₁ ∙ ap (wordAt tab 1) e ∙ start-word (w .tokens) (x .row) (m .token .there) ∙ m .start))
 
-        go : (n : ℕ) (ts : List Token) (G : List Class) → World tab n ts G → (ks : List Class) → ClassesAt tab n ts ks left row → Refused 21 q ≡ settled (knownParents G ks)
+        go : (n : ℕ) (ts : List Token) (G : List Class) → ClassTableHeld tab n ts G → (ks : List Class) → ClassesAt tab n ts ks left row → Refused parentUnknown q ≡ asJudged (knownParents G ks)
         go n ts G w [] a = absurd (omega (arith, a .here))
         go n ts G w (k ∷ ks) a =
             let s = first-class (w .tokens) a .stands in
@@ -128,7 +129,7 @@ module _ {tab : List ℕ} {left row : ℕ} where
         parent G none r = refl
         parent G (some x) r = known-class (classNamed G (x .text)) (x .start) r
 
-        go : (n : ℕ) (ts : List Token) (G : List Class) → World tab n ts G → (ks : List Class) → ClassesAt tab n ts ks left row → r ≡ settled (knownParents G ks)
+        go : (n : ℕ) (ts : List Token) (G : List Class) → ClassTableHeld tab n ts G → (ks : List Class) → ClassesAt tab n ts ks left row → r ≡ asJudged (knownParents G ks)
         go n ts G w [] a = absurd (omega (arith, a .here))
         go n ts G w (k ∷ ks) a =
             let f = first-class (w .tokens) a in
@@ -137,19 +138,19 @@ module _ {tab : List ℕ} {left row : ℕ} where
 -- MEMBERS
 
 -- after the fields no word has reached the stamp of the methods
-fields-below : {tab : List ℕ} {n stamp first : ℕ} {before mid : List ℕ} {f : Judged} → Below stamp before → FieldsJudged tab n n stamp first before mid f → Below (stamp + 1) mid
+fields-below : {tab : List ℕ} {n stamp first : ℕ} {before mid : List ℕ} {f : Judged} → StampsBelow stamp before → FieldsJudged tab n n stamp first before mid f → StampsBelow (stamp + 1) mid
 fields-below {stamp = stamp} new h = h .below (stamp + 1) (omega arith) (below-more (omega arith) new)
 
-module _ {tab : List ℕ} {n stamp class first : ℕ} (e₄ : first ≡ wordAt tab 4 class) {before mid : List ℕ} (new : Below stamp before)
+module _ {tab : List ℕ} {n stamp class first : ℕ} (e₄ : first ≡ wordAt tab 4 class) {before mid : List ℕ} (new : StampsBelow stamp before)
     {f : Judged} (h : FieldsJudged tab n n stamp first before mid f) where
-  own-fields : {ts : List Token} {G : List Class} → World tab n ts G → (k : Class) → k .name .row ≡ class → ClassStands tab n ts k → f ≡ settled (fields G [] (k .fields))
+  own-fields : {ts : List Token} {G : List Class} → ClassTableHeld tab n ts G → (k : Class) → k .name .row ≡ class → ClassHeld tab n ts k → f ≡ asJudged (fields G [] (k .fields))
   own-fields {ts} {G} w k at s =
       h .says ts G w [] (k .fields) (record { here = sym (class-word (w .tokens) k at s 4 e₄ (s .first)); stand = s .fields; few = s .few-fields; marked = none-marked new })
 
   pub members-stop : {classes number p : ℕ} → f ≡ Refused number p → MembersJudged tab n classes stamp class mid (Refused number p)
   members-stop is = record {
     below = below-more (omega arith) (fields-below new h);
-    says = λ ts G w l k at s own. ap settled (sym (stops (fields G [] (k .fields)) (λ _. heads G k [] (k .methods)) (own-fields w k at s) is));
+    says = λ ts G w l k at s own. ap asJudged (sym (stops (fields G [] (k .fields)) (λ _. heads G k [] (k .methods)) (own-fields w k at s) is));
   }
 
   pub members-next : {classes u : ℕ} → f ≡ Fine u → {methods p : ℕ} {after : List ℕ} {r : Judged} → methods ≡ wordAt tab 5 class → Above tab class p
@@ -159,7 +160,7 @@ module _ {tab : List ℕ} {n stamp class first : ℕ} (e₄ : first ≡ wordAt t
     says = λ ts G w l k at s own.
         h′ .says ts G w l k (record { own = own; above = up .says n ts (w .tokens) k at s }) [] (k .methods)
         (record { here = sym (class-word (w .tokens) k at s 5 e₅ (s .second)); stand = s .methods; few = s .few-methods; marked = none-marked (fields-below new h) })
-        ∙ ap settled (sym (goes-on (fields G [] (k .fields)) (λ _. heads G k [] (k .methods)) (own-fields w k at s) is));
+        ∙ ap asJudged (sym (goes-on (fields G [] (k .fields)) (λ _. heads G k [] (k .methods)) (own-fields w k at s) is));
   }
 
 -- DECLARATIONS
@@ -177,7 +178,7 @@ module _ {tab : List ℕ} {n classes left row : ℕ} where
   unfolding declarations
   declarations-absent far = record { says = λ ts G w l ks a own. go ts G w ks a }
     where
-      go : (ts : List Token) (G : List Class) → World tab n ts G → (ks : List Class) → ClassesAt tab n ts ks left row → Fine 0 ≡ settled (declarations G ks)
+      go : (ts : List Token) (G : List Class) → ClassTableHeld tab n ts G → (ks : List Class) → ClassesAt tab n ts ks left row → Fine 0 ≡ asJudged (declarations G ks)
       go ts G w [] a = refl
       go ts G w (k ∷ ks) a = absurd (omega (arith, first-class (w .tokens) a .near))
 
@@ -185,11 +186,11 @@ module _ {tab : List ℕ} {n classes left row : ℕ} where
     pub declarations-stop : {number p : ℕ} → o ≡ Refused number p → DeclarationsJudged tab n classes left row (Refused number p)
     declarations-stop {number} {p} is = record { says = λ ts G w l ks a own. go ts G w l ks a own }
       where
-        go : (ts : List Token) (G : List Class) → World tab n ts G → length G ≡ classes → (ks : List Class) → ClassesAt tab n ts ks left row → Own G ks
-            → Refused number p ≡ settled (declarations G ks)
+        go : (ts : List Token) (G : List Class) → ClassTableHeld tab n ts G → length G ≡ classes → (ks : List Class) → ClassesAt tab n ts ks left row → FoundByName G ks
+            → Refused number p ≡ asJudged (declarations G ks)
         go ts G w l [] a own = absurd (omega (arith, a .here))
         go ts G w l (k ∷ ks) a (all-cons own owns) =
-            ap settled (sym (declarations-more G k ks
+            ap asJudged (sym (declarations-more G k ks
             ∙ stops (fields G [] (k .fields) >>= λ _. heads G k [] (k .methods)) (λ _. declarations G ks)
             (h .says ts G w l k (a .here) (first-class (w .tokens) a .stands) own) is))
 
@@ -197,11 +198,11 @@ module _ {tab : List ℕ} {n classes left row : ℕ} where
         → DeclarationsJudged tab n classes (left - 1) next r → DeclarationsJudged tab n classes left row r
     declarations-next more is {next} {r} e₆ h′ = record { says = λ ts G w l ks a own. go ts G w l ks a own }
       where
-        go : (ts : List Token) (G : List Class) → World tab n ts G → length G ≡ classes → (ks : List Class) → ClassesAt tab n ts ks left row → Own G ks
-            → r ≡ settled (declarations G ks)
+        go : (ts : List Token) (G : List Class) → ClassTableHeld tab n ts G → length G ≡ classes → (ks : List Class) → ClassesAt tab n ts ks left row → FoundByName G ks
+            → r ≡ asJudged (declarations G ks)
         go ts G w l [] a own = absurd (omega (arith, a .here))
         go ts G w l (k ∷ ks) a (all-cons own owns) =
             let f = first-class (w .tokens) a in
             h′ .says ts G w l ks (f .rest e₆ more) owns
-            ∙ ap settled (sym (declarations-more G k ks
+            ∙ ap asJudged (sym (declarations-more G k ks
             ∙ goes-on (fields G [] (k .fields) >>= λ _. heads G k [] (k .methods)) (λ _. declarations G ks) (h .says ts G w l k (a .here) (f .stands) own) is))

@@ -7,16 +7,16 @@ use mathlib.Core.List.{List, [], _∷_, _++_, map, map-append, append-assoc, app
 use mathlib.Core.Bool.{Bool, true, false, _||_}
 use lib.ListN.{length, length-append, length-map}
 use Rattle.base.specs.Bytes.{same}
-use Rattle.base.specs.Table.{col}
+use Rattle.base.specs.contracts.Table.{col}
 use Rattle.lexer.specs.Tokens.{Token}
 use Rattle.parser.specs.Tree.{Ty, Ty.int, Ty.boolean, Ty.intArray, Ty.class, TypeUse, Variable, Method}
-use Rattle.parser.specs.Layout.{rowVariables, rowMethods, headOf}
-use Rattle.reader.specs.Matches.{TypeMatches, VariableMatches}
-use Rattle.checker.specs.Declarations.{occurs, textOf}
-use Rattle.lookup.specs.Standing.{absent, wordAt, Lexemes, Spells, VariablesStand, more-variables, MethodStands, MethodsStand, more-methods}
-use Rattle.lookup.specs.StandingLaws.{word-in, start-word, spelt, name-word, row-there}
-use Rattle.lookup.specs.Lookups.{Names, no-names, more-names, Repeated}
-use Rattle.declarations.specs.Earlier.{onto, Listed, Along}
+use Rattle.parser.specs.contracts.Layout.{absent, rowVariables, rowMethods, headOf}
+use Rattle.reader.specs.contracts.Matches.{TypeMatches, VariableMatches}
+use Rattle.typesystem.specs.ClassTable.{occurs, textOf}
+use Rattle.lookup.specs.contracts.HeldClasses.{wordAt, Lexemes, NameNumber, VariablesHeld, more-variables, MethodHeld, MethodsHeld, more-methods}
+use Rattle.lookup.specs.laws.HeldLaws.{word-in, start-word, spelt, name-word, row-there}
+use Rattle.lookup.specs.contracts.Lookups.{Names, no-names, more-names, Repeated}
+use Rattle.declarations.specs.contracts.Earlier.{onto, VariablesListed, Along}
 
 -- NAMES
 
@@ -59,7 +59,7 @@ pub record DeclaredAt (tab : List ℕ) (ts : List Token) (v : Variable) (row : �
   pub matches : VariableMatches ts v
   pub type : wordAt tab 3 row ≡ v .type .row
   pub type-start : wordAt tab 1 (v .type .row) ≡ v .type .start
-  pub number : Spells ts (v .name .text) (wordAt tab 2 row)
+  pub number : NameNumber ts (v .name .text) (wordAt tab 2 row)
   pub start : wordAt tab 1 row ≡ v .name .start
 
 module _ {tab : List ℕ} {n : ℕ} {ts : List Token} (lx : Lexemes tab n ts) where
@@ -75,7 +75,7 @@ module _ {tab : List ℕ} {n : ℕ} {ts : List Token} (lx : Lexemes tab n ts) wh
       })
 
   -- the names of the members before a row
-  pub variable-names : (us vs : List Variable) → VariablesStand tab ts (us ++ vs) → Names tab ts (rowVariables (us ++ vs)) (map textOf us)
+  pub variable-names : (us vs : List Variable) → VariablesHeld tab ts (us ++ vs) → Names tab ts (rowVariables (us ++ vs)) (map textOf us)
   variable-names [] vs s = no-names
   variable-names (u ∷ us) vs (more-variables m c₃ c₆ s) =
       more-names (row-there lx (u .name .row) (m .name .token .there)) refl (spelt lx (u .name .row) (m .name .token)) c₆ (variable-names us vs s)
@@ -83,14 +83,14 @@ module _ {tab : List ℕ} {n : ℕ} {ts : List Token} (lx : Lexemes tab n ts) wh
 -- VARIABLES
 
 -- whether a name is that of one of the variables of a list
-pub listed-repeated : {tab : List ℕ} {n : ℕ} {ts : List Token} → Lexemes tab n ts → {first count : ℕ} (vs : List Variable) → Listed tab ts vs first count → {x : ℕ} {r : Bool}
-    → Repeated tab count first x r → (text : List ℕ) → Spells ts text x → r ≡ occurs text (map textOf vs)
+pub listed-repeated : {tab : List ℕ} {n : ℕ} {ts : List Token} → Lexemes tab n ts → {first count : ℕ} (vs : List Variable) → VariablesListed tab ts vs first count → {x : ℕ} {r : Bool}
+    → Repeated tab count first x r → (text : List ℕ) → NameNumber ts text x → r ≡ occurs text (map textOf vs)
 listed-repeated {tab} {ts = ts} lx {first} vs l h text sp =
-    let names = variable-names lx vs [] (subst (VariablesStand tab ts) (sym (append-nil vs)) (l .stand)) in
+    let names = variable-names lx vs [] (subst (VariablesHeld tab ts) (sym (append-nil vs)) (l .stand)) in
     h .says ts (map textOf vs) (subst (λ (i : ℕ). Names tab ts i (map textOf vs)) (ap rowVariables (append-nil vs) ∙ l .begins) names)
     (length-map vs textOf ∙ l .many) text sp
 
-variables-from : {tab : List ℕ} {ts : List Token} (us vs : List Variable) → VariablesStand tab ts (us ++ vs) → VariablesStand tab ts vs
+variables-from : {tab : List ℕ} {ts : List Token} (us vs : List Variable) → VariablesHeld tab ts (us ++ vs) → VariablesHeld tab ts vs
 variables-from [] vs s = s
 variables-from (u ∷ us) vs (more-variables m c₃ c₆ s) = variables-from us vs s
 
@@ -100,16 +100,16 @@ module _ {tab : List ℕ} {n : ℕ} {ts : List Token} (lx : Lexemes tab n ts) {f
   pub variable-near : row < absent
   variable-near = go (variables-from us (v ∷ vs) (a .stand))
     where
-      go : VariablesStand tab ts (v ∷ vs) → row < absent
+      go : VariablesHeld tab ts (v ∷ vs) → row < absent
       go (more-variables m c₃ c₆ s) = omega (arith, a .here, row-there lx (v .name .row) (m .name .token .there))
 
   pub variable-declared : DeclaredAt tab ts v row
   variable-declared = go (variables-from us (v ∷ vs) (a .stand))
     where
-      go : VariablesStand tab ts (v ∷ vs) → DeclaredAt tab ts v row
+      go : VariablesHeld tab ts (v ∷ vs) → DeclaredAt tab ts v row
       go (more-variables m c₃ c₆ s) = declared-at lx v (a .here) m c₃
 
-  pub variable-repeated : {x : ℕ} {r : Bool} → Repeated tab index first x r → (text : List ℕ) → Spells ts text x → r ≡ occurs text (map textOf us)
+  pub variable-repeated : {x : ℕ} {r : Bool} → Repeated tab index first x r → (text : List ℕ) → NameNumber ts text x → r ≡ occurs text (map textOf us)
   variable-repeated {x} {r} h text sp =
       h .says ts (map textOf us) (subst (λ (i : ℕ). Names tab ts i (map textOf us)) (a .begins) (variable-names lx us (v ∷ vs) (a .stand)))
       (length-map us textOf ∙ a .before) text sp
@@ -117,9 +117,9 @@ module _ {tab : List ℕ} {n : ℕ} {ts : List Token} (lx : Lexemes tab n ts) {f
   pub variable-step : {next : ℕ} → next ≡ wordAt tab 6 row → Along tab ts (us ++ v ∷ []) vs first (index + 1) next
   variable-step {next} e₆ = go (variables-from us (v ∷ vs) (a .stand))
     where
-      go : VariablesStand tab ts (v ∷ vs) → Along tab ts (us ++ v ∷ []) vs first (index + 1) next
+      go : VariablesHeld tab ts (v ∷ vs) → Along tab ts (us ++ v ∷ []) vs first (index + 1) next
       go (more-variables m c₃ c₆ s) = record {
-        stand = subst (VariablesStand tab ts) (sym (append-assoc us (v ∷ []) vs)) (a .stand);
+        stand = subst (VariablesHeld tab ts) (sym (append-assoc us (v ∷ []) vs)) (a .stand);
         begins = ap rowVariables (append-assoc us (v ∷ []) vs) ∙ a .begins;
         before = length-append us (v ∷ []) ∙ ap (λ (i : ℕ). i + 1) (a .before);
         here = sym (word-in tab 6 (v .name .row) (row-there lx (v .name .row) (m .name .token .there)) c₆) ∙ ap (wordAt tab 6) (a .here) ∙ sym e₆;
@@ -132,9 +132,9 @@ pub record First (tab : List ℕ) (ts : List Token) (v : Variable) (vs : List Va
   pub near : row < absent
   pub declared : DeclaredAt tab ts v row
   pub next : wordAt tab 6 row ≡ rowVariables vs
-  pub rest : VariablesStand tab ts vs
+  pub rest : VariablesHeld tab ts vs
 
-pub first-of : {tab : List ℕ} {n : ℕ} {ts : List Token} → Lexemes tab n ts → {v : Variable} {vs : List Variable} {row : ℕ} → v .name .row ≡ row → VariablesStand tab ts (v ∷ vs)
+pub first-of : {tab : List ℕ} {n : ℕ} {ts : List Token} → Lexemes tab n ts → {v : Variable} {vs : List Variable} {row : ℕ} → v .name .row ≡ row → VariablesHeld tab ts (v ∷ vs)
     → First tab ts v vs row
 first-of {tab} lx {v} {vs} at (more-variables m c₃ c₆ s) =
     let there = row-there lx (v .name .row) (m .name .token .there) in
@@ -143,16 +143,16 @@ first-of {tab} lx {v} {vs} at (more-variables m c₃ c₆ s) =
 -- and the method
 pub record FirstMethod (tab : List ℕ) (n : ℕ) (ts : List Token) (m : Method) (ms : List Method) (row : ℕ) : Type 0 where
   pub near : row < absent
-  pub stands : MethodStands tab n ts m
+  pub stands : MethodHeld tab n ts m
   pub next : wordAt tab 6 row ≡ rowMethods ms
-  pub rest : MethodsStand tab n ts ms
+  pub rest : MethodsHeld tab n ts ms
 
-pub first-method : {tab : List ℕ} {n : ℕ} {ts : List Token} → Lexemes tab n ts → {m : Method} {ms : List Method} {row : ℕ} → m .name .row ≡ row → MethodsStand tab n ts (m ∷ ms)
+pub first-method : {tab : List ℕ} {n : ℕ} {ts : List Token} → Lexemes tab n ts → {m : Method} {ms : List Method} {row : ℕ} → m .name .row ≡ row → MethodsHeld tab n ts (m ∷ ms)
     → FirstMethod tab n ts m ms row
 first-method {tab} lx {m} {ms} at (more-methods h c₆ s) =
     let there = row-there lx (m .name .row) (h .head .name .token .there) in
     record { near = omega (arith, at, there); stands = h; next = ap (wordAt tab 6) (sym at) ∙ word-in tab 6 (m .name .row) there c₆; rest = s }
 
-pub method-declared : {tab : List ℕ} {n : ℕ} {ts : List Token} → Lexemes tab n ts → (m : Method) {row : ℕ} → m .name .row ≡ row → MethodStands tab n ts m
+pub method-declared : {tab : List ℕ} {n : ℕ} {ts : List Token} → Lexemes tab n ts → (m : Method) {row : ℕ} → m .name .row ≡ row → MethodHeld tab n ts m
     → DeclaredAt tab ts (headOf m) row
 method-declared lx m at s = declared-at lx (headOf m) at (s .head) (s .result)

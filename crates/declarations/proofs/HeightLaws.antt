@@ -11,20 +11,21 @@ use lib.ListN.{length, getD, set}
 use lib.Seq.{getD-set-same, getD-set-other}
 use lib.Dec.{leb}
 use borrow.Author.Tests.{le-leb, lt-leb, leb-true, leb-false}
+use Rattle.base.specs.Codes.{chainEndless}
 use Rattle.base.specs.Choice.{option}
 use Rattle.lexer.specs.Tokens.{Token}
 use Rattle.parser.specs.Tree.{Name, Class}
-use Rattle.parser.specs.Layout.{rowClasses}
-use Rattle.checker.specs.ClassTable.{classNamed, endsWithin}
-use Rattle.checker.specs.Declarations.{endingChains}
+use Rattle.parser.specs.contracts.Layout.{absent, rowClasses}
+use Rattle.typesystem.specs.ClassTable.{classNamed, endsWithin}
+use Rattle.typesystem.specs.Declarations.{endingChains}
 use Rattle.lookup.specs.declared.answer.Judged.{Judged}
 use Rattle.lookup.specs.declared.answer.Judged.the-variants.{Fine, Refused}
-use Rattle.lookup.specs.Standing.{absent, wordAt, Lexemes, Spells, Numbers, no-name, a-name, ClassStands, World, parentName}
-use Rattle.lookup.specs.StandingLaws.{start-word, name-word, row-there, ClassAt, no-class, a-class, class-at, none-left}
-use Rattle.lookup.specs.Lookups.{Above}
-use Rattle.lookup.specs.Answers.{settled}
-use Rattle.declarations.specs.Judgements.{ClassesAt, ChainsJudged}
-use Rattle.declarations.specs.Climbs.{Height, Higher, HeightsRight, Climbed}
+use Rattle.lookup.specs.contracts.HeldClasses.{wordAt, Lexemes, NameNumber, MaybeNumber, no-name, a-name, ClassHeld, ClassTableHeld, parentName}
+use Rattle.lookup.specs.laws.HeldLaws.{start-word, name-word, row-there, ClassAt, no-class, a-class, class-at, none-left}
+use Rattle.lookup.specs.contracts.Lookups.{Above}
+use Rattle.lookup.specs.contracts.Answers.{asJudged}
+use Rattle.declarations.specs.contracts.Judgements.{ClassesAt, ChainsJudged}
+use Rattle.declarations.specs.contracts.Climbs.{Height, Higher, HeightsRight, HeightClimbed}
 use Rattle.declarations.proofs.ClassLaws.{first-class}
 
 -- THE ARRAY
@@ -61,7 +62,7 @@ more h r q z s e (suc left) = s left ∙ e left ∙ go (leb h left) refl
 -- the name of a class's parent, of number p, and that the chain goes on there
 record Parent (ts : List Token) (G : List Class) (name : List ℕ) (p : ℕ) : Type 0 where
   text : List ℕ
-  spelt : Spells ts text p
+  spelt : NameNumber ts text p
   ends : (left : ℕ) → endsWithin (suc left) G name ≡ endsWithin left G text
 
 module _ {tab : List ℕ} {c class : ℕ} (index : class ≡ wordAt tab 7 c) where
@@ -78,20 +79,20 @@ module _ {tab : List ℕ} {c class : ℕ} (index : class ≡ wordAt tab 7 c) whe
     unfolding endsWithin
     top-height far = record { says = λ n ts G w name h. one (λ (i : ℕ). endsWithin i G name) refl (go n ts G w name (class-at w (some name) c class (a-name h) index)) }
       where
-        top : {n : ℕ} {ts : List Token} {G : List Class} → World tab n ts G → (left : ℕ) (q : Option Name) → Numbers ts (parentName q) p
+        top : {n : ℕ} {ts : List Token} {G : List Class} → ClassTableHeld tab n ts G → (left : ℕ) (q : Option Name) → MaybeNumber ts (parentName q) p
             → (option q true λ q. endsWithin left G (q .text)) ≡ true
         top w left none h = refl
         top w left (some q) (a-name sp) = absurd (omega (arith, row-there (w .tokens) p (sp .there)))
 
-        go : (n : ℕ) (ts : List Token) (G : List Class) → World tab n ts G → (name : List ℕ) → ClassAt tab n ts G (some name) c class → (left : ℕ) → endsWithin (suc left) G name ≡ true
+        go : (n : ℕ) (ts : List Token) (G : List Class) → ClassTableHeld tab n ts G → (name : List ℕ) → ClassAt tab n ts G (some name) c class → (left : ℕ) → endsWithin (suc left) G name ≡ true
         go n ts G w name (no-class e f) left = absurd (omega arith)
         go n ts G w name (a-class k e at near s sp) left = ends-some left G name e ∙ top w left (k .parent) (a .says n ts (w .tokens) k at s)
 
     module _ (low : p < absent) where
-      parent : (n : ℕ) (ts : List Token) (G : List Class) → World tab n ts G → (name : List ℕ) → Spells ts name c → Parent ts G name p
+      parent : (n : ℕ) (ts : List Token) (G : List Class) → ClassTableHeld tab n ts G → (name : List ℕ) → NameNumber ts name c → Parent ts G name p
       parent n ts G w name h = go (class-at w (some name) c class (a-name h) index)
         where
-          up : (k : Class) → classNamed G name ≡ some k → (o : Option Name) → k .parent ≡ o → Numbers ts (parentName o) p → Parent ts G name p
+          up : (k : Class) → classNamed G name ≡ some k → (o : Option Name) → k .parent ≡ o → MaybeNumber ts (parentName o) p → Parent ts G name p
           up k e none is (no-name far) = absurd (omega arith)
           up k e (some q) is (a-name sp) = record { text = q .text; spelt = sp; ends = λ left. ends-some left G name e ∙ rw is }
 
@@ -118,40 +119,40 @@ module _ {tab : List ℕ} {c class : ℕ} (index : class ≡ wordAt tab 7 c) whe
 -- CLIMBS
 
 module _ {tab heights : List ℕ} (right : HeightsRight tab heights) {left c : ℕ} where
-  stopped : Higher tab c left → Climbed tab left c heights 0
+  stopped : Higher tab c left → HeightClimbed tab left c heights 0
   stopped high = record { most = omega arith; right = right; height = λ n. absurd (n refl); higher = λ e. high }
 
-  pub height-none-left : left ≡ 0 → Climbed tab left c heights 0
+  pub height-none-left : left ≡ 0 → HeightClimbed tab left c heights 0
   unfolding endsWithin
   height-none-left e = stopped (record { says = λ n ts G w name sp. rw e })
 
-  pub height-past : absent ≤ c → Climbed tab left c heights 0
+  pub height-past : absent ≤ c → HeightClimbed tab left c heights 0
   height-past far = stopped (record { says = λ n ts G w name sp. absurd (omega (arith, row-there (w .tokens) c (sp .there))) })
 
-  pub height-known : (getD heights c 0 ≡ 0 → ⊥) → getD heights c 0 ≤ left → Climbed tab left c heights (getD heights c 0)
+  pub height-known : (getD heights c 0 ≡ 0 → ⊥) → getD heights c 0 ≤ left → HeightClimbed tab left c heights (getD heights c 0)
   height-known n low = record { most = low; right = right; height = λ n. right .says c n; higher = λ e. absurd (n e) }
 
-  pub height-higher : left < getD heights c 0 → Climbed tab left c heights 0
+  pub height-higher : left < getD heights c 0 → HeightClimbed tab left c heights 0
   height-higher high = stopped (record {
     says = λ n ts G w name sp. right .says c (λ e. omega (arith, e)) .says n ts G w name sp left ∙ lt-leb (getD heights c 0) left high;
   })
 
   module _ (some-left : left ≡ 0 → ⊥) {class : ℕ} (index : class ≡ wordAt tab 7 c) where
-    only : Height tab c 1 → Climbed tab left c heights 1
+    only : Height tab c 1 → HeightClimbed tab left c heights 1
     only tall = record { most = omega arith; right = right; height = λ n. tall; higher = λ e. absurd (omega (arith, e)) }
 
-    pub height-unknown : absent ≤ class → Climbed tab left c heights 1
+    pub height-unknown : absent ≤ class → HeightClimbed tab left c heights 1
     height-unknown far = only (unknown-height index far)
 
-    pub height-top : class < absent → {p : ℕ} → Above tab class p → absent ≤ p → Climbed tab left c heights 1
+    pub height-top : class < absent → {p : ℕ} → Above tab class p → absent ≤ p → HeightClimbed tab left c heights 1
     height-top near a far = only (top-height index near a far)
 
 module _ {tab : List ℕ} {left c class p : ℕ} (some-left : left ≡ 0 → ⊥) (index : class ≡ wordAt tab 7 c) (near : class < absent) (a : Above tab class p) (low : p < absent)
-    {heights : List ℕ} {q : ℕ} (h : Climbed tab (left - 1) p heights q) where
-  pub height-endless : q ≡ 0 → Climbed tab left c heights 0
+    {heights : List ℕ} {q : ℕ} (h : HeightClimbed tab (left - 1) p heights q) where
+  pub height-endless : q ≡ 0 → HeightClimbed tab left c heights 0
   height-endless e = stopped (h .right) (next-higher index near a low some-left (h .higher e))
 
-  pub height-next : (q ≡ 0 → ⊥) → c < absent → (before : List ℕ) → absent ≤ length before → length heights ≡ length before → {after : List ℕ} → after ≡ set heights c (q + 1) → Climbed tab left c after (q + 1)
+  pub height-next : (q ≡ 0 → ⊥) → c < absent → (before : List ℕ) → absent ≤ length before → length heights ≡ length before → {after : List ℕ} → after ≡ set heights c (q + 1) → HeightClimbed tab left c after (q + 1)
   height-next n here before large long e =
       let tall = next-height index near a low (h .height n) in
       record { most = omega (arith, h .most); right = one-known (h .right) (omega arith) tall e; height = λ n. tall; higher = λ z. absurd (omega (arith, z)) }
@@ -159,12 +160,12 @@ module _ {tab : List ℕ} {left c class p : ℕ} (some-left : left ≡ 0 → ⊥
 -- CHAINS
 
 -- the place of a class's name, and its number
-class-place : {tab : List ℕ} {n : ℕ} {ts : List Token} → Lexemes tab n ts → (k : Class) {row p : ℕ} → k .name .row ≡ row → ClassStands tab n ts k → p ≡ wordAt tab 1 row → p ≡ k .name .start
+class-place : {tab : List ℕ} {n : ℕ} {ts : List Token} → Lexemes tab n ts → (k : Class) {row p : ℕ} → k .name .row ≡ row → ClassHeld tab n ts k → p ≡ wordAt tab 1 row → p ≡ k .name .start
 class-place {tab} lx k at s e₁ = e₁ ∙ ap (wordAt tab 1) (sym at) ∙ start-word lx (k .name .row) (s .named .token .there) ∙ s .named .start
 
-class-number : {tab : List ℕ} {n : ℕ} {ts : List Token} → Lexemes tab n ts → (k : Class) {row x : ℕ} → k .name .row ≡ row → ClassStands tab n ts k → x ≡ wordAt tab 2 row
-    → Spells ts (k .name .text) x
-class-number {tab} {ts = ts} lx k at s e₂ = subst (Spells ts (k .name .text)) (ap (wordAt tab 2) at ∙ sym e₂) (name-word lx (k .name .row) (s .named .token))
+class-number : {tab : List ℕ} {n : ℕ} {ts : List Token} → Lexemes tab n ts → (k : Class) {row x : ℕ} → k .name .row ≡ row → ClassHeld tab n ts k → x ≡ wordAt tab 2 row
+    → NameNumber ts (k .name .text) x
+class-number {tab} {ts = ts} lx k at s e₂ = subst (NameNumber ts (k .name .text)) (ap (wordAt tab 2) at ∙ sym e₂) (name-word lx (k .name .row) (s .named .token))
 
 module _ {tab : List ℕ} {classes left row : ℕ} where
   pub chains-none-left : row < absent → left ≡ 0 → {number p : ℕ} → ChainsJudged tab classes left row (Refused number p)
@@ -174,29 +175,29 @@ module _ {tab : List ℕ} {classes left row : ℕ} where
   unfolding endingChains
   chains-absent far = record { says = λ n ts G w l ks a. go n ts G w ks a }
     where
-      go : (n : ℕ) (ts : List Token) (G : List Class) → World tab n ts G → (ks : List Class) → ClassesAt tab n ts ks left row → Fine 0 ≡ settled (endingChains G ks)
+      go : (n : ℕ) (ts : List Token) (G : List Class) → ClassTableHeld tab n ts G → (ks : List Class) → ClassesAt tab n ts ks left row → Fine 0 ≡ asJudged (endingChains G ks)
       go n ts G w [] a = refl
       go n ts G w (k ∷ ks) a = absurd (omega (arith, first-class (w .tokens) a .near))
 
-  module _ (near : row < absent) {x : ℕ} (e₂ : x ≡ wordAt tab 2 row) {heights : List ℕ} {h : ℕ} (up : Climbed tab classes x heights h) where
-    pub chains-endless : h ≡ 0 → {p : ℕ} → p ≡ wordAt tab 1 row → ChainsJudged tab classes left row (Refused 22 p)
+  module _ (near : row < absent) {x : ℕ} (e₂ : x ≡ wordAt tab 2 row) {heights : List ℕ} {h : ℕ} (up : HeightClimbed tab classes x heights h) where
+    pub chains-endless : h ≡ 0 → {p : ℕ} → p ≡ wordAt tab 1 row → ChainsJudged tab classes left row (Refused chainEndless p)
     unfolding endingChains
     chains-endless is {p} e₁ = record { says = λ n ts G w l ks a. go n ts G w l ks a }
       where
-        go : (n : ℕ) (ts : List Token) (G : List Class) → World tab n ts G → length G ≡ classes → (ks : List Class) → ClassesAt tab n ts ks left row
-            → Refused 22 p ≡ settled (endingChains G ks)
+        go : (n : ℕ) (ts : List Token) (G : List Class) → ClassTableHeld tab n ts G → length G ≡ classes → (ks : List Class) → ClassesAt tab n ts ks left row
+            → Refused chainEndless p ≡ asJudged (endingChains G ks)
         go n ts G w l [] a = absurd (omega (arith, a .here))
         go n ts G w l (k ∷ ks) a =
             let s = first-class (w .tokens) a .stands in
             let e = ap (λ (i : ℕ). endsWithin i G (k .name .text)) l ∙ up .higher is .says n ts G w (k .name .text) (class-number (w .tokens) k (a .here) s e₂) in
-            rw e (ap (Refused 22) (class-place (w .tokens) k (a .here) s e₁))
+            rw e (ap (Refused chainEndless) (class-place (w .tokens) k (a .here) s e₁))
 
     pub chains-next : (left ≡ 0 → ⊥) → (h ≡ 0 → ⊥) → {next : ℕ} {r : Judged} → next ≡ wordAt tab 6 row → ChainsJudged tab classes (left - 1) next r → ChainsJudged tab classes left row r
     unfolding endingChains
     chains-next some-left is {next} {r} e₆ h′ = record { says = λ n ts G w l ks a. go n ts G w l ks a }
       where
-        go : (n : ℕ) (ts : List Token) (G : List Class) → World tab n ts G → length G ≡ classes → (ks : List Class) → ClassesAt tab n ts ks left row
-            → r ≡ settled (endingChains G ks)
+        go : (n : ℕ) (ts : List Token) (G : List Class) → ClassTableHeld tab n ts G → length G ≡ classes → (ks : List Class) → ClassesAt tab n ts ks left row
+            → r ≡ asJudged (endingChains G ks)
         go n ts G w l [] a = absurd (omega (arith, a .here))
         go n ts G w l (k ∷ ks) a =
             let f = first-class (w .tokens) a in

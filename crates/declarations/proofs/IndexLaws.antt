@@ -10,62 +10,64 @@ use mathlib.Core.Option.{Option, none, some}
 use lib.ListN.{length, getD, set}
 use lib.Dec.{eqb}
 use borrow.Author.Tests.{eqb-true, eqb-false, eq-eqb, ne-eqb, lt-ltb, le-ltb}
+use Rattle.base.specs.Codes.{classRepeated}
 use Rattle.base.specs.Bytes.{same}
 use Rattle.base.specs.Choice.{if_then_else_, option}
-use Rattle.base.specs.Lists.{all-nil, all-cons, all-append, get-below, get-getD, getD-get}
+use Rattle.base.specs.All.{all-nil, all-cons}
+use Rattle.base.specs.laws.Lists.{all-append, get-below, get-getD, getD-get}
 use Rattle.base.specs.Outcome.{accepted, refused}
-use Rattle.base.specs.Table.{rows, col, put, length-put, col-put-same, col-put-other, put-columns}
+use Rattle.base.specs.contracts.Table.{rows, col, put, length-put, col-put-same, col-put-other, put-columns}
 use Rattle.lexer.specs.Kinds.{kIf, isName}
 use Rattle.lexer.specs.Tokens.{Token}
-use Rattle.lexer.specs.Rows.{firstNamed}
-use Rattle.lexer.specs.RowLaws.{first-named}
+use Rattle.lexer.specs.contracts.Rows.{firstNamed}
+use Rattle.lexer.specs.laws.RowLaws.{first-named}
 use Rattle.parser.specs.Tree.{Class, Program}
 use Rattle.parser.specs.Stream.{tokenAt, noMore, kindAt}
-use Rattle.parser.specs.Layout.{rowClasses}
+use Rattle.parser.specs.contracts.Layout.{absent, rowClasses}
 use Rattle.parser.specs.Read.{Reading}
-use Rattle.reader.specs.Holds.{HoldsClasses, HoldsProgram}
-use Rattle.reader.specs.Matches.{NameIs, NameMatches, ClassesMatch, ProgramMatches}
-use Rattle.reader.specs.Kept.{SameTree}
-use Rattle.reader.specs.Filled.{still-holds}
-use Rattle.reader.specs.Matching.{program-matches}
-use Rattle.reader.specs.ReadPost.{Filling}
-use Rattle.checker.specs.ClassTable.{classNamed}
-use Rattle.checker.specs.Declarations.{occurs, distinctClasses}
-use Rattle.checker.specs.Typing.{className}
-use Rattle.base.specs.Tests.{same-refl}
-use Rattle.typing.specs.Choices.{by-test, refused-accepted}
-use Rattle.typing.specs.Chains.{all-classes}
-use Rattle.typing.specs.Distinctness.{distinct-rest}
-use Rattle.typing.specs.Programs.{names-sound, class-found}
+use Rattle.reader.specs.contracts.Holds.{HoldsClasses, HoldsProgram}
+use Rattle.reader.specs.contracts.Matches.{NameIs, NameMatches, ClassesMatch, ProgramMatches}
+use Rattle.reader.specs.laws.Kept.{SameTree}
+use Rattle.reader.specs.contracts.FilledTable.{still-holds}
+use Rattle.reader.specs.laws.Matching.{program-matches}
+use Rattle.reader.specs.contracts.ReadPost.{Filling}
+use Rattle.typesystem.specs.ClassTable.{classNamed, occurs}
+use Rattle.typesystem.specs.Declarations.{distinctClasses}
+use Rattle.typesystem.specs.TypingRules.{className}
+use Rattle.base.specs.laws.Tests.{same-refl}
+use Rattle.typing.specs.laws.Choices.{by-test, refused-accepted}
+use Rattle.typing.specs.laws.Chains.{all-classes}
+use Rattle.typing.specs.laws.Distinctness.{distinct-rest}
+use Rattle.typing.specs.laws.Programs.{names-sound, class-found}
 use Rattle.lookup.specs.declared.answer.Judged.{Judged}
 use Rattle.lookup.specs.declared.answer.Judged.the-variants.{Fine, Refused}
-use Rattle.lookup.specs.Standing.{absent, wordAt, Lexemes, Spells, Indexed, rowClass}
-use Rattle.lookup.specs.StandingLaws.{word-in, start-word, name-word, name-kind, row-there, one-name, same-names, other-names, none-left}
-use Rattle.lookup.specs.Answers.{settled}
-use Rattle.declarations.specs.Earlier.{onto}
-use Rattle.declarations.specs.Indexing.{wiped, cleared, entered, Named, none-named, more-named, Kept, Shown, EntriesMade, Ready, IndexMade}
+use Rattle.lookup.specs.contracts.HeldClasses.{wordAt, Lexemes, NameNumber, Indexed, rowClass}
+use Rattle.lookup.specs.laws.HeldLaws.{word-in, start-word, name-word, name-kind, row-there, one-name, same-names, other-names, none-left}
+use Rattle.lookup.specs.contracts.Answers.{asJudged}
+use Rattle.declarations.specs.contracts.Earlier.{onto}
+use Rattle.declarations.specs.contracts.Indexing.{wiped, cleared, indexed, ClassesNamed, none-named, more-named, ColumnsKept, Shown, EntriesMade, Ready, IndexMade}
 use Rattle.declarations.proofs.EarlierLaws.{onto-occurs, onto-next}
 use Rattle.declarations.proofs.Placing.{classes-stand, Derived, derived}
 
 -- WHAT IS KEPT
 
-kept-same : {ts : List Token} {tab : List ℕ} → Kept ts tab tab
+kept-same : {ts : List Token} {tab : List ℕ} → ColumnsKept ts tab tab
 kept-same = record { columns = λ k h i hi. refl; thirds = λ i hi e. refl }
 
-kept-then : {ts : List Token} {a b c : List ℕ} → Kept ts a b → Kept ts b c → Kept ts a c
+kept-then : {ts : List Token} {a b c : List ℕ} → ColumnsKept ts a b → ColumnsKept ts b c → ColumnsKept ts a c
 kept-then p q = record { columns = λ k h i hi. q .columns k h i hi ∙ p .columns k h i hi; thirds = λ i hi e. q .thirds i hi e ∙ p .thirds i hi e }
 
-kept-put : (ts : List Token) (tab : List ℕ) (j v : ℕ) → j < rows → (kindAt ts j ≡ kIf → ⊥) → Kept ts tab (put tab 7 j v)
+kept-put : (ts : List Token) (tab : List ℕ) (j v : ℕ) → j < rows → (kindAt ts j ≡ kIf → ⊥) → ColumnsKept ts tab (put tab 7 j v)
 kept-put ts tab j v hj n =
     record {
       columns = λ k h. put-columns tab k 7 j v (omega arith) hj;
       thirds = λ i hi e. col-put-other tab 7 i 7 j hi hj (λ _ z. n (rw z at e)) v;
     }
 
-kept-tree : {ts : List Token} {tab tab′ : List ℕ} → Kept ts tab tab′ → SameTree ts tab tab′
+kept-tree : {ts : List Token} {tab tab′ : List ℕ} → ColumnsKept ts tab tab′ → SameTree ts tab tab′
 kept-tree p = record { columns = λ k _ h. p .columns k h; thirds = p .thirds }
 
-kept-lexemes : {n : ℕ} {ts : List Token} {tab tab′ : List ℕ} → Kept ts tab tab′ → Lexemes tab n ts → Lexemes tab′ n ts
+kept-lexemes : {n : ℕ} {ts : List Token} {tab tab′ : List ℕ} → ColumnsKept ts tab tab′ → Lexemes tab n ts → Lexemes tab′ n ts
 kept-lexemes {ts = ts} p lx =
     record {
       count = lx .count;
@@ -81,13 +83,13 @@ kept-lexemes {ts = ts} p lx =
           };
     }
 
-kept-named : {n : ℕ} {ts : List Token} {tab tab′ : List ℕ} → Lexemes tab n ts → Kept ts tab tab′ → {ks : List Class} → Named tab ts ks → Named tab′ ts ks
+kept-named : {n : ℕ} {ts : List Token} {tab tab′ : List ℕ} → Lexemes tab n ts → ColumnsKept ts tab tab′ → {ks : List Class} → ClassesNamed tab ts ks → ClassesNamed tab′ ts ks
 kept-named lx p none-named = none-named
 kept-named lx p (more-named {k = k} m c₆ h) =
     more-named m (p .columns 6 (omega arith) (k .name .row) (row-there lx (k .name .row) (m .token .there)) ∙ c₆) (kept-named lx p h)
 
 -- the number of a name is the row of a name
-name-no-if : {ts : List Token} {c : List ℕ} {number : ℕ} → Spells ts c number → kindAt ts number ≡ kIf → ⊥
+name-no-if : {ts : List Token} {c : List ℕ} {number : ℕ} → NameNumber ts c number → kindAt ts number ≡ kIf → ⊥
 name-no-if {ts} {c} {number} s e =
     let f = first-named ts c (omega (arith, s .first, s .there)) in
     let at : tokenAt ts number ≡ f .item = ap (tokenAt ts) (sym (s .first)) ∙ getD-get ts (firstNamed ts c) noMore (f .at) in
@@ -145,14 +147,14 @@ module _ {n : ℕ} {ts : List Token} where
   kind-word : {tab : List ℕ} → Lexemes tab n ts → (i : ℕ) → i < n → col tab 0 i ≡ kindAt ts i
   kind-word lx i h = lx .rows i (tokenAt ts i) (get-getD ts i noMore (omega (arith, h, lx .count))) .kind
 
-  kept-wiped : {tab : List ℕ} → Lexemes tab n ts → (i : ℕ) → i < n → Kept ts tab (wiped tab i)
+  kept-wiped : {tab : List ℕ} → Lexemes tab n ts → (i : ℕ) → i < n → ColumnsKept ts tab (wiped tab i)
   unfolding wiped
   kept-wiped {tab} lx i h =
-      by-test (Kept ts tab) (eqb (col tab 0 i) kIf) _ _ (λ _. kept-same)
+      by-test (ColumnsKept ts tab) (eqb (col tab 0 i) kIf) _ _ (λ _. kept-same)
       (λ f. kept-put ts tab i absent (omega (arith, h, lx .few)) (λ z. eqb-false (col tab 0 i) kIf f (kind-word lx i h ∙ z)))
 
   module _ {tab : List ℕ} (lx : Lexemes tab n ts) where
-    pub kept-cleared : (i : ℕ) → i ≤ n → Kept ts tab (cleared i tab)
+    pub kept-cleared : (i : ℕ) → i ≤ n → ColumnsKept ts tab (cleared i tab)
     unfolding cleared
     kept-cleared zero h = kept-same
     kept-cleared (suc i) h =
@@ -183,12 +185,12 @@ module _ {n : ℕ} {ts : List Token} where
 
 -- ENTERING
 
-pub enter-row : (tab : List ℕ) (row class : ℕ) → row < absent → set tab (14336 + row) class ≡ entered tab row class
-unfolding entered put
+pub enter-row : (tab : List ℕ) (row class : ℕ) → row < absent → set tab (14336 + row) class ≡ indexed tab row class
+unfolding indexed put
 enter-row tab row class h = rw (lt-ltb row absent h)
 
-pub enter-none : (tab : List ℕ) (row class : ℕ) → absent ≤ row → tab ≡ entered tab row class
-unfolding entered
+pub enter-none : (tab : List ℕ) (row class : ℕ) → absent ≤ row → tab ≡ indexed tab row class
+unfolding indexed
 enter-none tab row class h = rw (le-ltb row absent h)
 
 -- a name occurs among those of the classes just where it finds a class
@@ -219,7 +221,7 @@ last-none none = refl
 last-none (some k) = refl
 
 -- the index with one more class, of a new name
-index-more : {tab : List ℕ} {n : ℕ} {ts : List Token} → Lexemes tab n ts → 16384 ≤ length tab → (js : List Class) → Indexed tab ts js → (k : Class) (x : ℕ) → Spells ts (className k) x
+index-more : {tab : List ℕ} {n : ℕ} {ts : List Token} → Lexemes tab n ts → 16384 ≤ length tab → (js : List Class) → Indexed tab ts js → (k : Class) (x : ℕ) → NameNumber ts (className k) x
     → classNamed js (className k) ≡ none → Indexed (put tab 7 x (k .name .row)) ts (js ++ k ∷ [])
 index-more {tab} {ts = ts} lx big js h k x sp new c number s =
     let hx = row-there lx x (sp .there) in
@@ -254,24 +256,24 @@ module _ {tab : List ℕ} {main left row : ℕ} where
   unfolding distinctClasses
   entries-absent far = record { says = λ n ts lx top t js h ks d named few. go n ts lx (onto (top ∷ []) (map className js)) js h ks d named }
     where
-      go : (n : ℕ) (ts : List Token) → Lexemes tab n ts → (earlier : List (List ℕ)) (js : List Class) → Shown tab ts js → (ks : List Class) → rowClasses ks ≡ row → Named tab ts ks
-          → (Fine 0 ≡ settled (distinctClasses earlier ks)) × (distinctClasses earlier ks ≡ accepted tt → Kept ts tab tab × Indexed tab ts (js ++ ks))
+      go : (n : ℕ) (ts : List Token) → Lexemes tab n ts → (earlier : List (List ℕ)) (js : List Class) → Shown tab ts js → (ks : List Class) → rowClasses ks ≡ row → ClassesNamed tab ts ks
+          → (Fine 0 ≡ asJudged (distinctClasses earlier ks)) × (distinctClasses earlier ks ≡ accepted tt → ColumnsKept ts tab tab × Indexed tab ts (js ++ ks))
       go n ts lx earlier js h [] d named = (refl, λ _. (kept-same, subst (Indexed tab ts) (sym (append-nil js)) (h .index)))
       go n ts lx earlier js h (k ∷ ks) d (more-named m c₆ named) = absurd (omega (arith, d, row-there lx (k .name .row) (m .token .there)))
 
 -- the class of a row: its name's number, and where it stands
 class-spells : {tab : List ℕ} {n : ℕ} {ts : List Token} → Lexemes tab n ts → (k : Class) {row x : ℕ} → k .name .row ≡ row → NameMatches ts (k .name) → x ≡ wordAt tab 2 row
-    → Spells ts (className k) x
-class-spells {tab} {ts = ts} lx k at m e₂ = subst (Spells ts (className k)) (ap (wordAt tab 2) at ∙ sym e₂) (name-word lx (k .name .row) (m .token))
+    → NameNumber ts (className k) x
+class-spells {tab} {ts = ts} lx k at m e₂ = subst (NameNumber ts (className k)) (ap (wordAt tab 2) at ∙ sym e₂) (name-word lx (k .name .row) (m .token))
 
 class-start : {tab : List ℕ} {n : ℕ} {ts : List Token} → Lexemes tab n ts → (k : Class) {row p : ℕ} → k .name .row ≡ row → NameMatches ts (k .name) → p ≡ wordAt tab 1 row → p ≡ k .name .start
 class-start {tab} lx k at m e₁ = e₁ ∙ ap (wordAt tab 1) (sym at) ∙ start-word lx (k .name .row) (m .token .there) ∙ m .start
 
 -- a refusal of the first class
 refused-first : (earlier : List (List ℕ)) (k : Class) (ks : List Class) {p : ℕ} → occurs (className k) earlier ≡ true → p ≡ k .name .start
-    → (Refused 20 p ≡ settled (distinctClasses earlier (k ∷ ks))) × (distinctClasses earlier (k ∷ ks) ≡ refused 20 p)
+    → (Refused classRepeated p ≡ asJudged (distinctClasses earlier (k ∷ ks))) × (distinctClasses earlier (k ∷ ks) ≡ refused classRepeated p)
 unfolding distinctClasses
-refused-first earlier k ks o e = rw o (ap (Refused 20) e, ap (refused 20) (sym e))
+refused-first earlier k ks o e = rw o (ap (Refused classRepeated) e, ap (refused classRepeated) (sym e))
 
 or-true : (a : Bool) → (a || true) ≡ true
 or-true true = refl
@@ -292,39 +294,39 @@ earlier-occurs top c js =
 module _ {tab : List ℕ} {main left row x p : ℕ} (near : row < absent) (e₂ : x ≡ wordAt tab 2 row) where
   -- refused where the name of the class of the row occurs earlier
   repeats : p ≡ wordAt tab 1 row
-      → ((n : ℕ) (ts : List Token) → Lexemes tab n ts → (top : List ℕ) → Spells ts top main → (js : List Class) → Shown tab ts js → (c : List ℕ) → Spells ts c x
+      → ((n : ℕ) (ts : List Token) → Lexemes tab n ts → (top : List ℕ) → NameNumber ts top main → (js : List Class) → Shown tab ts js → (c : List ℕ) → NameNumber ts c x
       → occurs c (onto (top ∷ []) (map className js)) ≡ true)
-      → EntriesMade main left row tab (Refused 20 p) tab
+      → EntriesMade main left row tab (Refused classRepeated p) tab
   repeats e₁ f = record { says = λ n ts lx top t js h ks d named few. go n ts lx top t js h ks d named }
     where
-      go : (n : ℕ) (ts : List Token) → Lexemes tab n ts → (top : List ℕ) → Spells ts top main → (js : List Class) → Shown tab ts js → (ks : List Class) → rowClasses ks ≡ row → Named tab ts ks
-          → (Refused 20 p ≡ settled (distinctClasses (onto (top ∷ []) (map className js)) ks))
-          × (distinctClasses (onto (top ∷ []) (map className js)) ks ≡ accepted tt → Kept ts tab tab × Indexed tab ts (js ++ ks))
+      go : (n : ℕ) (ts : List Token) → Lexemes tab n ts → (top : List ℕ) → NameNumber ts top main → (js : List Class) → Shown tab ts js → (ks : List Class) → rowClasses ks ≡ row → ClassesNamed tab ts ks
+          → (Refused classRepeated p ≡ asJudged (distinctClasses (onto (top ∷ []) (map className js)) ks))
+          × (distinctClasses (onto (top ∷ []) (map className js)) ks ≡ accepted tt → ColumnsKept ts tab tab × Indexed tab ts (js ++ ks))
       go n ts lx top t js h [] d named = absurd (omega (arith, d))
       go n ts lx top t js h (k ∷ ks) d (more-named m c₆ named) =
           let o = f n ts lx top t js h (className k) (class-spells lx k d m e₂) in
           let w = refused-first (onto (top ∷ []) (map className js)) k ks o (class-start lx k d m e₁) in
           (w .0, λ z. absurd (refused-accepted (sym (w .1) ∙ z)))
 
-  pub entries-main : x ≡ main → p ≡ wordAt tab 1 row → EntriesMade main left row tab (Refused 20 p) tab
+  pub entries-main : x ≡ main → p ≡ wordAt tab 1 row → EntriesMade main left row tab (Refused classRepeated p) tab
   entries-main is e₁ = repeats e₁ λ n ts lx top t js h c sp. earlier-occurs top c js ∙ rw (same-names t sp (sym is))
 
-  pub entries-twice : {y : ℕ} → y ≡ wordAt tab 7 x → y < absent → p ≡ wordAt tab 1 row → EntriesMade main left row tab (Refused 20 p) tab
+  pub entries-twice : {y : ℕ} → y ≡ wordAt tab 7 x → y < absent → p ≡ wordAt tab 1 row → EntriesMade main left row tab (Refused classRepeated p) tab
   entries-twice {y} e₇ low e₁ = repeats e₁ λ n ts lx top t js h c sp.
       let at : y ≡ rowClass (classNamed js c) = e₇ ∙ word-in tab 7 x (row-there lx x (sp .there)) (h .index c x sp) in
       earlier-occurs top c js ∙ ap (λ (b : Bool). same top c || b) (index-some (classNamed js c) at low) ∙ or-true (same top c)
 
 pub entries-next : {tab tab₁ after : List ℕ} {main left row x y next : ℕ} {r : Judged} → 16384 ≤ length tab → (left ≡ 0 → ⊥) → row < absent → x ≡ wordAt tab 2 row → (x ≡ main → ⊥)
-    → y ≡ wordAt tab 7 x → absent ≤ y → tab₁ ≡ entered tab x row → next ≡ wordAt tab₁ 6 row → EntriesMade main (left - 1) next tab₁ r after
+    → y ≡ wordAt tab 7 x → absent ≤ y → tab₁ ≡ indexed tab x row → next ≡ wordAt tab₁ 6 row → EntriesMade main (left - 1) next tab₁ r after
     → EntriesMade main left row tab r after
-unfolding distinctClasses entered
+unfolding distinctClasses indexed
 entries-next {tab} {tab₁} {after} {main} {left} {row} {x} {y} {next} {r} big more near e₂ other e₇ high e e₆ h′ =
     record { says = λ n ts lx top t js h ks d named few. go n ts lx top t js h ks d named few }
   where
-    go : (n : ℕ) (ts : List Token) → Lexemes tab n ts → (top : List ℕ) → Spells ts top main → (js : List Class) → Shown tab ts js → (ks : List Class) → rowClasses ks ≡ row → Named tab ts ks
+    go : (n : ℕ) (ts : List Token) → Lexemes tab n ts → (top : List ℕ) → NameNumber ts top main → (js : List Class) → Shown tab ts js → (ks : List Class) → rowClasses ks ≡ row → ClassesNamed tab ts ks
         → length ks ≤ left
-        → (r ≡ settled (distinctClasses (onto (top ∷ []) (map className js)) ks))
-        × (distinctClasses (onto (top ∷ []) (map className js)) ks ≡ accepted tt → Kept ts tab after × Indexed after ts (js ++ ks))
+        → (r ≡ asJudged (distinctClasses (onto (top ∷ []) (map className js)) ks))
+        × (distinctClasses (onto (top ∷ []) (map className js)) ks ≡ accepted tt → ColumnsKept ts tab after × Indexed after ts (js ++ ks))
     go n ts lx top t js h [] d named few = absurd (omega (arith, d))
     go n ts lx top t js h (k ∷ ks) d (more-named m c₆ named) few =
         let c = className k in
@@ -333,7 +335,7 @@ entries-next {tab} {tab₁} {after} {main} {left} {row} {x} {y} {next} {r} big m
         let none-yet : classNamed js c ≡ none = index-none (classNamed js c) (e₇ ∙ word-in tab 7 x hx (h .index c x sp)) high (λ j z. all-classes c (h .rows) z) in
         let new : occurs c (onto (top ∷ []) (map className js)) ≡ false = earlier-occurs top c js ∙ rw (other-names t sp (λ z. other (sym z)), none-yet) in
         let written : tab₁ ≡ put tab 7 x (k .name .row) = e ∙ rw (lt-ltb x absent hx) (ap (put tab 7 x) (sym d)) in
-        let kept : Kept ts tab tab₁ = subst (Kept ts tab) (sym written) (kept-put ts tab x (k .name .row) hx (name-no-if sp)) in
+        let kept : ColumnsKept ts tab tab₁ = subst (ColumnsKept ts tab) (sym written) (kept-put ts tab x (k .name .row) hx (name-no-if sp)) in
         let lx₁ = kept-lexemes kept lx in
         let there = row-there lx (k .name .row) (m .token .there) in
         let c₆′ : col tab₁ 6 (k .name .row) ≡ rowClasses ks = kept .columns 6 (omega arith) (k .name .row) there ∙ c₆ in
@@ -344,7 +346,7 @@ entries-next {tab} {tab₁} {after} {main} {left} {row} {x} {y} {next} {r} big m
         let w = h′ .says n ts lx₁ top t (js ++ k ∷ []) shown ks (sym (word-in tab₁ 6 (k .name .row) there c₆′) ∙ ap (wordAt tab₁ 6) d ∙ sym e₆) (kept-named lx kept named) (omega arith) in
         let names : onto (top ∷ []) (map className (js ++ k ∷ [])) ≡ c ∷ onto (top ∷ []) (map className js) = onto-next className (top ∷ []) js k in
         rw new (
-          w .0 ∙ ap (λ (earlier : List (List ℕ)). settled (distinctClasses earlier ks)) names,
+          w .0 ∙ ap (λ (earlier : List (List ℕ)). asJudged (distinctClasses earlier ks)) names,
           λ z.
               let v = w .1 (ap (λ (earlier : List (List ℕ)). distinctClasses earlier ks) names ∙ z) in
               (kept-then kept (v .0), subst (Indexed after ts) (append-assoc js (k ∷ []) ks) (v .1)),
@@ -353,7 +355,7 @@ entries-next {tab} {tab₁} {after} {main} {left} {row} {x} {y} {next} {r} big m
 -- THE INDEX
 
 -- the names of the classes of a tree
-classes-named : {tab : List ℕ} {ts : List Token} (ks : List Class) → ClassesMatch ts ks → HoldsClasses tab ks → Named tab ts ks
+classes-named : {tab : List ℕ} {ts : List Token} (ks : List Class) → ClassesMatch ts ks → HoldsClasses tab ks → ClassesNamed tab ts ks
 unfolding ClassesMatch HoldsClasses
 classes-named [] m h = none-named
 classes-named (k ∷ ks) m h = more-named (m .0 .name) (h .1) (classes-named ks (m .1) (h .2))
@@ -375,10 +377,10 @@ module _ {n : ℕ} {before : List ℕ} (rd : Reading) (f : Filling before rd) (c
   lexemes = record { count = count; few = omega (arith, count, f .few); rows = f .rows }
 
   -- the tree is still held
-  held-on : {tab : List ℕ} → Kept ts before tab → HoldsProgram tab p
+  held-on : {tab : List ℕ} → ColumnsKept ts before tab → HoldsProgram tab p
   held-on {tab} k = still-holds ts p match (f .few) before tab (kept-tree k) (f .holds)
 
-  ready : {after : List ℕ} → Kept ts before after → Indexed after ts (p .classes) → distinctClasses (p .main .text ∷ []) (p .classes) ≡ accepted tt → Ready after n ts p
+  ready : {after : List ℕ} → ColumnsKept ts before after → Indexed after ts (p .classes) → distinctClasses (p .main .text ∷ []) (p .classes) ≡ accepted tt → Ready after n ts p
   ready k i d =
       let h = held-on k in
       record {
@@ -398,13 +400,13 @@ module _ {n : ℕ} {before : List ℕ} (rd : Reading) (f : Filling before rd) (c
 
   module _ (big : 16384 ≤ length before) {main first : ℕ} (e₂ : main ≡ wordAt (cleared n before) 2 1) (e₆ : first ≡ wordAt (cleared n before) 6 0) where
     made : {r : Judged} {after : List ℕ} → EntriesMade main n first (cleared n before) r after
-        → (r ≡ settled (distinctClasses (p .main .text ∷ []) (p .classes))) × (distinctClasses (p .main .text ∷ []) (p .classes) ≡ accepted tt → Ready after n ts p)
+        → (r ≡ asJudged (distinctClasses (p .main .text ∷ []) (p .classes))) × (distinctClasses (p .main .text ∷ []) (p .classes) ≡ accepted tt → Ready after n ts p)
     made {r} {after} h =
         let tab = cleared n before in
         let k = kept-cleared lexemes n (omega arith) in
         let lx = kept-lexemes k lexemes in
         let token : NameIs ts 1 (p .main .text) = subst (λ (i : ℕ). NameIs ts i (p .main .text)) (facts .main) (match .main .token) in
-        let w = h .says n ts lx (p .main .text) (subst (Spells ts (p .main .text)) (sym e₂) (name-word lx 1 token)) []
+        let w = h .says n ts lx (p .main .text) (subst (NameNumber ts (p .main .text)) (sym e₂) (name-word lx 1 token)) []
         (record { index = index-cleared lexemes big; rows = all-nil }) (p .classes) (sym (e₆ ∙ word-in tab 6 0 (omega arith) (held-on k .first)))
         (classes-named (p .classes) (match .classes) (held-on k .classes)) (omega (arith, count, facts .few-classes)) in
         (w .0, λ d. let v = w .1 d in ready (kept-then k (v .0)) (v .1) d)

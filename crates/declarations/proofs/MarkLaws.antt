@@ -9,10 +9,11 @@ use lib.ListN.{length, getD, set}
 use lib.Seq.{getD-set-same, getD-set-other}
 use borrow.Author.Tests.{eq-eqb, ne-eqb}
 use Rattle.lexer.specs.Tokens.{Token}
-use Rattle.checker.specs.Declarations.{occurs}
-use Rattle.lookup.specs.Standing.{absent, Lexemes, Spells}
-use Rattle.lookup.specs.StandingLaws.{row-there, same-names, other-names}
-use Rattle.declarations.specs.Marking.{Below, Marked, MarkPost}
+use Rattle.typesystem.specs.ClassTable.{occurs}
+use Rattle.parser.specs.contracts.Layout.{absent}
+use Rattle.lookup.specs.contracts.HeldClasses.{Lexemes, NameNumber}
+use Rattle.lookup.specs.laws.HeldLaws.{row-there, same-names, other-names}
+use Rattle.declarations.specs.contracts.Marking.{StampsBelow, Marked, MarkPost}
 
 -- ONE NAME
 
@@ -46,7 +47,7 @@ module _ {x stamp : ℕ} {before : List ℕ} where
 
 -- a name is marked after the earlier ones
 module _ {tab : List ℕ} {n : ℕ} {ts : List Token} (lx : Lexemes tab n ts) {x stamp : ℕ} {before after : List ℕ} {r : Bool} (h : MarkPost x stamp before after r)
-    {name : List ℕ} (sp : Spells ts name x) {earlier : List (List ℕ)} (m : Marked ts before stamp earlier) where
+    {name : List ℕ} (sp : NameNumber ts name x) {earlier : List (List ℕ)} (m : Marked ts before stamp earlier) where
   pub marked-is : occurs name earlier ≡ r
   marked-is = sym (m .says name x sp) ∙ sym (h .says (row-there lx x (sp .there)))
 
@@ -62,10 +63,10 @@ module _ {tab : List ℕ} {n : ℕ} {ts : List Token} (lx : Lexemes tab n ts) {x
 
 -- STAMPS
 
-pub below-more : {low high : ℕ} {marks : List ℕ} → low ≤ high → Below low marks → Below high marks
+pub below-more : {low high : ℕ} {marks : List ℕ} → low ≤ high → StampsBelow low marks → StampsBelow high marks
 below-more h b = record { words = λ i. omega (arith, b .words i) }
 
 -- no name has a new stamp
-pub none-marked : {ts : List Token} {stamp : ℕ} {marks : List ℕ} → Below stamp marks → Marked ts marks stamp []
+pub none-marked : {ts : List Token} {stamp : ℕ} {marks : List ℕ} → StampsBelow stamp marks → Marked ts marks stamp []
 unfolding occurs
 none-marked {stamp = stamp} {marks} b = record { says = λ text x sp. ne-eqb (getD marks x 0) stamp λ e. omega (arith, e, b .words x) }

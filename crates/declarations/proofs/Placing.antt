@@ -6,25 +6,25 @@ use native.Mathlib.Omega.{arith}
 use lib.ListN.{length}
 use Rattle.lexer.specs.Tokens.{Token}
 use Rattle.parser.specs.Tree.{Sort.statement, Variable, Method, Class, Program}
-use Rattle.parser.specs.Layout.{rowOf}
+use Rattle.parser.specs.contracts.Layout.{rowOf}
 use Rattle.parser.specs.Grammar.{DerivesMethod, DerivesMethods, DerivesClass, DerivesClasses, DerivesProgram}
 use Rattle.parser.specs.Grammar.{DerivesMethod.a-method, DerivesMethods.no-method, DerivesMethods.more-methods, DerivesClass.a-class-declaration, DerivesClasses.no-class, DerivesClasses.more-classes, DerivesProgram.a-program}
-use Rattle.reader.specs.Order.{first-row}
-use Rattle.reader.specs.Stored.{parent-order}
-use Rattle.reader.specs.Counting.{covers, tree-covers}
-use Rattle.reader.specs.Holds.{HoldsVariables, HoldsMethod, HoldsMethods, HoldsClass, HoldsClasses}
-use Rattle.reader.specs.Matches.{VariablesMatch, MethodMatches, MethodsMatch, ClassMatches, ClassesMatch}
-use Rattle.lookup.specs.Standing.{VariablesStand, MethodStands, MethodsStand, ClassStands, ClassesStand}
-use Rattle.lookup.specs.Standing as Standing
-use Rattle.declarations.specs.Counts.{head-count, variables-count, formals-count, methods-count, classes-count}
+use Rattle.reader.specs.laws.Order.{first-row}
+use Rattle.reader.specs.laws.Stored.{parent-order}
+use Rattle.reader.specs.laws.Counting.{covers, tree-covers}
+use Rattle.reader.specs.contracts.Holds.{HoldsVariables, HoldsMethod, HoldsMethods, HoldsClass, HoldsClasses}
+use Rattle.reader.specs.contracts.Matches.{VariablesMatch, MethodMatches, MethodsMatch, ClassMatches, ClassesMatch}
+use Rattle.lookup.specs.contracts.HeldClasses.{VariablesHeld, MethodHeld, MethodsHeld, ClassHeld, ClassesHeld}
+use Rattle.lookup.specs.contracts.HeldClasses as Standing
+use Rattle.declarations.specs.laws.Counts.{head-count, variables-count, formals-count, methods-count, classes-count}
 
-variables-stand : {tab : List ℕ} {ts : List Token} (vs : List Variable) → VariablesMatch ts vs → HoldsVariables tab vs → VariablesStand tab ts vs
+variables-stand : {tab : List ℕ} {ts : List Token} (vs : List Variable) → VariablesMatch ts vs → HoldsVariables tab vs → VariablesHeld tab ts vs
 unfolding VariablesMatch HoldsVariables
 variables-stand [] m h = Standing.no-variables
 variables-stand (v ∷ vs) m h = Standing.more-variables (m .0) (h .0) (h .1) (variables-stand vs (m .1) (h .2))
 
 module _ {tab : List ℕ} {n : ℕ} {ts : List Token} where
-  method-stands : {i j : ℕ} {m : Method} → DerivesMethod ts i j m → j ≤ n → MethodMatches ts m → HoldsMethod tab m → MethodStands tab n ts m
+  method-stands : {i j : ℕ} {m : Method} → DerivesMethod ts i j m → j ≤ n → MethodMatches ts m → HoldsMethod tab m → MethodHeld tab n ts m
   method-stands (a-method {ps = ps} {ls = ls} _ head _ fs _ _ vs ss _ v _ _) few m h =
       record {
         head = m .head;
@@ -46,13 +46,13 @@ module _ {tab : List ℕ} {n : ℕ} {ts : List Token} where
         value-covers = omega (arith, head-count head, formals-count fs, variables-count vs, tree-covers ss, tree-covers v);
       }
 
-  methods-stand : {i j : ℕ} {ms : List Method} → DerivesMethods ts i j ms → j ≤ n → MethodsMatch ts ms → HoldsMethods tab ms → MethodsStand tab n ts ms
+  methods-stand : {i j : ℕ} {ms : List Method} → DerivesMethods ts i j ms → j ≤ n → MethodsMatch ts ms → HoldsMethods tab ms → MethodsHeld tab n ts ms
   unfolding MethodsMatch HoldsMethods
   methods-stand no-method few m h = Standing.no-methods
   methods-stand (more-methods d d′) few m h =
       Standing.more-methods (method-stands d (omega (arith, methods-count d′)) (m .0) (h .0)) (h .1) (methods-stand d′ few (m .1) (h .2))
 
-  class-stands : {i j : ℕ} {k : Class} → DerivesClass ts i j k → j ≤ n → ClassMatches ts k → HoldsClass tab k → ClassStands tab n ts k
+  class-stands : {i j : ℕ} {k : Class} → DerivesClass ts i j k → j ≤ n → ClassMatches ts k → HoldsClass tab k → ClassHeld tab n ts k
   class-stands (a-class-declaration {fs = fs} _ _ p _ vs ms _) few m h =
       record {
         named = m .name;
@@ -66,7 +66,7 @@ module _ {tab : List ℕ} {n : ℕ} {ts : List Token} where
         few-methods = omega (arith, parent-order p, variables-count vs, methods-count ms);
       }
 
-  pub classes-stand : {i j : ℕ} {ks : List Class} → DerivesClasses ts i j ks → j ≤ n → ClassesMatch ts ks → HoldsClasses tab ks → ClassesStand tab n ts ks
+  pub classes-stand : {i j : ℕ} {ks : List Class} → DerivesClasses ts i j ks → j ≤ n → ClassesMatch ts ks → HoldsClasses tab ks → ClassesHeld tab n ts ks
   unfolding ClassesMatch HoldsClasses
   classes-stand no-class few m h = Standing.no-classes
   classes-stand (more-classes d d′) few m h =

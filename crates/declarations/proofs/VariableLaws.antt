@@ -8,22 +8,22 @@ use mathlib.Core.Bool.{Bool, true, false}
 use lib.ListN.{length, length-map}
 use lib.Dec.{ltb}
 use borrow.Author.Tests.{lt-ltb, le-ltb}
-use Rattle.base.specs.Codes.{variablesMost}
+use Rattle.base.specs.Codes.{variablesMost, fieldRepeated, tooManyVariables, typeUnknown, variableRepeated}
 use Rattle.base.specs.Outcome.{Outcome, accepted, refused, _>>=_}
 use Rattle.lexer.specs.Tokens.{Token}
 use Rattle.parser.specs.Tree.{Variable, Class}
-use Rattle.parser.specs.Layout.{rowVariables}
-use Rattle.checker.specs.ClassTable.{known}
-use Rattle.checker.specs.Declarations.{occurs, textOf, knownType, fields, variables}
+use Rattle.parser.specs.contracts.Layout.{absent, rowVariables}
+use Rattle.typesystem.specs.ClassTable.{known, occurs, textOf}
+use Rattle.typesystem.specs.Declarations.{knownType, fields, variables}
 use Rattle.lookup.specs.declared.answer.Judged.{Judged}
 use Rattle.lookup.specs.declared.answer.Judged.the-variants.{Fine, Refused}
-use Rattle.lookup.specs.Standing.{absent, wordAt, Lexemes, Spells, World}
-use Rattle.lookup.specs.StandingLaws.{none-left}
-use Rattle.lookup.specs.Lookups.{TypeOf, Knows, Repeated}
-use Rattle.lookup.specs.Answers.{settled, goes-on, stops}
-use Rattle.declarations.specs.Marking.{Marked, MarkPost}
-use Rattle.declarations.specs.Earlier.{onto, Listed, Along, FieldsAt}
-use Rattle.declarations.specs.Judgements.{KnownAt, FieldsJudged, newVariable, VariableJudged, VariablesJudged}
+use Rattle.lookup.specs.contracts.HeldClasses.{wordAt, Lexemes, NameNumber, ClassTableHeld}
+use Rattle.lookup.specs.laws.HeldLaws.{none-left}
+use Rattle.lookup.specs.contracts.Lookups.{TypeOf, Knows, Repeated}
+use Rattle.lookup.specs.contracts.Answers.{asJudged, goes-on, stops}
+use Rattle.declarations.specs.contracts.Marking.{Marked, MarkPost}
+use Rattle.declarations.specs.contracts.Earlier.{onto, VariablesListed, Along, FieldsAt}
+use Rattle.declarations.specs.contracts.Judgements.{KnownAt, FieldsJudged, newVariable, VariableJudged, VariablesJudged}
 use Rattle.declarations.proofs.MarkLaws.{marked-is, marked-next}
 use Rattle.declarations.proofs.EarlierLaws.{onto-occurs, onto-length, onto-next, DeclaredAt, listed-repeated, variable-near, variable-declared, variable-repeated, variable-step, first-of}
 
@@ -33,7 +33,7 @@ pub known-at : {tab : List ℕ} {n row t : ℕ} {r : Bool} → TypeOf tab n row 
 known-at h k = record { says = λ ts G w t at m. k .says ts G w (t .type) (h .says ts (w .tokens) t at m) }
 
 -- whether the type of the variable of a row is known
-pub declared-known : {tab : List ℕ} {n row t : ℕ} {b : Bool} → KnownAt tab n t b → t ≡ wordAt tab 3 row → {ts : List Token} {G : List Class} → World tab n ts G → {v : Variable}
+pub declared-known : {tab : List ℕ} {n row t : ℕ} {b : Bool} → KnownAt tab n t b → t ≡ wordAt tab 3 row → {ts : List Token} {G : List Class} → ClassTableHeld tab n ts G → {v : Variable}
     → DeclaredAt tab ts v row → known G (v .type .type) ≡ b
 declared-known k e₃ {ts} {G} w {v} d = sym (k .says ts G w (v .type) (sym (d .type) ∙ sym e₃) (d .matches .type))
 
@@ -59,103 +59,103 @@ module _ {tab : List ℕ} {n left stamp row : ℕ} {before : List ℕ} where
   unfolding fields
   fields-absent far = record { below = λ bound high b. b; says = go }
     where
-      go : (ts : List Token) (G : List Class) → World tab n ts G → (earlier : List (List ℕ)) (vs : List Variable) → FieldsAt tab ts before stamp earlier vs left row
-          → Fine 0 ≡ settled (fields G earlier vs)
+      go : (ts : List Token) (G : List Class) → ClassTableHeld tab n ts G → (earlier : List (List ℕ)) (vs : List Variable) → FieldsAt tab ts before stamp earlier vs left row
+          → Fine 0 ≡ asJudged (fields G earlier vs)
       go ts G w earlier [] a = refl
       go ts G w earlier (v ∷ vs) a = absurd (omega (arith, first-of (w .tokens) (a .here) (a .stand) .near))
 
   module _ (near : row < absent) {t : ℕ} (e₃ : t ≡ wordAt tab 3 row) {b : Bool} (k : KnownAt tab n t b) where
-    pub fields-unknown : b ≡ false → {p : ℕ} → p ≡ wordAt tab 1 t → FieldsJudged tab n left stamp row before before (Refused 24 p)
+    pub fields-unknown : b ≡ false → {p : ℕ} → p ≡ wordAt tab 1 t → FieldsJudged tab n left stamp row before before (Refused typeUnknown p)
     unfolding fields
     fields-unknown is {p} e₁ = record { below = λ bound high b. b; says = go }
       where
-        go : (ts : List Token) (G : List Class) → World tab n ts G → (earlier : List (List ℕ)) (vs : List Variable) → FieldsAt tab ts before stamp earlier vs left row
-            → Refused 24 p ≡ settled (fields G earlier vs)
+        go : (ts : List Token) (G : List Class) → ClassTableHeld tab n ts G → (earlier : List (List ℕ)) (vs : List Variable) → FieldsAt tab ts before stamp earlier vs left row
+            → Refused typeUnknown p ≡ asJudged (fields G earlier vs)
         go ts G w earlier [] a = absurd (omega (arith, a .here))
         go ts G w earlier (v ∷ vs) a =
             let d = first-of (w .tokens) (a .here) (a .stand) .declared in
-            rw (declared-known k e₃ w d ∙ is) (ap (Refused 24) (type-place e₃ e₁ d))
+            rw (declared-known k e₃ w d ∙ is) (ap (Refused typeUnknown) (type-place e₃ e₁ d))
 
     module _ (is : b ≡ true) {x : ℕ} (e₂ : x ≡ wordAt tab 2 row) {mid : List ℕ} {c : Bool} (h : MarkPost x stamp before mid c) where
-      pub fields-repeated : c ≡ true → {p : ℕ} → p ≡ wordAt tab 1 row → FieldsJudged tab n left stamp row before mid (Refused 23 p)
+      pub fields-repeated : c ≡ true → {p : ℕ} → p ≡ wordAt tab 1 row → FieldsJudged tab n left stamp row before mid (Refused fieldRepeated p)
       unfolding fields
       fields-repeated again {p} e₁ = record { below = h .below; says = go }
         where
-          go : (ts : List Token) (G : List Class) → World tab n ts G → (earlier : List (List ℕ)) (vs : List Variable) → FieldsAt tab ts before stamp earlier vs left row
-              → Refused 23 p ≡ settled (fields G earlier vs)
+          go : (ts : List Token) (G : List Class) → ClassTableHeld tab n ts G → (earlier : List (List ℕ)) (vs : List Variable) → FieldsAt tab ts before stamp earlier vs left row
+              → Refused fieldRepeated p ≡ asJudged (fields G earlier vs)
           go ts G w earlier [] a = absurd (omega (arith, a .here))
           go ts G w earlier (v ∷ vs) a =
               let d = first-of (w .tokens) (a .here) (a .stand) .declared in
-              rw (declared-known k e₃ w d ∙ is, marked-is (w .tokens) h (subst (Spells ts (textOf v)) (sym e₂) (d .number)) (a .marked) ∙ again)
-              (ap (Refused 23) (e₁ ∙ d .start))
+              rw (declared-known k e₃ w d ∙ is, marked-is (w .tokens) h (subst (NameNumber ts (textOf v)) (sym e₂) (d .number)) (a .marked) ∙ again)
+              (ap (Refused fieldRepeated) (e₁ ∙ d .start))
 
       pub fields-next : c ≡ false → {next : ℕ} {after : List ℕ} {r : Judged} → next ≡ wordAt tab 6 row → FieldsJudged tab n (left - 1) stamp next mid after r
           → FieldsJudged tab n left stamp row before after r
       unfolding fields
       fields-next new {next} {after} {r} e₆ h′ = record { below = λ bound high b. h′ .below bound high (h .below bound high b); says = go }
         where
-          go : (ts : List Token) (G : List Class) → World tab n ts G → (earlier : List (List ℕ)) (vs : List Variable) → FieldsAt tab ts before stamp earlier vs left row
-              → r ≡ settled (fields G earlier vs)
+          go : (ts : List Token) (G : List Class) → ClassTableHeld tab n ts G → (earlier : List (List ℕ)) (vs : List Variable) → FieldsAt tab ts before stamp earlier vs left row
+              → r ≡ asJudged (fields G earlier vs)
           go ts G w earlier [] a = absurd (omega (arith, a .here))
           go ts G w earlier (v ∷ vs) a =
               let d = first-of (w .tokens) (a .here) (a .stand) .declared in
-              let sp = subst (Spells ts (textOf v)) (sym e₂) (d .number) in
+              let sp = subst (NameNumber ts (textOf v)) (sym e₂) (d .number) in
               rw (declared-known k e₃ w d ∙ is, marked-is (w .tokens) h sp (a .marked) ∙ new)
               (h′ .says ts G w (textOf v ∷ earlier) vs (fields-rest (w .tokens) a e₆ (marked-next (w .tokens) h sp (a .marked))))
 
 -- PARAMETERS AND LOCALS
 
 module _ {tab : List ℕ} {n others before first index row t : ℕ} (e₃ : t ≡ wordAt tab 3 row) {b : Bool} (k : KnownAt tab n t b) where
-  pub variable-unknown : b ≡ false → {p : ℕ} → p ≡ wordAt tab 1 t → VariableJudged tab n others before first index row (Refused 24 p)
+  pub variable-unknown : b ≡ false → {p : ℕ} → p ≡ wordAt tab 1 t → VariableJudged tab n others before first index row (Refused typeUnknown p)
   unfolding newVariable
   variable-unknown is {p} e₁ = record { says = λ ts G w ps l us v vs a. go ts G w ps us v vs a }
     where
-      go : (ts : List Token) (G : List Class) → World tab n ts G → (ps us : List Variable) (v : Variable) (vs : List Variable) → Along tab ts us (v ∷ vs) first index row
-          → Refused 24 p ≡ settled (newVariable G (onto (map textOf ps) (map textOf us)) v)
+      go : (ts : List Token) (G : List Class) → ClassTableHeld tab n ts G → (ps us : List Variable) (v : Variable) (vs : List Variable) → Along tab ts us (v ∷ vs) first index row
+          → Refused typeUnknown p ≡ asJudged (newVariable G (onto (map textOf ps) (map textOf us)) v)
       go ts G w ps us v vs a =
           let d = variable-declared (w .tokens) us v vs a in
-          rw (declared-known k e₃ w d ∙ is) (ap (Refused 24) (type-place e₃ e₁ d))
+          rw (declared-known k e₃ w d ∙ is) (ap (Refused typeUnknown) (type-place e₃ e₁ d))
 
   module _ (is : b ≡ true) {x : ℕ} (e₂ : x ≡ wordAt tab 2 row) {c : Bool} (h : Repeated tab before others x c) where
-    pub variable-other : c ≡ true → {p : ℕ} → p ≡ wordAt tab 1 row → VariableJudged tab n others before first index row (Refused 27 p)
+    pub variable-other : c ≡ true → {p : ℕ} → p ≡ wordAt tab 1 row → VariableJudged tab n others before first index row (Refused variableRepeated p)
     unfolding newVariable
     variable-other again {p} e₁ = record { says = λ ts G w ps l us v vs a. go ts G w ps l us v vs a }
       where
-        go : (ts : List Token) (G : List Class) → World tab n ts G → (ps : List Variable) → Listed tab ts ps others before → (us : List Variable) (v : Variable) (vs : List Variable)
-            → Along tab ts us (v ∷ vs) first index row → Refused 27 p ≡ settled (newVariable G (onto (map textOf ps) (map textOf us)) v)
+        go : (ts : List Token) (G : List Class) → ClassTableHeld tab n ts G → (ps : List Variable) → VariablesListed tab ts ps others before → (us : List Variable) (v : Variable) (vs : List Variable)
+            → Along tab ts us (v ∷ vs) first index row → Refused variableRepeated p ≡ asJudged (newVariable G (onto (map textOf ps) (map textOf us)) v)
         go ts G w ps l us v vs a =
             let d = variable-declared (w .tokens) us v vs a in
-            let o = listed-repeated (w .tokens) ps l h (textOf v) (subst (Spells ts (textOf v)) (sym e₂) (d .number)) in
-            rw (declared-known k e₃ w d ∙ is, onto-occurs (textOf v) (map textOf ps) (map textOf us), sym o ∙ again) (ap (Refused 27) (e₁ ∙ d .start))
+            let o = listed-repeated (w .tokens) ps l h (textOf v) (subst (NameNumber ts (textOf v)) (sym e₂) (d .number)) in
+            rw (declared-known k e₃ w d ∙ is, onto-occurs (textOf v) (map textOf ps) (map textOf us), sym o ∙ again) (ap (Refused variableRepeated) (e₁ ∙ d .start))
 
     module _ (new : c ≡ false) {c′ : Bool} (h′ : Repeated tab index first x c′) where
-      pub variable-twice : c′ ≡ true → {p : ℕ} → p ≡ wordAt tab 1 row → VariableJudged tab n others before first index row (Refused 27 p)
+      pub variable-twice : c′ ≡ true → {p : ℕ} → p ≡ wordAt tab 1 row → VariableJudged tab n others before first index row (Refused variableRepeated p)
       unfolding newVariable
       variable-twice again {p} e₁ = record { says = λ ts G w ps l us v vs a. go ts G w ps l us v vs a }
         where
-          go : (ts : List Token) (G : List Class) → World tab n ts G → (ps : List Variable) → Listed tab ts ps others before → (us : List Variable) (v : Variable) (vs : List Variable)
-              → Along tab ts us (v ∷ vs) first index row → Refused 27 p ≡ settled (newVariable G (onto (map textOf ps) (map textOf us)) v)
+          go : (ts : List Token) (G : List Class) → ClassTableHeld tab n ts G → (ps : List Variable) → VariablesListed tab ts ps others before → (us : List Variable) (v : Variable) (vs : List Variable)
+              → Along tab ts us (v ∷ vs) first index row → Refused variableRepeated p ≡ asJudged (newVariable G (onto (map textOf ps) (map textOf us)) v)
           go ts G w ps l us v vs a =
               let d = variable-declared (w .tokens) us v vs a in
-              let sp = subst (Spells ts (textOf v)) (sym e₂) (d .number) in
+              let sp = subst (NameNumber ts (textOf v)) (sym e₂) (d .number) in
               rw (
                 declared-known k e₃ w d ∙ is,
                 onto-occurs (textOf v) (map textOf ps) (map textOf us),
                 sym (listed-repeated (w .tokens) ps l h (textOf v) sp) ∙ new,
                 sym (variable-repeated (w .tokens) us v vs a h′ (textOf v) sp) ∙ again,
               )
-              (ap (Refused 27) (e₁ ∙ d .start))
+              (ap (Refused variableRepeated) (e₁ ∙ d .start))
 
       module _ (fresh : c′ ≡ false) where
         pub variable-fine : before + index < 32 → VariableJudged tab n others before first index row (Fine 0)
         unfolding newVariable
         variable-fine few = record { says = λ ts G w ps l us v vs a. go ts G w ps l us v vs a }
           where
-            go : (ts : List Token) (G : List Class) → World tab n ts G → (ps : List Variable) → Listed tab ts ps others before → (us : List Variable) (v : Variable) (vs : List Variable)
-                → Along tab ts us (v ∷ vs) first index row → Fine 0 ≡ settled (newVariable G (onto (map textOf ps) (map textOf us)) v)
+            go : (ts : List Token) (G : List Class) → ClassTableHeld tab n ts G → (ps : List Variable) → VariablesListed tab ts ps others before → (us : List Variable) (v : Variable) (vs : List Variable)
+                → Along tab ts us (v ∷ vs) first index row → Fine 0 ≡ asJudged (newVariable G (onto (map textOf ps) (map textOf us)) v)
             go ts G w ps l us v vs a =
                 let d = variable-declared (w .tokens) us v vs a in
-                let sp = subst (Spells ts (textOf v)) (sym e₂) (d .number) in
+                let sp = subst (NameNumber ts (textOf v)) (sym e₂) (d .number) in
                 let earlier = onto (map textOf ps) (map textOf us) in
                 rw (
                   declared-known k e₃ w d ∙ is,
@@ -166,15 +166,15 @@ module _ {tab : List ℕ} {n others before first index row t : ℕ} (e₃ : t �
                       (omega (arith, onto-length (map textOf ps) (map textOf us), length-map ps textOf, length-map us textOf, l .many, a .before)),
                 )
 
-        pub variable-many : 32 ≤ before + index → {p : ℕ} → p ≡ wordAt tab 1 row → VariableJudged tab n others before first index row (Refused 28 p)
+        pub variable-many : 32 ≤ before + index → {p : ℕ} → p ≡ wordAt tab 1 row → VariableJudged tab n others before first index row (Refused tooManyVariables p)
         unfolding newVariable
         variable-many many {p} e₁ = record { says = λ ts G w ps l us v vs a. go ts G w ps l us v vs a }
           where
-            go : (ts : List Token) (G : List Class) → World tab n ts G → (ps : List Variable) → Listed tab ts ps others before → (us : List Variable) (v : Variable) (vs : List Variable)
-                → Along tab ts us (v ∷ vs) first index row → Refused 28 p ≡ settled (newVariable G (onto (map textOf ps) (map textOf us)) v)
+            go : (ts : List Token) (G : List Class) → ClassTableHeld tab n ts G → (ps : List Variable) → VariablesListed tab ts ps others before → (us : List Variable) (v : Variable) (vs : List Variable)
+                → Along tab ts us (v ∷ vs) first index row → Refused tooManyVariables p ≡ asJudged (newVariable G (onto (map textOf ps) (map textOf us)) v)
             go ts G w ps l us v vs a =
                 let d = variable-declared (w .tokens) us v vs a in
-                let sp = subst (Spells ts (textOf v)) (sym e₂) (d .number) in
+                let sp = subst (NameNumber ts (textOf v)) (sym e₂) (d .number) in
                 let earlier = onto (map textOf ps) (map textOf us) in
                 rw (
                   declared-known k e₃ w d ∙ is,
@@ -184,11 +184,11 @@ module _ {tab : List ℕ} {n others before first index row t : ℕ} (e₃ : t �
                   le-ltb (length earlier) variablesMost
                       (omega (arith, onto-length (map textOf ps) (map textOf us), length-map ps textOf, length-map us textOf, l .many, a .before)),
                 )
-                (ap (Refused 28) (e₁ ∙ d .start))
+                (ap (Refused tooManyVariables) (e₁ ∙ d .start))
 
 -- the tests of a name, and what comes after them
 abbrev tests : (again few : Bool) (place : ℕ) (next : Outcome (Unit {0})) → Outcome (Unit {0})
-tests again few place next = if again then (λ _. refused 27 place) else λ _. if few then (λ _. next) else λ _. refused 28 place
+tests again few place next = if again then (λ _. refused variableRepeated place) else λ _. if few then (λ _. next) else λ _. refused tooManyVariables place
 
 tests-then : (o : Outcome (Unit {0})) (again few : Bool) (place : ℕ) (next : Outcome (Unit {0}))
     → (o >>= λ _. tests again few place next) ≡ ((o >>= λ _. tests again few place (accepted tt)) >>= λ _. next)
@@ -212,8 +212,8 @@ module _ {tab : List ℕ} {n left others before first index row : ℕ} where
   unfolding variables
   variables-absent far = record { says = λ ts G w ps l us vs a few. go ts G w (map textOf ps) us vs a }
     where
-      go : (ts : List Token) (G : List Class) → World tab n ts G → (qs : List (List ℕ)) (us vs : List Variable) → Along tab ts us vs first index row
-          → Fine 0 ≡ settled (variables G (onto qs (map textOf us)) vs)
+      go : (ts : List Token) (G : List Class) → ClassTableHeld tab n ts G → (qs : List (List ℕ)) (us vs : List Variable) → Along tab ts us vs first index row
+          → Fine 0 ≡ asJudged (variables G (onto qs (map textOf us)) vs)
       go ts G w qs us [] a = refl
       go ts G w qs us (v ∷ vs) a = absurd (omega (arith, variable-near (w .tokens) us v vs a))
 
@@ -221,8 +221,8 @@ module _ {tab : List ℕ} {n left others before first index row : ℕ} where
     pub variables-stop : {number p : ℕ} → o ≡ Refused number p → VariablesJudged tab n left others before first index row (Refused number p)
     variables-stop {number} {p} is = record { says = λ ts G w ps l us vs a few. go ts G w ps l us vs a }
       where
-        go : (ts : List Token) (G : List Class) → World tab n ts G → (ps : List Variable) → Listed tab ts ps others before → (us vs : List Variable)
-            → Along tab ts us vs first index row → Refused number p ≡ settled (variables G (onto (map textOf ps) (map textOf us)) vs)
+        go : (ts : List Token) (G : List Class) → ClassTableHeld tab n ts G → (ps : List Variable) → VariablesListed tab ts ps others before → (us vs : List Variable)
+            → Along tab ts us vs first index row → Refused number p ≡ asJudged (variables G (onto (map textOf ps) (map textOf us)) vs)
         go ts G w ps l us [] a = absurd (omega (arith, a .here))
         go ts G w ps l us (v ∷ vs) a =
             let earlier = onto (map textOf ps) (map textOf us) in
@@ -232,11 +232,11 @@ module _ {tab : List ℕ} {n left others before first index row : ℕ} where
         → VariablesJudged tab n left others before first index row r
     variables-next {u} is {next} {r} e₆ h′ = record { says = λ ts G w ps l us vs a few. go ts G w ps l us vs a few }
       where
-        go : (ts : List Token) (G : List Class) → World tab n ts G → (ps : List Variable) → Listed tab ts ps others before → (us vs : List Variable)
-            → Along tab ts us vs first index row → length vs ≤ left → r ≡ settled (variables G (onto (map textOf ps) (map textOf us)) vs)
+        go : (ts : List Token) (G : List Class) → ClassTableHeld tab n ts G → (ps : List Variable) → VariablesListed tab ts ps others before → (us vs : List Variable)
+            → Along tab ts us vs first index row → length vs ≤ left → r ≡ asJudged (variables G (onto (map textOf ps) (map textOf us)) vs)
         go ts G w ps l us [] a few = absurd (omega (arith, a .here))
         go ts G w ps l us (v ∷ vs) a few =
             let earlier = onto (map textOf ps) (map textOf us) in
             rw (variables-more G earlier v vs, goes-on (newVariable G earlier v) (λ _. variables G (textOf v ∷ earlier) vs) (h .says ts G w ps l us v vs a) is)
             (h′ .says ts G w ps l (us ++ v ∷ []) vs (variable-step (w .tokens) us v vs a e₆) (omega arith)
-            ∙ ap (λ (names : List (List ℕ)). settled (variables G names vs)) (onto-next textOf (map textOf ps) us v))
+            ∙ ap (λ (names : List (List ℕ)). asJudged (variables G names vs)) (onto-next textOf (map textOf ps) us v))

@@ -2,28 +2,30 @@
 use crate::heads::heads;
 use crate::heights::height;
 use crate::variables::fields;
-use lookup::answer::BROKEN;
+use base::codes;
+use base::codes::BROKEN;
 use lookup::answer::Judged;
 use lookup::chain::above;
-use lookup::rows::ABSENT;
 use lookup::rows::word;
+use parser::columns;
+use parser::columns::ABSENT;
 ghost use Prim.Native.Nat.{_+_, _*_, _≤_};
 ghost use lib.ListN.{length};
-ghost use Rattle.reader.specs.WalkPost.{Walkable};
-ghost use Rattle.declarations.specs.Marking.{Below};
-ghost use Rattle.declarations.specs.Climbs.{HeightsRight};
-ghost use Rattle.declarations.specs.Judgements.{OrphanAt, ParentsJudged, ChainsJudged, MembersJudged, DeclarationsJudged};
+ghost use Rattle.reader.specs.contracts.WalkPost.{Walkable};
+ghost use Rattle.declarations.specs.contracts.Marking.{StampsBelow};
+ghost use Rattle.declarations.specs.contracts.Climbs.{HeightsRight};
+ghost use Rattle.declarations.specs.contracts.Judgements.{OrphanAt, ParentsJudged, ChainsJudged, MembersJudged, DeclarationsJudged};
 
 // Whether a class has a parent that is no class of the table.
 fn is_orphan(table: &[u32], class: usize) -> bool
     requires { ⌜ 16384 ≤ length (now table) ⌝ }
     ensures { λ r. ⌜ OrphanAt (now (table .entry)) class r ⌝ }
 {
-    let p = word(table, 3, class);
+    let p = word(table, columns::PARENT, class);
     if ABSENT <= p {
         return false;
     }
-    ABSENT <= word(table, 7, word(table, 2, p))
+    ABSENT <= word(table, columns::CLASS, word(table, columns::NUMBER, p))
 }
 
 // 21: the first unknown class after `extends`.
@@ -38,9 +40,12 @@ pub fn parents(table: &[u32], left: usize, row: usize) -> Judged
         return Judged::Refused(BROKEN, 0);
     }
     if is_orphan(table, row) {
-        return Judged::Refused(21, word(table, 1, word(table, 3, row)));
+        return Judged::Refused(
+            codes::PARENT_UNKNOWN,
+            word(table, columns::START, word(table, columns::PARENT, row)),
+        );
     }
-    parents(table, left - 1, word(table, 6, row))
+    parents(table, left - 1, word(table, columns::NEXT, row))
 }
 
 // 22: the first class whose chain never ends.
@@ -54,10 +59,16 @@ pub fn chains(table: &[u32], heights: &mut [u32], classes: usize, left: usize, r
     if left == 0 {
         return Judged::Refused(BROKEN, 0);
     }
-    if height(table, heights, classes, word(table, 2, row)) == 0 {
-        return Judged::Refused(22, word(table, 1, row));
+    if height(table, heights, classes, word(table, columns::NUMBER, row)) == 0 {
+        return Judged::Refused(codes::CHAIN_ENDLESS, word(table, columns::START, row));
     }
-    chains(table, heights, classes, left - 1, word(table, 6, row))
+    chains(
+        table,
+        heights,
+        classes,
+        left - 1,
+        word(table, columns::NEXT, row),
+    )
 }
 
 // The fields and the method heads of a class. The fields have this stamp and the methods the next.
@@ -69,14 +80,14 @@ fn members(
     stamp: u32,
     class: usize,
 ) -> Judged
-    requires { ⌜ Walkable (now table) n × (2048 ≤ length (now marks)) × Below stamp (now marks) × (stamp ≤ 4096) ⌝ }
+    requires { ⌜ Walkable (now table) n × (2048 ≤ length (now marks)) × StampsBelow stamp (now marks) × (stamp ≤ 4096) ⌝ }
     ensures { λ r. ⌜ MembersJudged (now (table .entry)) n classes stamp class (now (marks .exit)) r ⌝ }
 {
-    let first = word(table, 4, class);
+    let first = word(table, columns::FIELDS, class);
     let f = fields(table, marks, n, n, stamp, first);
     match f {
         Judged::Fine(_) => {
-            let methods = word(table, 5, class);
+            let methods = word(table, columns::METHODS, class);
             let parent = above(table, class);
             heads(table, marks, n, classes, n, parent, stamp + 1, methods)
         }
@@ -94,7 +105,7 @@ pub fn declarations(
     stamp: u32,
     row: usize,
 ) -> Judged
-    requires { ⌜ Walkable (now table) n × (2048 ≤ length (now marks)) × Below stamp (now marks)
+    requires { ⌜ Walkable (now table) n × (2048 ≤ length (now marks)) × StampsBelow stamp (now marks)
         × (stamp + 2 * left ≤ 4098) ⌝ }
     ensures { λ r. ⌜ DeclarationsJudged (now (table .entry)) n classes left row r ⌝ }
 {
@@ -113,7 +124,7 @@ pub fn declarations(
             classes,
             left - 1,
             stamp + 2,
-            word(table, 6, row),
+            word(table, columns::NEXT, row),
         ),
         Judged::Refused(number, at) => Judged::Refused(number, at),
     }

@@ -2,17 +2,19 @@
 use crate::marks::mark;
 use crate::variables::is_known;
 use crate::variables::variables;
-use lookup::answer::BROKEN;
+use base::codes;
+use base::codes::BROKEN;
 use lookup::answer::Judged;
 use lookup::chain::find_method;
 use lookup::chain::fits;
-use lookup::rows::ABSENT;
 use lookup::rows::word;
 use lookup::types::type_of;
+use parser::columns;
+use parser::columns::ABSENT;
 ghost use Prim.Native.Nat.{_≤_};
 ghost use lib.ListN.{length};
-ghost use Rattle.reader.specs.WalkPost.{Walkable};
-ghost use Rattle.declarations.specs.Judgements.{TypesCompared, RedeclaresAt, CompatibleAt, OpeningJudged, RestJudged, HeadJudged, HeadsJudged};
+ghost use Rattle.reader.specs.contracts.WalkPost.{Walkable};
+ghost use Rattle.declarations.specs.contracts.Judgements.{TypesCompared, RedeclaresAt, CompatibleAt, OpeningJudged, RestJudged, HeadJudged, HeadsJudged};
 
 // Whether two lists of parameters have equal types.
 fn same_types(table: &[u32], n: usize, left: usize, a: usize, b: usize) -> bool
@@ -28,8 +30,16 @@ fn same_types(table: &[u32], n: usize, left: usize, a: usize, b: usize) -> bool
     if left == 0 {
         return false;
     }
-    if type_of(table, n, word(table, 3, a)) == type_of(table, n, word(table, 3, b)) {
-        return same_types(table, n, left - 1, word(table, 6, a), word(table, 6, b));
+    if type_of(table, n, word(table, columns::TYPE, a))
+        == type_of(table, n, word(table, columns::TYPE, b))
+    {
+        return same_types(
+            table,
+            n,
+            left - 1,
+            word(table, columns::NEXT, a),
+            word(table, columns::NEXT, b),
+        );
     }
     false
 }
@@ -39,9 +49,15 @@ fn redeclares(table: &[u32], n: usize, classes: usize, lower: usize, upper: usiz
     requires { ⌜ Walkable (now table) n ⌝ }
     ensures { λ r. ⌜ RedeclaresAt (now (table .entry)) n classes lower upper r ⌝ }
 {
-    if same_types(table, n, n, word(table, 4, lower), word(table, 4, upper)) {
-        let s = type_of(table, n, word(table, 3, lower));
-        let t = type_of(table, n, word(table, 3, upper));
+    if same_types(
+        table,
+        n,
+        n,
+        word(table, columns::PARAMETERS, lower),
+        word(table, columns::PARAMETERS, upper),
+    ) {
+        let s = type_of(table, n, word(table, columns::TYPE, lower));
+        let t = type_of(table, n, word(table, columns::TYPE, upper));
         return fits(table, n, classes, s, t);
     }
     false
@@ -55,7 +71,13 @@ fn is_compatible(table: &[u32], n: usize, classes: usize, parent: usize, row: us
     if classes == 0 {
         return true;
     }
-    let upper = find_method(table, n, classes - 1, parent, word(table, 2, row));
+    let upper = find_method(
+        table,
+        n,
+        classes - 1,
+        parent,
+        word(table, columns::NUMBER, row),
+    );
     if ABSENT <= upper {
         return true;
     }
@@ -67,14 +89,14 @@ fn opening(table: &[u32], marks: &mut [u32], n: usize, stamp: u32, row: usize) -
     requires { ⌜ Walkable (now table) n × (2048 ≤ length (now marks)) ⌝ }
     ensures { λ r. ⌜ OpeningJudged (now (table .entry)) n stamp row (now (marks .entry)) (now (marks .exit)) r ⌝ }
 {
-    let t = word(table, 3, row);
+    let t = word(table, columns::TYPE, row);
     if is_known(table, n, t) {
-        if mark(marks, word(table, 2, row), stamp) {
-            return Judged::Refused(25, word(table, 1, row));
+        if mark(marks, word(table, columns::NUMBER, row), stamp) {
+            return Judged::Refused(codes::METHOD_REPEATED, word(table, columns::START, row));
         }
         return Judged::Fine(0);
     }
-    Judged::Refused(24, word(table, 1, t))
+    Judged::Refused(codes::TYPE_UNKNOWN, word(table, columns::START, t))
 }
 
 // The parameters, and last 26.
@@ -82,14 +104,14 @@ fn rest(table: &[u32], n: usize, classes: usize, parent: usize, row: usize) -> J
     requires { ⌜ Walkable (now table) n ⌝ }
     ensures { λ r. ⌜ RestJudged (now (table .entry)) n classes parent row r ⌝ }
 {
-    let first = word(table, 4, row);
+    let first = word(table, columns::PARAMETERS, row);
     let v = variables(table, n, n, ABSENT, 0, first, 0, first);
     match v {
         Judged::Fine(_) => {
             if is_compatible(table, n, classes, parent, row) {
                 return Judged::Fine(0);
             }
-            Judged::Refused(26, word(table, 1, row))
+            Judged::Refused(codes::BAD_REDECLARATION, word(table, columns::START, row))
         }
         Judged::Refused(number, at) => Judged::Refused(number, at),
     }
@@ -145,7 +167,7 @@ pub fn heads(
             left - 1,
             parent,
             stamp,
-            word(table, 6, row),
+            word(table, columns::NEXT, row),
         ),
         Judged::Refused(number, at) => Judged::Refused(number, at),
     }

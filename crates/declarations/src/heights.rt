@@ -1,16 +1,17 @@
 // How many classes a chain has, in an array by the number of a class's name, so that a climb stops at the first class that was climbed before: 0 where that
 // is not known yet.
 use lookup::chain::above;
-use lookup::rows::ABSENT;
 use lookup::rows::word;
+use parser::columns;
+use parser::columns::ABSENT;
 ghost use Prim.Native.Nat.{_≤_};
 ghost use lib.ListN.{length};
-ghost use Rattle.declarations.specs.Climbs.{HeightsRight, Climbed};
+ghost use Rattle.declarations.specs.contracts.Climbs.{HeightsRight, HeightClimbed};
 
 // How many classes the chain of c has, 0 where they are more than `left` or never end.
 pub fn height(table: &[u32], heights: &mut [u32], left: usize, c: usize) -> usize
     requires { ⌜ (16384 ≤ length (now table)) × (2048 ≤ length (now heights)) × (left ≤ 2048) × HeightsRight (now table) (now heights) ⌝ }
-    ensures { λ r. ⌜ Climbed (now (table .entry)) left c (now (heights .exit)) r ⌝ }
+    ensures { λ r. ⌜ HeightClimbed (now (table .entry)) left c (now (heights .exit)) r ⌝ }
 {
     if left == 0 {
         return 0;
@@ -25,7 +26,7 @@ pub fn height(table: &[u32], heights: &mut [u32], left: usize, c: usize) -> usiz
     if h != 0 {
         return h;
     }
-    let class = word(table, 7, c);
+    let class = word(table, columns::CLASS, c);
     if ABSENT <= class {
         return 1;
     }

@@ -1,14 +1,16 @@
 // The index of the classes: column 7 of the row that is the number of a name leads to the class of that name.
+use base::codes;
+use base::codes::BROKEN;
 use lexer::kinds::IF;
-use lookup::answer::BROKEN;
 use lookup::answer::Judged;
-use lookup::rows::ABSENT;
 use lookup::rows::word;
+use parser::columns;
+use parser::columns::ABSENT;
 ghost use mathlib.Core.Path.{_≡_};
 ghost use Prim.Native.Nat.{_≤_, _<_};
 ghost use lib.ListN.{length};
-ghost use Rattle.reader.specs.WalkPost.{Walkable};
-ghost use Rattle.declarations.specs.Indexing.{wiped, cleared, entered, EntriesMade, IndexMade};
+ghost use Rattle.reader.specs.contracts.WalkPost.{Walkable};
+ghost use Rattle.declarations.specs.contracts.Indexing.{wiped, cleared, indexed, EntriesMade, IndexMade};
 
 // Clears column 7 of a row, but not where the token is an `if`: a part stands there.
 fn wipe(table: &mut [u32], row: usize)
@@ -35,7 +37,7 @@ fn clear(table: &mut [u32], n: usize)
 // Writes column 7 of a row.
 fn enter(table: &mut [u32], row: usize, class: usize)
     requires { ⌜ (16384 ≤ length (now table)) × (class ≤ 2048) ⌝ }
-    ensures { λ _. ⌜ now (table .exit) ≡ entered (now (table .entry)) row class ⌝ }
+    ensures { λ _. ⌜ now (table .exit) ≡ indexed (now (table .entry)) row class ⌝ }
 {
     if row < ABSENT {
         table[14336 + row] = class as u32;
@@ -53,15 +55,15 @@ fn entries(table: &mut [u32], main: usize, left: usize, row: usize) -> Judged
     if left == 0 {
         return Judged::Refused(BROKEN, 0);
     }
-    let x = word(table, 2, row);
+    let x = word(table, columns::NUMBER, row);
     if x == main {
-        return Judged::Refused(20, word(table, 1, row));
+        return Judged::Refused(codes::CLASS_REPEATED, word(table, columns::START, row));
     }
-    if word(table, 7, x) < ABSENT {
-        return Judged::Refused(20, word(table, 1, row));
+    if word(table, columns::CLASS, x) < ABSENT {
+        return Judged::Refused(codes::CLASS_REPEATED, word(table, columns::START, row));
     }
     enter(table, x, row);
-    entries(table, main, left - 1, word(table, 6, row))
+    entries(table, main, left - 1, word(table, columns::NEXT, row))
 }
 
 // Makes the index. The main class's name stands in row 1; it is none of the table's classes.
@@ -70,7 +72,7 @@ pub fn index(table: &mut [u32], n: usize) -> Judged
     ensures { λ r. ⌜ IndexMade n (now (table .entry)) r (now (table .exit)) ⌝ }
 {
     clear(table, n);
-    let main = word(table, 2, 1);
-    let first = word(table, 6, 0);
+    let main = word(table, columns::NUMBER, 1);
+    let first = word(table, columns::NEXT, columns::CLASS_LIST);
     entries(table, main, n, first)
 }

@@ -1,17 +1,19 @@
 // Fields, parameters and locals: each has a known type and a new name. A list of parameters or locals begins at `first`, and `index` of its members stand
 // before `row`.
 use crate::marks::mark;
-use lookup::answer::BROKEN;
+use base::codes;
+use base::codes::BROKEN;
 use lookup::answer::Judged;
 use lookup::member::repeated;
-use lookup::rows::ABSENT;
 use lookup::rows::word;
 use lookup::types::known;
 use lookup::types::type_of;
+use parser::columns;
+use parser::columns::ABSENT;
 ghost use Prim.Native.Nat.{_+_, _≤_, _<_};
 ghost use lib.ListN.{length};
-ghost use Rattle.reader.specs.WalkPost.{Walkable};
-ghost use Rattle.declarations.specs.Judgements.{KnownAt, FieldsJudged, VariableJudged, VariablesJudged};
+ghost use Rattle.reader.specs.contracts.WalkPost.{Walkable};
+ghost use Rattle.declarations.specs.contracts.Judgements.{KnownAt, FieldsJudged, VariableJudged, VariablesJudged};
 
 // The most parameters and locals of a method.
 const VARIABLES_MOST: usize = 32;
@@ -42,14 +44,21 @@ pub fn fields(
     if left == 0 {
         return Judged::Refused(BROKEN, 0);
     }
-    let t = word(table, 3, row);
+    let t = word(table, columns::TYPE, row);
     if is_known(table, n, t) {
-        if mark(marks, word(table, 2, row), stamp) {
-            return Judged::Refused(23, word(table, 1, row));
+        if mark(marks, word(table, columns::NUMBER, row), stamp) {
+            return Judged::Refused(codes::FIELD_REPEATED, word(table, columns::START, row));
         }
-        return fields(table, marks, n, left - 1, stamp, word(table, 6, row));
+        return fields(
+            table,
+            marks,
+            n,
+            left - 1,
+            stamp,
+            word(table, columns::NEXT, row),
+        );
     }
-    Judged::Refused(24, word(table, 1, t))
+    Judged::Refused(codes::TYPE_UNKNOWN, word(table, columns::START, t))
 }
 
 // One parameter or local, after `before` others that begin at `others` and `index` that begin at `first`: 24, 27, 28.
@@ -65,21 +74,21 @@ fn variable(
     requires { ⌜ Walkable (now table) n × (before ≤ 2048) × (index ≤ 4096) ⌝ }
     ensures { λ r. ⌜ VariableJudged (now (table .entry)) n others before first index row r ⌝ }
 {
-    let t = word(table, 3, row);
+    let t = word(table, columns::TYPE, row);
     if is_known(table, n, t) {
-        let x = word(table, 2, row);
+        let x = word(table, columns::NUMBER, row);
         if repeated(table, before, others, x) {
-            return Judged::Refused(27, word(table, 1, row));
+            return Judged::Refused(codes::VARIABLE_REPEATED, word(table, columns::START, row));
         }
         if repeated(table, index, first, x) {
-            return Judged::Refused(27, word(table, 1, row));
+            return Judged::Refused(codes::VARIABLE_REPEATED, word(table, columns::START, row));
         }
         if before + index < VARIABLES_MOST {
             return Judged::Fine(0);
         }
-        return Judged::Refused(28, word(table, 1, row));
+        return Judged::Refused(codes::TOO_MANY_VARIABLES, word(table, columns::START, row));
     }
-    Judged::Refused(24, word(table, 1, t))
+    Judged::Refused(codes::TYPE_UNKNOWN, word(table, columns::START, t))
 }
 
 // Parameters, or locals after the parameters.
@@ -112,7 +121,7 @@ pub fn variables(
             before,
             first,
             index + 1,
-            word(table, 6, row),
+            word(table, columns::NEXT, row),
         ),
         Judged::Refused(number, at) => Judged::Refused(number, at),
     }

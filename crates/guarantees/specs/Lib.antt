@@ -1,3 +1,3 @@
 -- Demand 3 of the machine for every source that Check accepts.
-pub mod Literals
 pub mod Demand
+pub mod laws

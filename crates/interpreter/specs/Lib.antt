@@ -1,3 +1,2 @@
 -- What a run of written code ensures.
-pub mod Reporting
-pub mod Running
+pub mod contracts

@@ -7,11 +7,11 @@ use mathlib.Core.Path.{_≡_, refl, sym, _∙_}
 use lib.Dec.{eqb, leb}
 use borrow.Author.Tests.{leb-true, lt-leb, eq-eqb, ne-eqb, eqb-true, eqb-false, not-false}
 use Rattle.base.specs.Choice.{if_then_else_}
-use Rattle.base.specs.Tests.{and-true, and-false, or-either, or-neither}
+use Rattle.base.specs.laws.Tests.{and-true, and-false, or-either, or-neither}
 use Rattle.lexer.specs.Bytes.{isBlank, isLetter, isDigit, isNamePart}
 use Rattle.lexer.specs.Kinds.{markKind}
 use Rattle.lexer.specs.ByteKinds.{bLetter, bDigit, bBlank, bMark, bOther, isMark, byteKind}
-use Rattle.lexer.specs.LiteralLaws.{digit-range}
+use Rattle.lexer.specs.laws.LiteralLaws.{digit-range}
 
 -- ---- a letter, a digit and a blank are different bytes
 

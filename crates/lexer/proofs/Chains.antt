@@ -10,31 +10,31 @@ use mathlib.Core.Path.{_≡_, refl, sym, ap, _∙_, subst}
 use lib.ListN.{length, getElem?, set, length-append}
 use lib.Seq.{getD-set-same, getD-set-other}
 use Rattle.base.specs.Bytes.{same}
-use Rattle.base.specs.Lists.{get-below, get-append-right}
-use Rattle.base.specs.Table.{col}
+use Rattle.base.specs.laws.Lists.{get-below, get-append-right}
+use Rattle.base.specs.contracts.Table.{col}
 use Rattle.lexer.specs.Kinds.{isName}
 use Rattle.lexer.specs.Tokens.{Token}
-use Rattle.lexer.specs.Rows.{firstNamed, RowOf, Rows}
-use Rattle.base.specs.Tests.{apart, same-refl, same-equal}
-use Rattle.lexer.specs.RowLaws.{Named, first-none, first-stable}
-use Rattle.lexer.specs.Chains.{NoNames, textAt, tokenAt, tokensOf, Reaches, here, next, Numbered, Filled, Sought}
+use Rattle.lexer.specs.contracts.Rows.{firstNamed, RowOf, Rows}
+use Rattle.base.specs.laws.Tests.{apart, same-refl, same-equal}
+use Rattle.lexer.specs.laws.RowLaws.{NameToken, first-none, first-stable}
+use Rattle.lexer.specs.contracts.Chains.{NoNames, textAt, rowToken, tokensOf, Reaches, here, next, Numbered, RowsFilled, Sought}
 
 -- ---- the tokens of the first rows
 
 module _ (s tab : List ℕ) where
-  pub tokens-suc : (n : ℕ) → tokensOf s tab (n + 1) ≡ tokensOf s tab n ++ (tokenAt s tab n ∷ [])
+  pub tokens-suc : (n : ℕ) → tokensOf s tab (n + 1) ≡ tokensOf s tab n ++ (rowToken s tab n ∷ [])
   unfolding tokensOf
   tokens-suc n = ap (tokensOf s tab) (add-one n)
 
   pub tokens-length : (n : ℕ) → length (tokensOf s tab n) ≡ n
   unfolding tokensOf
   tokens-length zero = refl
-  tokens-length (suc n) = omega (arith, length-append (tokensOf s tab n) (tokenAt s tab n ∷ []), tokens-length n)
+  tokens-length (suc n) = omega (arith, length-append (tokensOf s tab n) (rowToken s tab n ∷ []), tokens-length n)
 
   -- the tokens before row i, its own, and those after it
   pub record Split (n i : ℕ) : Type 0 where
     pub after : List Token
-    pub parts : tokensOf s tab n ≡ tokensOf s tab i ++ tokenAt s tab i ∷ after
+    pub parts : tokensOf s tab n ≡ tokensOf s tab i ++ rowToken s tab i ∷ after
 
   pub split : (n i : ℕ) → i < n → Split n i
   unfolding tokensOf
@@ -44,23 +44,23 @@ module _ (s tab : List ℕ) where
         | yes l ↦
             let p = split n i l in
             record {
-              after = p .after ++ (tokenAt s tab n ∷ []);
+              after = p .after ++ (rowToken s tab n ∷ []);
               parts =
-                  ap (λ (ts : List Token). ts ++ (tokenAt s tab n ∷ [])) (p .parts)
-                  ∙ append-assoc (tokensOf s tab i) (tokenAt s tab i ∷ p .after) (tokenAt s tab n ∷ []);
+                  ap (λ (ts : List Token). ts ++ (rowToken s tab n ∷ [])) (p .parts)
+                  ∙ append-assoc (tokensOf s tab i) (rowToken s tab i ∷ p .after) (rowToken s tab n ∷ []);
             }
         | no g ↦
             let e : n ≡ i = omega arith in
-            record { after = []; parts = ap (λ (k : ℕ). tokensOf s tab k ++ (tokenAt s tab k ∷ [])) e }
+            record { after = []; parts = ap (λ (k : ℕ). tokensOf s tab k ++ (rowToken s tab k ∷ [])) e }
       ]
 
-  pub token-at : (n i : ℕ) → i < n → getElem? (tokensOf s tab n) i ≡ some (tokenAt s tab i)
+  pub token-at : (n i : ℕ) → i < n → getElem? (tokensOf s tab n) i ≡ some (rowToken s tab i)
   token-at n i h =
       let p = split n i h in
       let e : length (tokensOf s tab i) + 0 ≡ i = omega (arith, tokens-length i) in
       ap (λ (ts : List Token). getElem? ts i) (p .parts)
-      ∙ ap (getElem? (tokensOf s tab i ++ tokenAt s tab i ∷ p .after)) (sym e)
-      ∙ get-append-right (tokensOf s tab i) (tokenAt s tab i ∷ p .after) 0
+      ∙ ap (getElem? (tokensOf s tab i ++ rowToken s tab i ∷ p .after)) (sym e)
+      ∙ get-append-right (tokensOf s tab i) (rowToken s tab i ∷ p .after) 0
 
   pub row-below : (n i : ℕ) {t : Token} → getElem? (tokensOf s tab n) i ≡ some t → i < n
   row-below n i e = omega (arith, get-below (tokensOf s tab n) i e, tokens-length n)
@@ -70,15 +70,15 @@ module _ (s tab : List ℕ) where
       → firstNamed (tokensOf s tab n) (textAt s tab i) ≡ firstNamed (tokensOf s tab i) (textAt s tab i)
   number-kept n i h e =
       let p = split n i h in
-      ap (λ (ts : List Token). firstNamed ts (textAt s tab i)) (p .parts) ∙ first-stable (tokensOf s tab i) (p .after) (tokenAt s tab i) e
+      ap (λ (ts : List Token). firstNamed ts (textAt s tab i)) (p .parts) ∙ first-stable (tokensOf s tab i) (p .after) (rowToken s tab i) e
 
   -- rows that are filled are the rows of their tokens
-  pub filled-rows : (n : ℕ) → Filled s tab n → Rows tab (tokensOf s tab n)
+  pub filled-rows : (n : ℕ) → RowsFilled s tab n → Rows tab (tokensOf s tab n)
   filled-rows n f i t e =
       let h = row-below n i e in
       let q = f .row i h in
       subst (λ (u : Token). RowOf tab (tokensOf s tab n) i u)
-      (Option·some-injective (tokenAt s tab i) t (sym (token-at n i h) ∙ e))
+      (Option·some-injective (rowToken s tab i) t (sym (token-at n i h) ∙ e))
       (record {
         kind = refl;
         start = refl;
@@ -131,10 +131,10 @@ sought-none {s} {tab} {n} {x} {t} h c = sym (first-none (tokensOf s tab n) t non
     never (here j l q u) = omega arith
     never (next j l q r) = omega arith
 
-    none-has : (i : ℕ) → Named (tokensOf s tab n) i t → ⊥
+    none-has : (i : ℕ) → NameToken (tokensOf s tab n) i t → ⊥
     none-has i m =
         let l = row-below s tab n i (m .at) in
-        let e = Option·some-injective (tokenAt s tab i) (m .item) (sym (token-at s tab n i l) ∙ m .at) in
+        let e = Option·some-injective (rowToken s tab i) (m .item) (sym (token-at s tab n i l) ∙ m .at) in
         never (c .found i l (ap (λ (u : Token). isName (u .kind)) e ∙ m .named) (ap (λ (u : Token). u .text) e ∙ m .text))
 
 -- EMPTY BUCKETS

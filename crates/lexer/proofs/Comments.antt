@@ -11,7 +11,7 @@ use lib.Dec.{eqb}
 use borrow.Author.Tests.{eq-eqb, ne-eqb}
 use Rattle.base.specs.Choice.{if_then_else_}
 use Rattle.lexer.specs.Tokens.{closing}
-use Rattle.lexer.specs.Scan.{delimiterOf, closingOf}
+use Rattle.lexer.specs.contracts.Scan.{delimiterOf, closingOf}
 use Rattle.lexer.specs.declared.scan.Delimiter.{Delimiter}
 use Rattle.lexer.specs.declared.scan.Delimiter.the-variants.{Open, Close, Other}
 use Rattle.lexer.specs.declared.scan.Closing.the-variants.{At, Never}

@@ -7,9 +7,9 @@ use lib.ListN.{length, getD, drop}
 use borrow.Author.Tests.{lt-ltb, le-ltb}
 use Rattle.base.specs.Codes.{literalMost}
 use Rattle.lexer.specs.Tokens.{decimal}
-use Rattle.lexer.specs.LiteralLaws.{decimal-grows}
-use Rattle.lexer.specs.Chains.{bucketFrom}
-use Rattle.lexer.specs.Verdicts.{literalOf}
+use Rattle.lexer.specs.laws.LiteralLaws.{decimal-grows}
+use Rattle.lexer.specs.contracts.Chains.{bucketFrom}
+use Rattle.lexer.specs.contracts.Verdicts.{literalOf}
 use Rattle.lexer.specs.declared.limits.Literal.the-variants.{Value, TooLarge}
 use Rattle.lexer.proofs.Runs.{rest, rest-none}
 

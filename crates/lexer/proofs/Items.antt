@@ -15,10 +15,10 @@ use borrow.Author.Tests.{ne-eqb, eqb-false}
 use Rattle.base.specs.Choice.{if_then_else_}
 use Rattle.lexer.specs.Bytes.{isBlank, isLetter, isDigit, isNamePart}
 use Rattle.lexer.specs.Kinds.{kLiteral, kAnd, wordKind, markKind}
-use Rattle.lexer.specs.Tokens.{gap, nothing, token, run, begins, closing, comment, mark, item}
-use Rattle.lexer.specs.ItemLaws.{run-front, begins-cons, chosen}
+use Rattle.lexer.specs.Tokens.{gap, nothing, token, longestRun, begins, closing, comment, mark, item}
+use Rattle.lexer.specs.laws.ItemLaws.{run-front, begins-cons, chosen}
 use Rattle.lexer.specs.ByteKinds.{bLetter, bDigit, bBlank, bMark, bOther, byteKind}
-use Rattle.lexer.specs.Scan.{member, closingOf, pieceOf, Letter, Mark}
+use Rattle.lexer.specs.contracts.Scan.{member, closingOf, pieceOf, Letter, Mark}
 use Rattle.lexer.specs.declared.scan.Class.the-variants.{Line, Word}
 use Rattle.lexer.specs.declared.scan.Closing.{Closing}
 use Rattle.lexer.specs.declared.scan.Closing.the-variants.{At, Never}
@@ -70,13 +70,13 @@ module _ (s : List ℕ) (i : ℕ) (h : i < length s) where
   unfolding item
   choice p q r t u v = ap (item i) (rest s i h) ∙ (λ j. chosen i first more (p j) (q j) (r j) (t j) (u j) (v j))
 
-  back : (p : ℕ → Bool) → run p (first ∷ more) ≡ run p (drop i s)
-  back p = ap (run p) (sym (rest s i h))
+  back : (p : ℕ → Bool) → longestRun p (first ∷ more) ≡ longestRun p (drop i s)
+  back p = ap (longestRun p) (sym (rest s i h))
 
   pub at-blank : byteKind first ≡ bBlank → item i (drop i s) ≡ gap (i + 1)
   at-blank e = choice (blank-by-kind first ∙ ap (λ (k : ℕ). eqb k bBlank) e) refl refl refl refl refl
 
-  pub at-line : first ≡ 47 → second ≡ 47 → item i (drop i s) ≡ gap (i + length (run (λ c. not (eqb c 10)) (drop i s)))
+  pub at-line : first ≡ 47 → second ≡ 47 → item i (drop i s) ≡ gap (i + length (longestRun (λ c. not (eqb c 10)) (drop i s)))
   unfolding isBlank
   at-line e n =
       choice (ap isBlank e) (opens 47 47 refl (ap (eqb 47) e) (ap (eqb 47) n)) refl refl refl refl
@@ -118,13 +118,13 @@ module _ (s : List ℕ) (i : ℕ) (h : i < length s) where
     blank-by-kind first ∙ ap (λ (k : ℕ). eqb k bBlank) e,
   )
 
-  pub at-letter : byteKind first ≡ bLetter → item i (drop i s) ≡ token (wordKind (run isNamePart (drop i s))) (run isNamePart (drop i s))
+  pub at-letter : byteKind first ≡ bLetter → item i (drop i s) ≡ token (wordKind (longestRun isNamePart (drop i s))) (longestRun isNamePart (drop i s))
   at-letter e =
       let n = off-slash e refl in
       choice (by-kind e .2) (not-slash 47 refl n) (not-slash 42 refl n) (by-kind e .0) refl refl
       ∙ ap (λ (t : List ℕ). token (wordKind t) t) (back isNamePart)
 
-  pub at-digit : byteKind first ≡ bDigit → item i (drop i s) ≡ token kLiteral (run isDigit (drop i s))
+  pub at-digit : byteKind first ≡ bDigit → item i (drop i s) ≡ token kLiteral (longestRun isDigit (drop i s))
   at-digit e =
       let n = off-slash e refl in
       choice (by-kind e .2) (not-slash 47 refl n) (not-slash 42 refl n) (by-kind e .0) (by-kind e .1) refl
@@ -184,16 +184,16 @@ module _ (s : List ℕ) (i : ℕ) (h : i < length s) where
 
   -- ---- the same of the scanner's answers
 
-  pub piece-line : {e : ℕ} → first ≡ 47 → second ≡ 47 → e ≡ i + length (run (member Line) (drop i s)) → Gap e ≡ pieceOf i (item i (drop i s))
+  pub piece-line : {e : ℕ} → first ≡ 47 → second ≡ 47 → e ≡ i + length (longestRun (member Line) (drop i s)) → Gap e ≡ pieceOf i (item i (drop i s))
   piece-line p n l = ap Gap l ∙ sym (ap (pieceOf i) (at-line p n))
 
   pub piece-block : {k : Closing} → first ≡ 47 → second ≡ 42 → k ≡ closingOf (closing 1 (i + 2) (drop (i + 2) s)) → onClosing k ≡ pieceOf i (item i (drop i s))
   piece-block p n e = ap onClosing e ∙ on-comment i (closing 1 (i + 2) (drop (i + 2) s)) ∙ sym (ap (pieceOf i) (at-block p n))
 
-  pub piece-word : {e k : ℕ} → Letter s i → e ≡ i + length (run (member Word) (drop i s)) → k ≡ wordKind (take (e - i) (drop i s))
+  pub piece-word : {e k : ℕ} → Letter s i → e ≡ i + length (longestRun (member Word) (drop i s)) → k ≡ wordKind (take (e - i) (drop i s))
       → Token k e ≡ pieceOf i (item i (drop i s))
   piece-word {e} {k} l p q =
-      let t = run isNamePart (drop i s) in
+      let t = longestRun isNamePart (drop i s) in
       let n : e - i ≡ length t = omega arith in
       (λ j. Token ((q ∙ ap (λ (m : ℕ). wordKind (take m (drop i s))) n ∙ ap wordKind (run-front isNamePart (drop i s))) j) (p j))
       ∙ sym (ap (pieceOf i) (at-letter (l .kind)))

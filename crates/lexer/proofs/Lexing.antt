@@ -5,13 +5,14 @@ use mathlib.Core.List.{List, [], _∷_, _++_, append-nil, append-assoc}
 use mathlib.Core.Path.{_≡_, refl, sym, ap, _∙_, subst}
 use lib.ListN.{length, take, drop, length-drop}
 use borrow.Author.Tests.{le-leb, lt-leb}
+use Rattle.base.specs.Codes.{commentNotClosed, noToken}
 use Rattle.base.specs.Outcome.{Outcome, accepted, refused, _>>=_}
 use Rattle.lexer.specs.Tokens.{Token, Item, gap, unclosed, nothing, token, item, turn, tokensFrom, tokens}
-use Rattle.lexer.specs.Rows.{Answers}
-use Rattle.base.specs.Tests.{apart}
-use Rattle.lexer.specs.ItemLaws.{Good, Shape, good}
-use Rattle.lexer.specs.Chains.{NoNames, tokensOf, Chained, Added}
-use Rattle.lexer.specs.Scan.{pieceOf}
+use Rattle.lexer.specs.contracts.Rows.{Lexes}
+use Rattle.base.specs.laws.Tests.{apart}
+use Rattle.lexer.specs.laws.ItemLaws.{Good, Shape, good}
+use Rattle.lexer.specs.contracts.Chains.{NoNames, tokensOf, Chained, Added}
+use Rattle.lexer.specs.contracts.Scan.{pieceOf}
 use Rattle.lexer.specs.declared.Lexed.the-variants.{Tokens, Refused}
 use Rattle.lexer.specs.declared.Stored.{Stored}
 use Rattle.lexer.specs.declared.Stored.the-variants.{Refused as Declined, Done}
@@ -139,11 +140,11 @@ module _ {s tab : List ℕ} {n i : ℕ} (h : i < length s) (l : Lexing s tab n i
       let w = turning h l in
       record { chained = l .chained; fuel = w .left; enough = omega (arith, w .enough, g .past); on = turn-on (gap j) (g .is) w }
 
-  pub unclosed-refused : Unclosed ≡ pieceOf i (item i (drop i s)) → tokens s ≡ refused 12 i
+  pub unclosed-refused : Unclosed ≡ pieceOf i (item i (drop i s)) → tokens s ≡ refused commentNotClosed i
   unfolding turn
   unclosed-refused e = turn-on unclosed (of-unclosed i (item i (drop i s)) e) (turning h l)
 
-  pub nothing-refused : Nothing ≡ pieceOf i (item i (drop i s)) → tokens s ≡ refused 11 i
+  pub nothing-refused : Nothing ≡ pieceOf i (item i (drop i s)) → tokens s ≡ refused noToken i
   unfolding turn
   nothing-refused e = turn-on nothing (of-nothing i (item i (drop i s)) e) (turning h l)
 
@@ -180,12 +181,12 @@ lexing-end {s} {tab} {n} {i} h l = l .on ∙ ap (onto (tokensOf s tab n)) (go (l
 
 -- ---- the answers
 
-pub answers-refused : (s tab : List ℕ) {m i : ℕ} → tokens s ≡ refused m i → Answers (tokens s) (Refused m i) tab
-answers-refused s tab {m} {i} e = subst (λ (o : Outcome (List Token)). Answers o (Refused m i) tab) (sym e) refl
+pub answers-refused : (s tab : List ℕ) {m i : ℕ} → tokens s ≡ refused m i → Lexes (tokens s) (Refused m i) tab
+answers-refused s tab {m} {i} e = subst (λ (o : Outcome (List Token)). Lexes o (Refused m i) tab) (sym e) refl
 
-pub answers-tokens : {s tab : List ℕ} {n i : ℕ} → length s ≤ i → Lexing s tab n i → Answers (tokens s) (Tokens n) tab
+pub answers-tokens : {s tab : List ℕ} {n i : ℕ} → length s ≤ i → Lexing s tab n i → Lexes (tokens s) (Tokens n) tab
 answers-tokens {s} {tab} {n} {i} h l =
     let e = tokens-length s tab n in
     let f = l .chained .filled in
-    subst (λ (o : Outcome (List Token)). Answers o (Tokens n) tab) (sym (lexing-end h l))
+    subst (λ (o : Outcome (List Token)). Lexes o (Tokens n) tab) (sym (lexing-end h l))
     (ap Tokens (sym e), omega (arith, e, f .few), filled-rows s tab n f)

@@ -10,7 +10,7 @@ use lib.Seq.{drop-cons}
 use lib.Dec.{eqb}
 use borrow.Author.Tests.{eq-eqb, ne-eqb}
 use Rattle.base.specs.Bytes.{same}
-use Rattle.lexer.specs.Tokens.{run}
+use Rattle.lexer.specs.Tokens.{longestRun}
 
 -- the rest of a list from i is its element at i and the rest from i + 1
 pub rest : (s : List ℕ) (i : ℕ) → i < length s → drop i s ≡ getD s i 0 ∷ drop (i + 1) s
@@ -52,23 +52,23 @@ module _ {s t : List ℕ} {i : ℕ} where
 -- the bytes from `at` to i are of the run that begins at `at`
 pub record Running (p : ℕ → Bool) (s : List ℕ) (at i : ℕ) : Type 0 where
   pub within : i ≤ length s
-  pub left : at + length (run p (drop at s)) ≡ i + length (run p (drop i s))
+  pub left : at + length (longestRun p (drop at s)) ≡ i + length (longestRun p (drop i s))
 
 module _ {p : ℕ → Bool} {s : List ℕ} {at i : ℕ} where
   pub running-more : i < length s → p (getD s i 0) ≡ true → Running p s at i → Running p s at (i + 1)
-  unfolding run
+  unfolding longestRun
   running-more h e r =
-      let l : length (run p (drop i s)) ≡ suc (length (run p (drop (i + 1) s))) = rw (rest s i h, e) refl in
+      let l : length (longestRun p (drop i s)) ≡ suc (length (longestRun p (drop (i + 1) s))) = rw (rest s i h, e) refl in
       record { within = omega arith; left = omega (arith, r .left) }
 
-  pub running-stop : i < length s → p (getD s i 0) ≡ false → Running p s at i → i ≡ at + length (run p (drop at s))
-  unfolding run
+  pub running-stop : i < length s → p (getD s i 0) ≡ false → Running p s at i → i ≡ at + length (longestRun p (drop at s))
+  unfolding longestRun
   running-stop h e r =
-      let l : length (run p (drop i s)) ≡ 0 = rw (rest s i h, e) refl in
+      let l : length (longestRun p (drop i s)) ≡ 0 = rw (rest s i h, e) refl in
       omega (arith, r .left)
 
-  pub running-end : length s ≤ i → Running p s at i → i ≡ at + length (run p (drop at s))
-  unfolding run
+  pub running-end : length s ≤ i → Running p s at i → i ≡ at + length (longestRun p (drop at s))
+  unfolding longestRun
   running-end h r =
-      let l : length (run p (drop i s)) ≡ 0 = rw (rest-none s i h) refl in
+      let l : length (longestRun p (drop i s)) ≡ 0 = rw (rest-none s i h) refl in
       omega (arith, r .left)

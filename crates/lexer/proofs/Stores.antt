@@ -9,14 +9,14 @@ use mathlib.Core.Option.{Option·some-injective}
 use mathlib.Core.Path.{_≡_, refl, sym, ap, _∙_, subst}
 use lib.ListN.{length, take, drop}
 use borrow.Author.Tests.{eq-eqb}
-use Rattle.base.specs.Table.{col, put, rows, size, length-put, col-put-same, col-put-other}
+use Rattle.base.specs.contracts.Table.{col, put, rows, size, length-put, col-put-same, col-put-other}
 use Rattle.lexer.specs.Kinds.{kLiteral, isName}
 use Rattle.lexer.specs.Tokens.{Token, decimal}
-use Rattle.lexer.specs.Rows.{firstNamed}
-use Rattle.base.specs.Tests.{apart}
-use Rattle.lexer.specs.RowLaws.{first-named, first-most}
-use Rattle.lexer.specs.Chains.{bucketFrom, textAt, tokenAt, tokensOf, Row, rowOf, stored, Link, Reaches, here, next, Numbered, Filled, Chained, Sought, Adding, Extended}
-use Rattle.lexer.specs.Verdicts.{numberOf}
+use Rattle.lexer.specs.contracts.Rows.{firstNamed}
+use Rattle.base.specs.laws.Tests.{apart}
+use Rattle.lexer.specs.laws.RowLaws.{first-named, first-most}
+use Rattle.lexer.specs.contracts.Chains.{bucketFrom, textAt, rowToken, tokensOf, TokenRow, tokenRow, storedRow, Link, Reaches, here, next, Numbered, RowsFilled, Chained, Sought, Adding, Extended}
+use Rattle.lexer.specs.contracts.Verdicts.{numberBeside}
 use Rattle.lexer.proofs.Chains.{tokens-suc, tokens-length, token-at, row-below}
 
 -- ---- tables whose first n rows are the same, but for the heads of the buckets
@@ -71,7 +71,7 @@ module _ (s : List ℕ) {tab tab′ : List ℕ} {n : ℕ} (kept : Same n tab tab
 
 -- ---- row n becomes r
 
-pub record Becomes (tab tab′ : List ℕ) (n : ℕ) (r : Row) : Type 0 where
+pub record Becomes (tab tab′ : List ℕ) (n : ℕ) (r : TokenRow) : Type 0 where
   pub long : length tab′ ≡ length tab
   pub kept : Same n tab tab′
   pub kind : col tab′ 0 n ≡ r .kind
@@ -80,7 +80,7 @@ pub record Becomes (tab tab′ : List ℕ) (n : ℕ) (r : Row) : Type 0 where
   pub link : col tab′ 6 n ≡ r .link
   pub size : col tab′ 7 n ≡ r .length
 
-module _ (tab : List ℕ) (n : ℕ) (r : Row) (h : n < rows) where
+module _ (tab : List ℕ) (n : ℕ) (r : TokenRow) (h : n < rows) where
   t1 : List ℕ
   t1 = put tab 0 n (r .kind)
 
@@ -94,8 +94,8 @@ module _ (tab : List ℕ) (n : ℕ) (r : Row) (h : n < rows) where
   t4 = put t3 6 n (r .link)
 
   -- a cell of another row, or of the column of the heads
-  stored-other : (k i : ℕ) → i < rows → ((l : ℕ) → l ≢ 5 → k ≡ l → i ≡ n → ⊥) → col (stored tab n r) k i ≡ col tab k i
-  unfolding stored t1 t2 t3 t4
+  stored-other : (k i : ℕ) → i < rows → ((l : ℕ) → l ≢ 5 → k ≡ l → i ≡ n → ⊥) → col (storedRow tab n r) k i ≡ col tab k i
+  unfolding storedRow t1 t2 t3 t4
   stored-other k i hi f =
       col-put-other t4 k i 7 n hi h (f 7 (λ e. omega arith)) (r .length)
       ∙ col-put-other t3 k i 6 n hi h (f 6 (λ e. omega arith)) (r .link)
@@ -103,18 +103,18 @@ module _ (tab : List ℕ) (n : ℕ) (r : Row) (h : n < rows) where
       ∙ col-put-other t1 k i 1 n hi h (f 1 (λ e. omega arith)) (r .start)
       ∙ col-put-other tab k i 0 n hi h (f 0 (λ e. omega arith)) (r .kind)
 
-  pub stored-heads : (b : ℕ) → b < rows → col (stored tab n r) 5 b ≡ col tab 5 b
+  pub stored-heads : (b : ℕ) → b < rows → col (storedRow tab n r) 5 b ≡ col tab 5 b
   stored-heads b hb = stored-other 5 b hb (λ l nl e _. nl (sym e))
 
   past : (t : List ℕ) (k l v : ℕ) → k ≢ l → col (put t l n v) k n ≡ col t k n
   past t k l v d = col-put-other t k n l n h h (λ e _. d e) v
 
-  stored-length : length (stored tab n r) ≡ length tab
-  unfolding stored
+  stored-length : length (storedRow tab n r) ≡ length tab
+  unfolding storedRow
   stored-length = simp length-put
 
-  pub stored-becomes : size ≤ length tab → Becomes tab (stored tab n r) n r
-  unfolding stored t1 t2 t3 t4
+  pub stored-becomes : size ≤ length tab → Becomes tab (storedRow tab n r) n r
+  unfolding storedRow t1 t2 t3 t4
   stored-becomes big = record {
     long = stored-length;
     kept = record { at = λ k nk i hi. stored-other k i (omega arith) (λ l nl e q. omega arith) };
@@ -138,7 +138,7 @@ module _ (tab : List ℕ) (n : ℕ) (r : Row) (h : n < rows) where
   }
 
 -- a new head for a bucket changes nothing else
-head-becomes : {tab tab′ : List ℕ} {n : ℕ} {r : Row} (b v : ℕ) → n < rows → b < rows → Becomes tab tab′ n r → Becomes tab (put tab′ 5 b v) n r
+head-becomes : {tab tab′ : List ℕ} {n : ℕ} {r : TokenRow} (b v : ℕ) → n < rows → b < rows → Becomes tab tab′ n r → Becomes tab (put tab′ 5 b v) n r
 head-becomes {tab} {tab′} {n} {r} b v h hb m = record {
   long = length-put tab′ 5 b v ∙ m .long;
   kept = record { at = λ k nk i hi. other k i (omega arith) nk ∙ m .kept .at k nk i hi };
@@ -155,17 +155,17 @@ head-becomes {tab} {tab′} {n} {r} b v h hb m = record {
 -- ---- one more row
 
 -- the text of a row that is to be stored
-abbrev textOf : List ℕ → Row → List ℕ
+abbrev textOf : List ℕ → TokenRow → List ℕ
 textOf s r = take (r .length) (drop (r .start) s)
 
 -- r is right as row n
-pub record Fits (s tab : List ℕ) (n : ℕ) (r : Row) : Type 0 where
+pub record Fits (s tab : List ℕ) (n : ℕ) (r : TokenRow) : Type 0 where
   pub inside : r .start + r .length ≤ length s
   pub link : Link tab n (r .link)
   pub name : isName (r .kind) ≡ true → r .number ≡ firstNamed (tokensOf s tab n) (textOf s r)
   pub literal : r .kind ≡ kLiteral → r .number ≡ decimal 0 (textOf s r)
 
-module _ (s : List ℕ) {tab tab′ : List ℕ} {n : ℕ} {r : Row} (m : Becomes tab tab′ n r) where
+module _ (s : List ℕ) {tab tab′ : List ℕ} {n : ℕ} {r : TokenRow} (m : Becomes tab tab′ n r) where
   new-text : textAt s tab′ n ≡ textOf s r
   unfolding textAt
   new-text = λ j. take (m .size j) (drop (m .start j) s)
@@ -186,7 +186,7 @@ module _ (s : List ℕ) {tab tab′ : List ℕ} {n : ℕ} {r : Row} (m : Becomes
     literal = λ q. m .number ∙ f .literal (sym (m .kind) ∙ q) ∙ ap (decimal 0) (sym new-text);
   }
 
-  filled-more : n < rows → Fits s tab n r → Filled s tab n → Filled s tab′ (n + 1)
+  filled-more : n < rows → Fits s tab n r → RowsFilled s tab n → RowsFilled s tab′ (n + 1)
   filled-more h f c = record {
     big = omega (arith, m .long, c .big);
     few = omega arith;
@@ -210,7 +210,7 @@ abbrev FoundAt : (s tab : List ℕ) (n : ℕ) → List ℕ → Type 0
 FoundAt s tab n t = Reaches s tab n t (col tab 5 (bucketFrom 0 t))
 
 -- the heads stay: the row is no name, or a name whose text another row has
-module _ (s : List ℕ) {tab tab′ : List ℕ} {n : ℕ} {r : Row} (c : Chained s tab n) (h : n < rows) (m : Becomes tab tab′ n r) (f : Fits s tab n r)
+module _ (s : List ℕ) {tab tab′ : List ℕ} {n : ℕ} {r : TokenRow} (c : Chained s tab n) (h : n < rows) (m : Becomes tab tab′ n r) (f : Fits s tab n r)
     (heads : (b : ℕ) → b < rows → col tab′ 5 b ≡ col tab 5 b) where
   found-kept : {t : List ℕ} → FoundAt s tab n t → FoundAt s tab′ (n + 1) t
   found-kept {t} q =
@@ -232,7 +232,7 @@ module _ (s : List ℕ) {tab tab′ : List ℕ} {n : ℕ} {r : Row} (c : Chained
   }
 
 -- the row is the new head of its bucket, and links to the old one
-module _ (s : List ℕ) {tab tab₁ : List ℕ} {n : ℕ} {r : Row} (c : Chained s tab n) (h : n < rows) (m₁ : Becomes tab tab₁ n r) (f : Fits s tab n r)
+module _ (s : List ℕ) {tab tab₁ : List ℕ} {n : ℕ} {r : TokenRow} (c : Chained s tab n) (h : n < rows) (m₁ : Becomes tab tab₁ n r) (f : Fits s tab n r)
     (heads : (b : ℕ) → b < rows → col tab₁ 5 b ≡ col tab 5 b) (b : ℕ) (is : b ≡ bucketFrom 0 (textOf s r)) (named : isName (r .kind) ≡ true)
     (old : r .link ≡ col tab 5 b) where
   hb : b < rows
@@ -303,18 +303,18 @@ known-found {s} {tab} {n} c t d =
     let w = first-named ts t l in
     let j = firstNamed ts t in
     let h = row-below s tab n j (w .at) in
-    let e = Option·some-injective (tokenAt s tab j) (w .item) (sym (token-at s tab n j h) ∙ w .at) in
+    let e = Option·some-injective (rowToken s tab j) (w .item) (sym (token-at s tab n j h) ∙ w .at) in
     subst (FoundAt s tab n) (ap (λ (u : Token). u .text) e ∙ w .text) (c .found j h (ap (λ (u : Token). isName (u .kind)) e ∙ w .named))
 
 name-literal : (k : ℕ) → isName k ≡ true → k ≢ kLiteral
 unfolding isName
 name-literal k e q = let z : false ≡ true = sym (ap isName q) ∙ e in apart (cc)
 
-module _ (s : List ℕ) {tab : List ℕ} {n : ℕ} (r : Row) (c : Chained s tab n) (h : n < rows) (inside : r .start + r .length ≤ length s) where
-  becomes : Becomes tab (stored tab n r) n r
+module _ (s : List ℕ) {tab : List ℕ} {n : ℕ} (r : TokenRow) (c : Chained s tab n) (h : n < rows) (inside : r .start + r .length ≤ length s) where
+  becomes : Becomes tab (storedRow tab n r) n r
   becomes = stored-becomes tab n r h (c .filled .big)
 
-  pub stored-tokens : tokensOf s (stored tab n r) (n + 1) ≡ tokensOf s tab n ++ ((record { kind = r .kind; start = r .start; text = textOf s r }) ∷ [])
+  pub stored-tokens : tokensOf s (storedRow tab n r) (n + 1) ≡ tokensOf s tab n ++ ((record { kind = r .kind; start = r .start; text = textOf s r }) ∷ [])
   stored-tokens = tokens-more s becomes
 
   no-link : r .link ≡ 0 → Link tab n (r .link)
@@ -322,7 +322,7 @@ module _ (s : List ℕ) {tab : List ℕ} {n : ℕ} (r : Row) (c : Chained s tab 
 
   -- a row that is no name
   pub chained-plain : r .link ≡ 0 → isName (r .kind) ≡ false → (r .kind ≡ kLiteral → r .number ≡ decimal 0 (textOf s r))
-      → Chained s (stored tab n r) (n + 1)
+      → Chained s (storedRow tab n r) (n + 1)
   chained-plain z o l =
       chained-known s c h becomes
       (record { inside = inside; link = no-link z; name = λ q. absurd (never q); literal = l })
@@ -337,17 +337,17 @@ module _ (s : List ℕ) {tab : List ℕ} {n : ℕ} (r : Row) (c : Chained s tab 
     fits l = record { inside = inside; link = l; name = λ _. number; literal = λ q. absurd (name-literal (r .kind) named q) }
 
     -- a name that an earlier row has
-    pub chained-again : r .link ≡ 0 → r .number ≢ n → Chained s (stored tab n r) (n + 1)
+    pub chained-again : r .link ≡ 0 → r .number ≢ n → Chained s (storedRow tab n r) (n + 1)
     chained-again z d =
         chained-known s c h becomes (fits (no-link z)) (stored-heads tab n r h) (λ _. known-found c (textOf s r) (λ q. d (number ∙ q)))
 
     module _ (b : ℕ) (is : b ≡ bucketFrom 0 (textOf s r)) (hb : b < rows) (old : r .link ≡ col tab 5 b) where
       -- a new name
-      pub chained-first : Chained s (put (stored tab n r) 5 b (n + 1)) (n + 1)
+      pub chained-first : Chained s (put (storedRow tab n r) 5 b (n + 1)) (n + 1)
       chained-first =
           chained-new s c h becomes (fits (subst (Link tab n) (sym old) (c .heads b hb))) (stored-heads tab n r h) b is named old
 
-      pub first-tokens : tokensOf s (put (stored tab n r) 5 b (n + 1)) (n + 1)
+      pub first-tokens : tokensOf s (put (storedRow tab n r) 5 b (n + 1)) (n + 1)
           ≡ tokensOf s tab n ++ ((record { kind = r .kind; start = r .start; text = textOf s r }) ∷ [])
       first-tokens = tokens-more s (head-becomes b (n + 1) h hb becomes)
 
@@ -357,32 +357,32 @@ fits-inside : {s tab : List ℕ} {n i e : ℕ} → Adding s tab n i e → i + (e
 fits-inside a = omega (arith, a .ordered, a .inside)
 
 module _ {s tab tab′ : List ℕ} {n k i e number : ℕ} (a : Adding s tab n i e) (h : n < rows) where
-  pub extended-plain : isName k ≡ false → number ≡ numberOf k (take (e - i) (drop i s)) → tab′ ≡ stored tab n (rowOf k i e number 0)
+  pub extended-plain : isName k ≡ false → number ≡ numberBeside k (take (e - i) (drop i s)) → tab′ ≡ storedRow tab n (tokenRow k i e number 0)
       → Extended s tab n k i e tab′
   extended-plain o v q =
       subst (Extended s tab n k i e) (sym q)
       (record {
-        chained = chained-plain s (rowOf k i e number 0) (a .chained) h (fits-inside a) refl o (λ l. v ∙ literal-number l);
-        tokens = stored-tokens s (rowOf k i e number 0) (a .chained) h (fits-inside a);
+        chained = chained-plain s (tokenRow k i e number 0) (a .chained) h (fits-inside a) refl o (λ l. v ∙ literal-number l);
+        tokens = stored-tokens s (tokenRow k i e number 0) (a .chained) h (fits-inside a);
       })
     where
-      literal-number : k ≡ kLiteral → numberOf k (take (e - i) (drop i s)) ≡ decimal 0 (take (e - i) (drop i s))
+      literal-number : k ≡ kLiteral → numberBeside k (take (e - i) (drop i s)) ≡ decimal 0 (take (e - i) (drop i s))
       literal-number l = rw (eq-eqb k kLiteral l) refl
 
   module _ (named : isName k ≡ true) (right : number ≡ firstNamed (tokensOf s tab n) (take (e - i) (drop i s))) where
-    pub extended-again : number ≢ n → tab′ ≡ stored tab n (rowOf k i e number 0) → Extended s tab n k i e tab′
+    pub extended-again : number ≢ n → tab′ ≡ storedRow tab n (tokenRow k i e number 0) → Extended s tab n k i e tab′
     extended-again d q =
         subst (Extended s tab n k i e) (sym q)
         (record {
-          chained = chained-again s (rowOf k i e number 0) (a .chained) h (fits-inside a) named right refl d;
-          tokens = stored-tokens s (rowOf k i e number 0) (a .chained) h (fits-inside a);
+          chained = chained-again s (tokenRow k i e number 0) (a .chained) h (fits-inside a) named right refl d;
+          tokens = stored-tokens s (tokenRow k i e number 0) (a .chained) h (fits-inside a);
         })
 
     pub extended-first : {b head : ℕ} → b ≡ bucketFrom 0 (take (e - i) (drop i s)) → b < rows → head ≡ col tab 5 b
-        → tab′ ≡ stored tab n (rowOf k i e number head) → Extended s tab n k i e (put tab′ 5 b (n + 1))
+        → tab′ ≡ storedRow tab n (tokenRow k i e number head) → Extended s tab n k i e (put tab′ 5 b (n + 1))
     extended-first {b} {head} is hb old q =
         subst (λ (t : List ℕ). Extended s tab n k i e (put t 5 b (n + 1))) (sym q)
         (record {
-          chained = chained-first s (rowOf k i e number head) (a .chained) h (fits-inside a) named right b is hb old;
-          tokens = first-tokens s (rowOf k i e number head) (a .chained) h (fits-inside a) named right b is hb old;
+          chained = chained-first s (tokenRow k i e number head) (a .chained) h (fits-inside a) named right b is hb old;
+          tokens = first-tokens s (tokenRow k i e number head) (a .chained) h (fits-inside a) named right b is hb old;
         })

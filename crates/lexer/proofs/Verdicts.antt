@@ -10,13 +10,13 @@ use lib.Seq.{length-take-le}
 use lib.Dec.{eqb, ltb}
 use borrow.Author.Tests.{lt-ltb, le-ltb, le-leb, lt-leb, eq-eqb, ne-eqb, eqb-false}
 use Rattle.base.specs.Choice.{if_then_else_}
-use Rattle.base.specs.Codes.{tokensMost, nameMost, literalMost}
+use Rattle.base.specs.Codes.{tokensMost, nameMost, literalMost, leadingZero, literalTooLarge, nameTooLong, tooManyTokens}
 use Rattle.base.specs.Outcome.{Outcome, accepted, refused, _>>=_}
 use Rattle.lexer.specs.Kinds.{kLiteral, isName}
 use Rattle.lexer.specs.Tokens.{Token, token, decimal, startsWithZero, tooLong, zeroFirst, tooLarge, turn}
-use Rattle.base.specs.Tests.{apart}
-use Rattle.lexer.specs.Verdicts.{literalOf, numberOf, verdictOf}
-use Rattle.lexer.specs.Chains.{Extended, Added}
+use Rattle.base.specs.laws.Tests.{apart}
+use Rattle.lexer.specs.contracts.Verdicts.{literalOf, numberBeside, verdictOf}
+use Rattle.lexer.specs.contracts.Chains.{Extended, Added}
 use Rattle.lexer.specs.declared.Stored.the-variants.{Refused as Declined, Done}
 use Rattle.lexer.specs.declared.limits.Literal.{Literal}
 use Rattle.lexer.specs.declared.limits.Literal.the-variants.{Value, TooLarge}
@@ -27,10 +27,10 @@ use Rattle.lexer.specs.declared.limits.Verdict.the-variants.{Refused, Na
 
 abbrev verdictBy : (many name long literal zero large : Bool) → ℕ → Verdict
 verdictBy many name long literal zero large value =
-    if many then (λ _. Refused 15) else λ _.
-    if name && long then (λ _. Refused 13) else λ _.
-    if literal && zero then (λ _. Refused 60) else λ _.
-    if literal && large then (λ _. Refused 14) else λ _.
+    if many then (λ _. Refused tooManyTokens) else λ _.
+    if name && long then (λ _. Refused nameTooLong) else λ _.
+    if literal && zero then (λ _. Refused leadingZero) else λ _.
+    if literal && large then (λ _. Refused literalTooLarge) else λ _.
     if name then (λ _. Name) else λ _. Plain (if literal then (λ _. value) else λ _. 0)
 
 pub is-name : (k : ℕ) → 0 < k → k < 4 → isName k ≡ true
@@ -44,7 +44,7 @@ is-no-name k h = let l : 1 ≤ k = omega arith in let h′ : 3 < k = omega arith
 -- the verdict on a literal without a leading zero
 abbrev pub onLiteral : Literal → Verdict
 onLiteral (Value v) = Plain v
-onLiteral TooLarge = Refused 14
+onLiteral TooLarge = Refused literalTooLarge
 
 module _ (n k : ℕ) (t : List ℕ) where
   by-tests : {many name long literal zero large : Bool} → eqb n tokensMost ≡ many → isName k ≡ name → ltb nameMost (length t) ≡ long
@@ -53,17 +53,17 @@ module _ (n k : ℕ) (t : List ℕ) where
   unfolding verdictOf
   by-tests a b c d e f = λ j. verdictBy (a j) (b j) (c j) (d j) (e j) (f j) (decimal 0 t)
 
-  pub verdict-many : n ≡ 2048 → Refused 15 ≡ verdictOf n k t
+  pub verdict-many : n ≡ 2048 → Refused tooManyTokens ≡ verdictOf n k t
   verdict-many e = sym (by-tests (eq-eqb n 2048 e) refl refl refl refl refl)
 
-  pub verdict-long : n ≢ 2048 → 0 < k → k < 4 → 255 < length t → Refused 13 ≡ verdictOf n k t
+  pub verdict-long : n ≢ 2048 → 0 < k → k < 4 → 255 < length t → Refused nameTooLong ≡ verdictOf n k t
   verdict-long e l h g = sym (by-tests (ne-eqb n 2048 e) (is-name k l h) (lt-ltb 255 (length t) g) refl refl refl)
 
   pub verdict-name : n ≢ 2048 → 0 < k → k < 4 → length t ≤ 255 → Name ≡ verdictOf n k t
   verdict-name e l h g =
       sym (by-tests (ne-eqb n 2048 e) (is-name k l h) (le-ltb 255 (length t) g) (ne-eqb k 4 (λ q. omega arith)) refl refl)
 
-  pub verdict-zero : {z : Bool} → n ≢ 2048 → k ≡ 4 → z ≡ startsWithZero t → z ≡ true → Refused 60 ≡ verdictOf n k t
+  pub verdict-zero : {z : Bool} → n ≢ 2048 → k ≡ 4 → z ≡ startsWithZero t → z ≡ true → Refused leadingZero ≡ verdictOf n k t
   verdict-zero e l q y = sym (by-tests (ne-eqb n 2048 e) (is-no-name k (omega arith)) refl (eq-eqb k 4 l) (sym q ∙ y) refl)
 
   pub verdict-literal : {z : Bool} {v : Literal} → n ≢ 2048 → k ≡ 4 → z ≡ startsWithZero t → z ≡ false → v ≡ literalOf (decimal 0 t)
@@ -92,32 +92,32 @@ Passes n k i t =
 abbrev Judged : (n k i : ℕ) → List ℕ → Verdict → Type 0
 Judged n k i t (Refused m) = (next : ℕ → ℕ → Outcome (List Token)) → turn next n i (token k t) ≡ refused m i
 Judged n k i t Name = (n ≢ 2048) × (isName k ≡ true) × Passes n k i t
-Judged n k i t (Plain v) = (n ≢ 2048) × (isName k ≡ false) × (v ≡ numberOf k t) × Passes n k i t
+Judged n k i t (Plain v) = (n ≢ 2048) × (isName k ≡ false) × (v ≡ numberBeside k t) × Passes n k i t
 
 module _ (n k i : ℕ) (t : List ℕ) where
   -- a turn by the answers of the tests
   turn-by : {many long zero large : Bool} → eqb n tokensMost ≡ many → tooLong k t ≡ long → zeroFirst k t ≡ zero → tooLarge k t ≡ large
       → (next : ℕ → ℕ → Outcome (List Token)) → turn next n i (token k t)
-      ≡ (if many then (λ _. refused 15 i) else λ _.
-      if long then (λ _. refused 13 i) else λ _.
-      if zero then (λ _. refused 60 i) else λ _.
-      if large then (λ _. refused 14 i) else λ _.
+      ≡ (if many then (λ _. refused tooManyTokens i) else λ _.
+      if long then (λ _. refused nameTooLong i) else λ _.
+      if zero then (λ _. refused leadingZero i) else λ _.
+      if large then (λ _. refused literalTooLarge i) else λ _.
       next (n + 1) (i + length t) >>= λ ts. accepted ((record { kind = k; start = i; text = t }) ∷ ts))
   unfolding turn
   turn-by a b c d next = λ j.
-      if a j then (λ _. refused 15 i) else λ _.
-      if b j then (λ _. refused 13 i) else λ _.
-      if c j then (λ _. refused 60 i) else λ _.
-      if d j then (λ _. refused 14 i) else λ _.
+      if a j then (λ _. refused tooManyTokens i) else λ _.
+      if b j then (λ _. refused nameTooLong i) else λ _.
+      if c j then (λ _. refused leadingZero i) else λ _.
+      if d j then (λ _. refused literalTooLarge i) else λ _.
       next (n + 1) (i + length t) >>= λ ts. accepted ((record { kind = k; start = i; text = t }) ∷ ts)
 
   judged-by : (many long zero large name : Bool) → eqb n tokensMost ≡ many → tooLong k t ≡ long → zeroFirst k t ≡ zero → tooLarge k t ≡ large
       → isName k ≡ name → Judged n k i t
-      (if many then (λ _. Refused 15) else λ _.
-      if long then (λ _. Refused 13) else λ _.
-      if zero then (λ _. Refused 60) else λ _.
-      if large then (λ _. Refused 14) else λ _.
-      if name then (λ _. Name) else λ _. Plain (numberOf k t))
+      (if many then (λ _. Refused tooManyTokens) else λ _.
+      if long then (λ _. Refused nameTooLong) else λ _.
+      if zero then (λ _. Refused leadingZero) else λ _.
+      if large then (λ _. Refused literalTooLarge) else λ _.
+      if name then (λ _. Name) else λ _. Plain (numberBeside k t))
   judged-by true long zero large name a b c d e = turn-by a b c d
   judged-by false true zero large name a b c d e = turn-by a b c d
   judged-by false false true large name a b c d e = turn-by a b c d

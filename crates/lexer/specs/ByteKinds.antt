@@ -46,5 +46,5 @@ abbrev pub agrees : (i : ℕ) → List ℕ → Bool
 agrees i [] = eqb i 256
 agrees i (x ∷ xs) = eqb x (byteKind i) && agrees (i + 1) xs
 
-pub record Right (table : List ℕ) : Type 0 where
+pub record RightTable (table : List ℕ) : Type 0 where
   pub test : agrees 0 table ≡ true

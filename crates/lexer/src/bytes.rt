@@ -3,7 +3,7 @@ ghost use mathlib.Core.Path.{_≡_};
 ghost use lib.ListN.{getD};
 ghost use Rattle.base.specs.Bytes.{same};
 ghost use Rattle.lexer.specs.Bytes.{isNamePart};
-ghost use Rattle.lexer.specs.ByteKinds.{byteKind, Right};
+ghost use Rattle.lexer.specs.ByteKinds.{byteKind, RightTable};
 
 // The kinds that the table has for bytes; any other is `.`, and M is a mark. Those from D on begin a token.
 pub const BLANK: u8 = b'B';
@@ -46,14 +46,14 @@ const KINDS: [u8; 256] = *b"\
 
 // The table. It is taken once for a source and lent to what reads it: a constant is made anew wherever it is used.
 pub fn byte_kinds() -> [u8; 256]
-    ensures { λ r. ⌜ Right r ⌝ }
+    ensures { λ r. ⌜ RightTable r ⌝ }
 {
     KINDS
 }
 
 // The kind of a byte.
 pub fn kind_of(table: &[u8; 256], b: u8) -> u8
-    requires { ⌜ Right (now table) ⌝ }
+    requires { ⌜ RightTable (now table) ⌝ }
     ensures { λ r. ⌜ r ≡ byteKind b ⌝ }
 {
     table[b as usize]
@@ -61,7 +61,7 @@ pub fn kind_of(table: &[u8; 256], b: u8) -> u8
 
 // What may stand in a name: a letter or a digit by the table, or the underscore.
 pub fn is_name_part(table: &[u8; 256], b: u8) -> bool
-    requires { ⌜ Right (now table) ⌝ }
+    requires { ⌜ RightTable (now table) ⌝ }
     ensures { λ r. ⌜ r ≡ isNamePart b ⌝ }
 {
     let kind = kind_of(table, b);

@@ -1,4 +1,5 @@
 // The lexer: from the bytes of a source to a row of the work table for each token.
+use base::codes;
 use bytes::byte_kinds;
 use limits::Verdict;
 use limits::judge;
@@ -12,8 +13,8 @@ ghost use mathlib.Core.Path.{_≡_};
 ghost use Prim.Native.Nat.{_≤_, _<_};
 ghost use lib.ListN.{length};
 ghost use Rattle.lexer.specs.Tokens.{tokens};
-ghost use Rattle.lexer.specs.Rows.{Answers};
-ghost use Rattle.lexer.specs.Chains.{Adding, Added};
+ghost use Rattle.lexer.specs.contracts.Rows.{Lexes};
+ghost use Rattle.lexer.specs.contracts.Chains.{Adding, Added};
 
 mod bytes;
 pub mod kinds;
@@ -21,10 +22,6 @@ mod limits;
 mod names;
 mod scan;
 mod words;
-
-const NO_TOKEN: u32 = 11;
-
-const COMMENT_NOT_CLOSED: u32 = 12;
 
 // The number of tokens; or a refusal and its position.
 pub enum Lexed {
@@ -61,7 +58,7 @@ fn add(source: &[u8], table: &mut [u32], count: usize, token: Lexeme) -> Stored
 // Each turn reads one blank, comment or token. Of the table only the buckets are cleared first: rows are written before they are read.
 pub fn lex(source: &[u8], table: &mut [u32]) -> Lexed
     requires { ⌜ (16384 ≤ length (now table)) × (length (now source) ≤ 16384) ⌝ }
-    ensures { λ r. ⌜ (length (now (table .exit)) ≡ length (now (table .entry))) × Answers (tokens (now (source .entry))) r (now (table .exit)) ⌝ }
+    ensures { λ r. ⌜ (length (now (table .exit)) ≡ length (now (table .entry))) × Lexes (tokens (now (source .entry))) r (now (table .exit)) ⌝ }
 {
     clear_buckets(table);
     let kinds = byte_kinds();
@@ -73,10 +70,10 @@ pub fn lex(source: &[u8], table: &mut [u32]) -> Lexed
                 at = next;
             }
             Piece::Unclosed => {
-                return Lexed::Refused(COMMENT_NOT_CLOSED, at);
+                return Lexed::Refused(codes::COMMENT_NOT_CLOSED, at);
             }
             Piece::Nothing => {
-                return Lexed::Refused(NO_TOKEN, at);
+                return Lexed::Refused(codes::NO_TOKEN, at);
             }
             Piece::Token(kind, end) => match add(
                 source,

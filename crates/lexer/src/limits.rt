@@ -1,17 +1,10 @@
 // The limits on a token: how many there may be, how long a name, how large a literal, and that a literal has no leading zero.
 use super::kinds;
+use base::codes;
 ghost use mathlib.Core.Path.{_≡_};
 ghost use Prim.Native.Nat.{_-_, _<_};
 ghost use Rattle.lexer.specs.Tokens.{decimal, startsWithZero};
-ghost use Rattle.lexer.specs.Verdicts.{literalOf, verdictOf};
-
-const NAME_TOO_LONG: u32 = 13;
-
-const LITERAL_TOO_LARGE: u32 = 14;
-
-const TOO_MANY_TOKENS: u32 = 15;
-
-const LEADING_ZERO: u32 = 60;
+ghost use Rattle.lexer.specs.contracts.Verdicts.{literalOf, verdictOf};
 
 const TOKENS_MOST: usize = 2048;
 
@@ -71,21 +64,21 @@ pub fn judge(text: &[u8], count: usize, kind: u32) -> Verdict
     ensures { λ r. ⌜ r ≡ verdictOf count kind (now (text .entry)) ⌝ }
 {
     if count == TOKENS_MOST {
-        return Verdict::Refused(TOO_MANY_TOKENS);
+        return Verdict::Refused(codes::TOO_MANY_TOKENS);
     }
     if kind < kinds::LITERAL {
         if NAME_MOST < text.len() {
-            return Verdict::Refused(NAME_TOO_LONG);
+            return Verdict::Refused(codes::NAME_TOO_LONG);
         }
         return Verdict::Name;
     }
     if kind == kinds::LITERAL {
         if starts_with_zero(text) {
-            return Verdict::Refused(LEADING_ZERO);
+            return Verdict::Refused(codes::LEADING_ZERO);
         }
         return match value_of(text) {
             Literal::Value(v) => Verdict::Plain(v),
-            Literal::TooLarge => Verdict::Refused(LITERAL_TOO_LARGE),
+            Literal::TooLarge => Verdict::Refused(codes::LITERAL_TOO_LARGE),
         };
     }
     Verdict::Plain(0)

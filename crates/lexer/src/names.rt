@@ -9,10 +9,10 @@ ghost use mathlib.Core.Bool.{true};
 ghost use Prim.Native.Nat.{_+_, _≤_, _<_};
 ghost use lib.ListN.{length};
 ghost use Rattle.base.specs.Bytes.{same};
-ghost use Rattle.base.specs.Table.{col};
+ghost use Rattle.base.specs.contracts.Table.{col};
 ghost use Rattle.lexer.specs.Kinds.{isName};
-ghost use Rattle.lexer.specs.Rows.{firstNamed};
-ghost use Rattle.lexer.specs.Chains.{bucketFrom, NoNames, textAt, tokensOf, rowOf, stored as storedRow, Sought, Adding, Extended};
+ghost use Rattle.lexer.specs.contracts.Rows.{firstNamed};
+ghost use Rattle.lexer.specs.contracts.Chains.{bucketFrom, NoNames, textAt, tokensOf, tokenRow, storedRow, Sought, Adding, Extended};
 
 // Where the columns of the table begin: the token's position, its name's number or literal's value, the head of a bucket, the link of a
 // chain, the token's length. Its kind stands in column 0.
@@ -89,7 +89,7 @@ fn lookup(source: &[u8], table: &[u32], count: usize, head: u32, text: &[u8]) ->
 // A token becomes row i, with its number and its link.
 pub fn store(table: &mut [u32], i: usize, token: Lexeme, number: u32, link: u32)
     requires { ⌜ (16384 ≤ length (now table)) × (i < 2048) × (token .start ≤ token .end) × (token .end ≤ 16384) ⌝ }
-    ensures { λ r. ⌜ now (table .exit) ≡ storedRow (now (table .entry)) i (rowOf (token .kind) (token .start) (token .end) number link) ⌝ }
+    ensures { λ r. ⌜ now (table .exit) ≡ storedRow (now (table .entry)) i (tokenRow (token .kind) (token .start) (token .end) number link) ⌝ }
 {
     table[i] = token.kind;
     table[STARTS + i] = token.start as u32;

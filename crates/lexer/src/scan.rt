@@ -9,9 +9,9 @@ use super::words::word_kind;
 ghost use mathlib.Core.Path.{_≡_};
 ghost use Prim.Native.Nat.{_+_, _≤_, _<_};
 ghost use lib.ListN.{length, getD, drop};
-ghost use Rattle.lexer.specs.ByteKinds.{Right};
-ghost use Rattle.lexer.specs.Tokens.{run, closing, item};
-ghost use Rattle.lexer.specs.Scan.{member, delimiterOf, closingOf, pieceOf, Letter, Mark};
+ghost use Rattle.lexer.specs.ByteKinds.{RightTable};
+ghost use Rattle.lexer.specs.Tokens.{longestRun, closing, item};
+ghost use Rattle.lexer.specs.contracts.Scan.{member, delimiterOf, closingOf, pieceOf, Letter, Mark};
 
 // The bytes of a run: those of a line comment, of a word, of a literal.
 pub enum Class {
@@ -43,7 +43,7 @@ pub enum Piece {
 
 // Whether a byte is of a class.
 fn belongs(table: &[u8; 256], class: Class, b: u8) -> bool
-    requires { ⌜ Right (now table) ⌝ }
+    requires { ⌜ RightTable (now table) ⌝ }
     ensures { λ r. ⌜ r ≡ member class b ⌝ }
 {
     match class {
@@ -55,8 +55,8 @@ fn belongs(table: &[u8; 256], class: Class, b: u8) -> bool
 
 // The end of the run of bytes of a class that begins at `at`.
 fn run_end(source: &[u8], table: &[u8; 256], at: usize, class: Class) -> usize
-    requires { ⌜ Right (now table) × (at ≤ length (now source)) ⌝ }
-    ensures { λ r. ⌜ r ≡ at + length (run (member class) (drop at (now (source .entry)))) ⌝ }
+    requires { ⌜ RightTable (now table) × (at ≤ length (now source)) ⌝ }
+    ensures { λ r. ⌜ r ≡ at + length (longestRun (member class) (drop at (now (source .entry)))) ⌝ }
 {
     let mut i = at;
     while i < source.len() {
@@ -116,7 +116,7 @@ fn comment_end(source: &[u8], at: usize) -> Closing
 
 // At a `/`: a comment or nothing.
 fn slash(source: &[u8], table: &[u8; 256], at: usize) -> Piece
-    requires { ⌜ Right (now table) × (at < length (now source)) × (getD (now source) at 0 ≡ 47) ⌝ }
+    requires { ⌜ RightTable (now table) × (at < length (now source)) × (getD (now source) at 0 ≡ 47) ⌝ }
     ensures { λ r. ⌜ r ≡ pieceOf at (item at (drop at (now (source .entry)))) ⌝ }
 {
     let next = byte_at(source, at + 1);
@@ -134,7 +134,7 @@ fn slash(source: &[u8], table: &[u8; 256], at: usize) -> Piece
 
 // At a letter: an identifier or a reserved word.
 fn word(source: &[u8], table: &[u8; 256], at: usize) -> Piece
-    requires { ⌜ Right (now table) × Letter (now source) at ⌝ }
+    requires { ⌜ RightTable (now table) × Letter (now source) at ⌝ }
     ensures { λ r. ⌜ r ≡ pieceOf at (item at (drop at (now (source .entry)))) ⌝ }
 {
     let end = run_end(source, table, at, Class::Word);
@@ -157,7 +157,7 @@ fn mark(source: &[u8], at: usize, b: u8) -> Piece
 
 // What begins at `at`: the kind of its byte decides.
 pub fn piece_at(source: &[u8], table: &[u8; 256], at: usize) -> Piece
-    requires { ⌜ Right (now table) × (at < length (now source)) ⌝ }
+    requires { ⌜ RightTable (now table) × (at < length (now source)) ⌝ }
     ensures { λ r. ⌜ r ≡ pieceOf at (item at (drop at (now (source .entry)))) ⌝ }
 {
     let b = source[at];

@@ -3,7 +3,7 @@ use super::bytes::equal;
 use super::kinds;
 ghost use mathlib.Core.Path.{_≡_};
 ghost use Rattle.lexer.specs.Kinds.{kindIn, wordKind, markKind};
-ghost use Rattle.lexer.specs.WordLengths.{twos, threes, fours, fives, sixes, sevens};
+ghost use Rattle.lexer.specs.laws.WordLengths.{twos, threes, fours, fives, sixes, sevens};
 
 // The kind of a token of one byte, 0 where there is none.
 pub fn mark_kind(b: u8) -> u32

@@ -11,19 +11,19 @@ use lib.Seq.{getD-set-same, getD-set-other}
 use Rattle.base.specs.Choice.{option}
 use Rattle.lexer.specs.Tokens.{Token}
 use Rattle.parser.specs.Tree.{Variable, Class}
-use Rattle.parser.specs.Layout.{rowVariables}
-use Rattle.checker.specs.ClassTable.{Slot, moved, variableNamed, layout, nearestField}
-use Rattle.lookup.specs.Standing.{absent, wordAt, Lexemes, Spells, Codes, nothing, VariablesStand, more-variables, ClassStands, World, chainFrom, parentName}
-use Rattle.lookup.specs.StandingLaws.{word-in, name-word, row-there, same-names, other-names, ClassAt, no-class, a-class, class-at}
-use Rattle.lookup.specs.ChainLaws.{chain-none-left, chain-none, chain-some}
-use Rattle.lookup.specs.Lookups.{TypeOf, Many, Counts, Above}
-use Rattle.lookup.specs.VariableLaws.{variables-many}
-use Rattle.lookup.specs.Fields.{ObjectSize, Tells, no-field, a-field, TellsAt, FieldsHeld, KeptBehind, NoFields, Cleared, OwnHeld, Climbed, Filled}
+use Rattle.parser.specs.contracts.Layout.{absent, rowVariables}
+use Rattle.typesystem.specs.ClassTable.{Slot, moved, variableNamed, layout, nearestField}
+use Rattle.lookup.specs.contracts.HeldClasses.{wordAt, Lexemes, NameNumber, Codes, noType, VariablesHeld, more-variables, ClassHeld, ClassTableHeld, chainFrom, parentName}
+use Rattle.lookup.specs.laws.HeldLaws.{word-in, name-word, row-there, same-names, other-names, ClassAt, no-class, a-class, class-at}
+use Rattle.lookup.specs.laws.ChainLaws.{chain-none-left, chain-none, chain-some}
+use Rattle.lookup.specs.contracts.Lookups.{TypeOf, Many, Counts, Above}
+use Rattle.lookup.specs.laws.VariableLaws.{variables-many}
+use Rattle.lookup.specs.contracts.Fields.{ObjectSize, Tells, no-field, a-field, TellsAt, FieldsHeld, KeptBehind, NoFields, Cleared, OwnHeld, FieldsClimbed, FieldsFilled}
 
 -- THE SIZE OF AN OBJECT
 
 -- the row of a class's first field
-first-field : {tab : List ℕ} {n : ℕ} {ts : List Token} → Lexemes tab n ts → (k : Class) → ClassStands tab n ts k → {class first : ℕ} → k .name .row ≡ class
+first-field : {tab : List ℕ} {n : ℕ} {ts : List Token} → Lexemes tab n ts → (k : Class) → ClassHeld tab n ts k → {class first : ℕ} → k .name .row ≡ class
     → first ≡ wordAt tab 4 class → rowVariables (k .fields) ≡ first
 first-field {tab} lx k s at e₄ = sym (word-in tab 4 (k .name .row) (row-there lx (k .name .row) (s .named .token .there)) (s .first)) ∙ ap (wordAt tab 4) at ∙ sym e₄
 
@@ -47,7 +47,7 @@ module _ {tab : List ℕ} {n left c : ℕ} where
     size-more more near few {first} {own} e₄ d {p} a {r} h′ =
         record { most = omega (arith, d .most, h′ .most); says = λ ts G w name h. go ts G w name (class-at w name c class h index) }
       where
-        go : (ts : List Token) (G : List Class) → World tab n ts G → (name : Option (List ℕ)) → ClassAt tab n ts G name c class → r + own ≡ length (layout (chainFrom left G name))
+        go : (ts : List Token) (G : List Class) → ClassTableHeld tab n ts G → (name : Option (List ℕ)) → ClassAt tab n ts G name c class → r + own ≡ length (layout (chainFrom left G name))
         go ts G w name (no-class e f) = absurd (omega arith)
         go ts G w name (a-class k e at near s sp) =
             let many = subst (λ (i : ℕ). Many tab i (length (k .fields))) (first-field (w .tokens) k s at e₄) (variables-many (w .tokens) (s .fields)) in
@@ -68,19 +68,19 @@ pub record ClearedTo (n : ℕ) (before now : List ℕ) (i : ℕ) : Type 0 where
 pub cleared-none : {n : ℕ} {before : List ℕ} → ClearedTo n before before 0
 cleared-none = record { within = omega arith; long = refl; stays = λ j h. refl; empty = λ x h. absurd (omega arith) }
 
-pub cleared-more : {n : ℕ} {before now : List ℕ} {i : ℕ} → n ≤ 2048 → 4096 ≤ length before → i < n → ClearedTo n before now i → ClearedTo n before (set now i nothing) (i + 1)
+pub cleared-more : {n : ℕ} {before now : List ℕ} {i : ℕ} → n ≤ 2048 → 4096 ≤ length before → i < n → ClearedTo n before now i → ClearedTo n before (set now i noType) (i + 1)
 cleared-more {n} {before} {now} {i} few large low h =
     record {
       within = omega arith;
-      long = length-set now i nothing ∙ h .long;
-      stays = λ j le. getD-set-other now i j nothing 0 (λ e. omega arith) ∙ h .stays j le;
+      long = length-set now i noType ∙ h .long;
+      stays = λ j le. getD-set-other now i j noType 0 (λ e. omega arith) ∙ h .stays j le;
       empty = go;
     }
   where
-    go : (x : ℕ) → x < i + 1 → getD (set now i nothing) x 0 ≡ nothing
+    go : (x : ℕ) → x < i + 1 → getD (set now i noType) x 0 ≡ noType
     go x lt = elim (ℕ-discrete x i) [
-      | yes is ↦ ap (λ (k : ℕ). getD (set now i nothing) k 0) is ∙ getD-set-same now i nothing 0 (omega (arith, h .long))
-      | no other ↦ getD-set-other now i x nothing 0 other ∙ h .empty x (omega arith)
+      | yes is ↦ ap (λ (k : ℕ). getD (set now i noType) k 0) is ∙ getD-set-same now i noType 0 (omega (arith, h .long))
+      | no other ↦ getD-set-other now i x noType 0 other ∙ h .empty x (omega arith)
     ]
 
 pub cleared-all : {n : ℕ} {before now : List ℕ} {i : ℕ} → n ≤ i → ClearedTo n before now i → Cleared n before now
@@ -96,8 +96,8 @@ tells-next at (some s) upper {p = p} (a-field c e) = let z : p ≡ 32 + (at + (1
 
 -- the name of the field in a row
 own-name : {tab : List ℕ} {n row w : ℕ} → w ≡ wordAt tab 2 row → {ts : List Token} → Lexemes tab n ts → {v : Variable} {vs : List Variable} → v .name .row ≡ row
-    → VariablesStand tab ts (v ∷ vs) → Spells ts (v .name .text) w
-own-name {tab} word {ts} lx {v} d (more-variables m c₃ c₆ s) = subst (Spells ts (v .name .text)) (ap (wordAt tab 2) d ∙ sym word) (name-word lx (v .name .row) (m .name .token))
+    → VariablesHeld tab ts (v ∷ vs) → NameNumber ts (v .name .text) w
+own-name {tab} word {ts} lx {v} d (more-variables m c₃ c₆ s) = subst (NameNumber ts (v .name .text)) (ap (wordAt tab 2) d ∙ sym word) (name-word lx (v .name .row) (m .name .token))
 
 module _ {tab : List ℕ} {n left row at : ℕ} {before : List ℕ} where
   pub own-none-left : left ≡ 0 → OwnHeld tab n left row at before before
@@ -113,7 +113,7 @@ module _ {tab : List ℕ} {n left row at : ℕ} {before : List ℕ} where
   unfolding variableNamed
   own-absent far = record { stays = λ j h. refl; says = λ ts lx vs d s few text x sp upper. go ts lx vs d s text x upper }
     where
-      go : (ts : List Token) → Lexemes tab n ts → (vs : List Variable) → rowVariables vs ≡ row → VariablesStand tab ts vs → (text : List ℕ) (x : ℕ) (upper : Option Slot)
+      go : (ts : List Token) → Lexemes tab n ts → (vs : List Variable) → rowVariables vs ≡ row → VariablesHeld tab ts vs → (text : List ℕ) (x : ℕ) (upper : Option Slot)
           → TellsAt ts before x upper → TellsAt ts before x (option (variableNamed vs text) upper λ s. some (moved at s))
       go ts lx [] d s text x upper h = h
       go ts lx (v ∷ vs) d (more-variables m e₃ e₆ s) text x upper h = absurd (omega (arith, d, row-there lx (v .name .row) (m .name .token .there)))
@@ -134,8 +134,8 @@ module _ {tab : List ℕ} {n left row at : ℕ} {before : List ℕ} where
         other-word : (j : ℕ) → (j ≡ w → ⊥) → (j ≡ 2048 + w → ⊥) → getD after j 0 ≡ getD mid j 0
         other-word j a b = ap (λ (l : List ℕ). getD l j 0) written ∙ getD-set-other (set mid w t) (2048 + w) j (32 + at) 0 b ∙ getD-set-other mid w j t 0 a
 
-        go : (ts : List Token) → Lexemes tab n ts → (vs : List Variable) → rowVariables vs ≡ row → VariablesStand tab ts vs → length vs ≤ left
-            → (text : List ℕ) (x : ℕ) → Spells ts text x → (upper : Option Slot) → TellsAt ts before x upper
+        go : (ts : List Token) → Lexemes tab n ts → (vs : List Variable) → rowVariables vs ≡ row → VariablesHeld tab ts vs → length vs ≤ left
+            → (text : List ℕ) (x : ℕ) → NameNumber ts text x → (upper : Option Slot) → TellsAt ts before x upper
             → TellsAt ts after x (option (variableNamed vs text) upper λ s. some (moved at s))
         go ts lx [] d s few text x sp upper below = absurd (omega (arith, d))
         go ts lx (v ∷ vs) d (more-variables m c₃ c₆ s) few text x sp upper below =
@@ -158,7 +158,7 @@ module _ {tab : List ℕ} {n left row at : ℕ} {before : List ℕ} where
     pub own-past : absent ≤ w → OwnHeld tab n left row at before mid
     own-past far = record { stays = h .stays; says = λ ts lx vs d s few text x sp upper. go ts lx vs d s text x upper }
       where
-        go : (ts : List Token) → Lexemes tab n ts → (vs : List Variable) → rowVariables vs ≡ row → VariablesStand tab ts vs → (text : List ℕ) (x : ℕ) (upper : Option Slot)
+        go : (ts : List Token) → Lexemes tab n ts → (vs : List Variable) → rowVariables vs ≡ row → VariablesHeld tab ts vs → (text : List ℕ) (x : ℕ) (upper : Option Slot)
             → TellsAt ts before x upper → TellsAt ts mid x (option (variableNamed vs text) upper λ s. some (moved at s))
         go ts lx [] d s text x upper below = absurd (omega (arith, d))
         go ts lx (v ∷ vs) d s text x upper below = let own = own-name word lx d s in absurd (omega (arith, own .there, lx .count, lx .few))
@@ -172,7 +172,7 @@ tells-from e none upper h = h
 tells-from {b = b} e (some s) upper {p = p} (a-field c q) = let z : p ≡ 32 + (b + s .place) = omega (arith, e, q) in a-field c z
 
 module _ {tab : List ℕ} {n left c : ℕ} {before : List ℕ} where
-  pub climb-none-left : left ≡ 0 → Climbed tab n left c before before 0
+  pub climb-none-left : left ≡ 0 → FieldsClimbed tab n left c before before 0
   unfolding nearestField
   climb-none-left e =
       record {
@@ -182,7 +182,7 @@ module _ {tab : List ℕ} {n left c : ℕ} {before : List ℕ} where
       }
 
   module _ {class : ℕ} (index : class ≡ wordAt tab 7 c) where
-    pub climb-top : absent ≤ class → Climbed tab n left c before before 0
+    pub climb-top : absent ≤ class → FieldsClimbed tab n left c before before 0
     unfolding nearestField
     climb-top far =
         record {
@@ -191,14 +191,14 @@ module _ {tab : List ℕ} {n left c : ℕ} {before : List ℕ} where
           held = λ empty. record { says = λ ts G w name h. record { says = λ text x sp. go ts G name text x (empty x (omega (arith, sp .there, w .tokens .count))) (class-at w name c class h index) } };
         }
       where
-        go : (ts : List Token) (G : List Class) (name : Option (List ℕ)) (text : List ℕ) (x : ℕ) → getD before x 0 ≡ nothing → ClassAt tab n ts G name c class
+        go : (ts : List Token) (G : List Class) (name : Option (List ℕ)) (text : List ℕ) (x : ℕ) → getD before x 0 ≡ noType → ClassAt tab n ts G name c class
             → TellsAt ts before x (nearestField (chainFrom left G name) text)
         go ts G name text x z (no-class e f) = rw (chain-none left G name e) (no-field z)
         go ts G name text x z (a-class k e at near s sp) = absurd (omega arith)
 
     pub climb-more : (left ≡ 0 → ⊥) → class < absent → n ≤ 2048 → {first : ℕ} → first ≡ wordAt tab 4 class → {p : ℕ} → Above tab class p
-        → {at : ℕ} {mid : List ℕ} → Climbed tab n (left - 1) p before mid at → {after : List ℕ} → OwnHeld tab n n first at mid after → {own : ℕ} → Counts tab n first own
-        → Climbed tab n left c before after (at + own)
+        → {at : ℕ} {mid : List ℕ} → FieldsClimbed tab n (left - 1) p before mid at → {after : List ℕ} → OwnHeld tab n n first at mid after → {own : ℕ} → Counts tab n first own
+        → FieldsClimbed tab n left c before after (at + own)
     unfolding nearestField
     climb-more more near few {first} e₄ {p} a {at} {mid} h′ {after} o d =
         record {
@@ -207,7 +207,7 @@ module _ {tab : List ℕ} {n left c : ℕ} {before : List ℕ} where
           held = λ empty. record { says = λ ts G w name h. record { says = λ text x sp. go ts G w name text x sp (h′ .held empty) (class-at w name c class h index) } };
         }
       where
-        go : (ts : List Token) (G : List Class) → World tab n ts G → (name : Option (List ℕ)) (text : List ℕ) (x : ℕ) → Spells ts text x → FieldsHeld tab n (left - 1) p mid
+        go : (ts : List Token) (G : List Class) → ClassTableHeld tab n ts G → (name : Option (List ℕ)) (text : List ℕ) (x : ℕ) → NameNumber ts text x → FieldsHeld tab n (left - 1) p mid
             → ClassAt tab n ts G name c class → TellsAt ts after x (nearestField (chainFrom left G name) text)
         go ts G w name text x sp upper (no-class e f) = absurd (omega arith)
         go ts G w name text x sp upper (a-class k e at near s _) =
@@ -217,5 +217,5 @@ module _ {tab : List ℕ} {n left c : ℕ} {before : List ℕ} where
             (o .says ts (w .tokens) (k .fields) (first-field (w .tokens) k s at e₄) (s .fields) (s .few-fields) text x sp _
             (upper .says ts G w (parentName (k .parent)) up .says text x sp)))
 
-pub filled : {tab : List ℕ} {n left c : ℕ} {before mid after : List ℕ} {r : ℕ} → Cleared n before mid → Climbed tab n left c mid after r → Filled tab n left c before after
+pub filled : {tab : List ℕ} {n left c : ℕ} {before mid after : List ℕ} {r : ℕ} → Cleared n before mid → FieldsClimbed tab n left c mid after r → FieldsFilled tab n left c before after
 filled z h = record { stays = λ j le. h .stays j le ∙ z .stays j le; held = h .held (z .empty) }

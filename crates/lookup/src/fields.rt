@@ -3,15 +3,16 @@
 // on stay.
 use crate::chain::above;
 use crate::member::count;
-use crate::rows::ABSENT;
 use crate::rows::word;
 use crate::types::NOTHING;
 use crate::types::type_of;
+use parser::columns;
+use parser::columns::ABSENT;
 ghost use mathlib.Core.Path.{_≡_};
 ghost use Prim.Native.Nat.{_+_, _≤_, _<_};
 ghost use lib.ListN.{length, set};
-ghost use Rattle.reader.specs.WalkPost.{Walkable};
-ghost use Rattle.lookup.specs.Fields.{ObjectSize, Cleared, OwnHeld, Climbed, Filled};
+ghost use Rattle.reader.specs.contracts.WalkPost.{Walkable};
+ghost use Rattle.lookup.specs.contracts.Fields.{ObjectSize, Cleared, OwnHeld, FieldsClimbed, FieldsFilled};
 
 // How many fields an object of the class holds whose name has the number c, with those from above, of which at most `left` classes may come.
 pub fn object_size(table: &[u32], n: usize, left: usize, c: usize) -> usize
@@ -21,11 +22,11 @@ pub fn object_size(table: &[u32], n: usize, left: usize, c: usize) -> usize
     if left == 0 {
         return 0;
     }
-    let class = word(table, 7, c);
+    let class = word(table, columns::CLASS, c);
     if ABSENT <= class {
         return 0;
     }
-    let own = count(table, n, word(table, 4, class));
+    let own = count(table, n, word(table, columns::FIELDS, class));
     object_size(table, n, left - 1, above(table, class)) + own
 }
 
@@ -61,10 +62,17 @@ fn own(table: &[u32], fields: &mut [u32], n: usize, left: usize, row: usize, at:
     if ABSENT <= row {
         return;
     }
-    own(table, fields, n, left - 1, word(table, 6, row), at + 1);
-    let x = word(table, 2, row);
+    own(
+        table,
+        fields,
+        n,
+        left - 1,
+        word(table, columns::NEXT, row),
+        at + 1,
+    );
+    let x = word(table, columns::NUMBER, row);
     if x < ABSENT {
-        let t = type_of(table, n, word(table, 3, row));
+        let t = type_of(table, n, word(table, columns::TYPE, row));
         enter(fields, x, t, 32 + at);
     }
 }
@@ -73,16 +81,16 @@ fn own(table: &[u32], fields: &mut [u32], n: usize, left: usize, row: usize, at:
 // hides one of its name from above. The answer is how many fields an object of the class holds.
 fn climb(table: &[u32], fields: &mut [u32], n: usize, left: usize, c: usize) -> usize
     requires { ⌜ Walkable (now table) n × (4096 ≤ length (now fields)) × (left ≤ 2048) ⌝ }
-    ensures { λ r. ⌜ Climbed (now (table .entry)) n left c (now (fields .entry)) (now (fields .exit)) r ⌝ }
+    ensures { λ r. ⌜ FieldsClimbed (now (table .entry)) n left c (now (fields .entry)) (now (fields .exit)) r ⌝ }
 {
     if left == 0 {
         return 0;
     }
-    let class = word(table, 7, c);
+    let class = word(table, columns::CLASS, c);
     if ABSENT <= class {
         return 0;
     }
-    let first = word(table, 4, class);
+    let first = word(table, columns::FIELDS, class);
     let at = climb(table, fields, n, left - 1, above(table, class));
     own(table, fields, n, n, first, at);
     at + count(table, n, first)
@@ -91,7 +99,7 @@ fn climb(table: &[u32], fields: &mut [u32], n: usize, left: usize, c: usize) -> 
 // What the fields mean to the bodies of the class whose name has the number c, in a table of this many classes; to main, where c is no name, there are none.
 pub fn fill(table: &[u32], fields: &mut [u32], n: usize, classes: usize, c: usize)
     requires { ⌜ Walkable (now table) n × (4096 ≤ length (now fields)) × (classes ≤ 2048) ⌝ }
-    ensures { λ _. ⌜ Filled (now (table .entry)) n classes c (now (fields .entry)) (now (fields .exit)) ⌝ }
+    ensures { λ _. ⌜ FieldsFilled (now (table .entry)) n classes c (now (fields .entry)) (now (fields .exit)) ⌝ }
 {
     clear(fields, n);
     climb(table, fields, n, classes, c);

@@ -9,13 +9,13 @@ use lib.ListN.{length, getD, set}
 use lib.Seq.{getD-set-same, getD-set-other}
 use lib.Dec.{eqb}
 use borrow.Author.Tests.{eq-eqb, ne-eqb}
-use Rattle.lookup.specs.Standing.{absent}
-use Rattle.menu.specs.Least.{leaf, Right, Keeps, Mended, Entered, Removed}
+use Rattle.parser.specs.contracts.Layout.{absent}
+use Rattle.menu.specs.contracts.Least.{leaf, RightNode, Keeps, Mended, Entered, Removed}
 
 -- SETTING A WORD
 
 -- a node over two other words stays right
-kept-right : (tree : List ℕ) (i x u : ℕ) → (u ≡ i → ⊥) → (2 * u ≡ i → ⊥) → (2 * u + 1 ≡ i → ⊥) → Right tree u → Right (set tree i x) u
+kept-right : (tree : List ℕ) (i x u : ℕ) → (u ≡ i → ⊥) → (2 * u ≡ i → ⊥) → (2 * u + 1 ≡ i → ⊥) → RightNode tree u → RightNode (set tree i x) u
 kept-right tree i x u a b c h = rw (getD-set-other tree i u x 0 a, getD-set-other tree i (2 * u) x 0 b, getD-set-other tree i (2 * u + 1) x 0 c) h
 
 pub mend-none : (tree : List ℕ) {v : ℕ} → v ≡ 0 → Mended v tree tree
@@ -25,11 +25,11 @@ pub mend-next : {before : List ℕ} {v : ℕ} → (v ≡ 0 → ⊥) → v < abse
     → x ≡ min a b → {middle after : List ℕ} → middle ≡ set before v x → Mended (v / 2) middle after → Mended v before after
 mend-next {before} {v} some high long {a} {b} {x} ea eb e {middle} {after} s m =
     record {
-      nodes = λ h. m .nodes (λ u low top other. subst (λ (t : List ℕ). Right t u) (sym s) (one u low top other (h u low top) (ℕ-discrete u v)));
+      nodes = λ h. m .nodes (λ u low top other. subst (λ (t : List ℕ). RightNode t u) (sym s) (one u low top other (h u low top) (ℕ-discrete u v)));
       leaves = λ l h. m .leaves l h ∙ ap (λ (t : List ℕ). getD t l 0) s ∙ getD-set-other before v l x 0 (λ z. omega (arith, z));
     }
   where
-    one : (u : ℕ) → 0 < u → u < absent → (u ≡ v / 2 → ⊥) → ((u ≡ v → ⊥) → Right before u) → Dec (u ≡ v) → Right (set before v x) u
+    one : (u : ℕ) → 0 < u → u < absent → (u ≡ v / 2 → ⊥) → ((u ≡ v → ⊥) → RightNode before u) → Dec (u ≡ v) → RightNode (set before v x) u
     one u low top other h (yes is) =
         rw (is, getD-set-same before v x 0 (omega arith), getD-set-other before v (2 * v) x 0 (λ z. omega (arith, z)), getD-set-other before v (2 * v + 1) x 0 (λ z. omega (arith, z)))
         (e ∙ rw (ea, eb))
@@ -40,8 +40,8 @@ mend-next {before} {v} some high long {a} {b} {x} ea eb e {middle} {after} s m =
 
 module _ (before : List ℕ) (x : ℕ) {row : ℕ} (low : row < absent) (long : length before ≡ 4096) {middle : List ℕ} (s : middle ≡ set before (absent + row) x)
     {after : List ℕ} (m : Mended (1024 + row / 2) middle after) where
-  nodes-again : {S : ℕ → Bool} → Keeps before S → (v : ℕ) → 0 < v → v < absent → Right after v
-  nodes-again k = m .nodes (λ u some top other. subst (λ (t : List ℕ). Right t u) (sym s)
+  nodes-again : {S : ℕ → Bool} → Keeps before S → (v : ℕ) → 0 < v → v < absent → RightNode after v
+  nodes-again k = m .nodes (λ u some top other. subst (λ (t : List ℕ). RightNode t u) (sym s)
       (kept-right before (absent + row) x u (λ z. omega (arith, z)) (λ z. other (omega (arith, z))) (λ z. other (omega (arith, z))) (k .nodes u some top)))
 
   this-leaf : getD after (absent + row) 0 ≡ x
@@ -83,7 +83,7 @@ module _ {tree : List ℕ} {S : ℕ → Bool} (k : Keeps tree S) where
   half-below : (v : ℕ) → 0 < v / 2 → v < 4096 → getD tree (v / 2) 0 ≤ getD tree v 0
   half-below v h top = go (ℕ-discrete v (2 * (v / 2))) (k .nodes (v / 2) h (omega arith))
     where
-      go : Dec (v ≡ 2 * (v / 2)) → Right tree (v / 2) → getD tree (v / 2) 0 ≤ getD tree v 0
+      go : Dec (v ≡ 2 * (v / 2)) → RightNode tree (v / 2) → getD tree (v / 2) 0 ≤ getD tree v 0
       go (yes even) e = let z : getD tree v 0 ≡ getD tree (2 * (v / 2)) 0 = ap (λ (i : ℕ). getD tree i 0) even in omega (arith, e, z)
       go (no odd) e =
           let i : v ≡ 2 * (v / 2) + 1 = omega arith in
@@ -114,7 +114,7 @@ module _ {tree : List ℕ} {S : ℕ → Bool} (k : Keeps tree S) where
   some-leaf (suc n) v few some top =
       go (decLt v absent) (λ h. some-leaf n (2 * v) (omega arith) (omega arith) (omega arith)) (λ h. some-leaf n (2 * v + 1) (omega arith) (omega arith) (omega arith))
     where
-      lesser : Dec (getD tree (2 * v + 1) 0 < getD tree (2 * v) 0) → Right tree v → AtLeaf (2 * v) → AtLeaf (2 * v + 1) → AtLeaf v
+      lesser : Dec (getD tree (2 * v + 1) 0 < getD tree (2 * v) 0) → RightNode tree v → AtLeaf (2 * v) → AtLeaf (2 * v + 1) → AtLeaf v
       lesser (yes h) e l r = (r .0, r .1, r .2 ∙ (omega (arith, e)))
       lesser (no h) e l r = (l .0, l .1, l .2 ∙ (omega (arith, e)))
 

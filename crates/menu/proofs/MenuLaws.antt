@@ -8,32 +8,35 @@ use lib.ListN.{length, getD, drop, replicate, length-append, length-replicate}
 use lib.Seq.{set-append-seam}
 use native.Mathlib.Nat.{le-of-suc-le-suc}
 use borrow.Author.Tests.{lt-ltb, le-ltb}
-use Rattle.base.specs.Lists.{All, all-nil, all-cons, all-weaken, drop-none, getD-default, getD-replicate-same}
+use Rattle.base.specs.All.{All, all-nil, all-cons}
+use Rattle.base.specs.laws.Lists.{all-weaken, drop-none, getD-default, getD-replicate-same}
 use Rattle.base.specs.Codes.{tableLeast}
 use Rattle.base.specs.Outcome.{Outcome, accepted, refused}
-use Rattle.base.specs.Tests.{apart}
+use Rattle.base.specs.laws.Tests.{apart}
 use Rattle.lexer.specs.Tokens.{Token}
 use Rattle.parser.specs.Tree.{Class, Program}
 use Rattle.parser.specs.Grammar.{DerivesClass, DerivesClass.a-class-declaration, DerivesClasses, DerivesClasses.no-class, DerivesClasses.more-classes}
 use Rattle.parser.specs.Grammar.{DerivesProgram, DerivesProgram.a-program}
 use Rattle.parser.specs.Read.{reading, tableAfter}
-use Rattle.checker.specs.ClassTable.{among}
-use Rattle.checker.specs.Check.{judged, checking}
-use Rattle.checker.specs.Typing.{ProgramTyped}
-use Rattle.typing.specs.Choices.{bound}
-use Rattle.typing.specs.Agreement.{program-agrees}
-use Rattle.lookup.specs.Standing.{absent, wordAt}
-use Rattle.lookup.specs.StandingLaws.{word-in}
-use Rattle.declarations.specs.Counts.{class-count}
-use Rattle.declarations.specs.Judgements.{ClassesAt}
-use Rattle.declarations.specs.Indexing.{Ready}
-use Rattle.typecheck.specs.declared.check.Found.{Found}
-use Rattle.typecheck.specs.declared.check.Found.the-variants.{Program as found, Refused as unfit}
+use Rattle.typesystem.specs.ClassTable.{among}
+use Rattle.typesystem.specs.Check.{judged, checking}
+use Rattle.typesystem.specs.TypingRules.{ProgramTyped}
+use Rattle.typing.specs.laws.Choices.{bound}
+use Rattle.typing.specs.laws.Agreement.{program-agrees}
+use Rattle.parser.specs.contracts.Layout.{absent}
+use Rattle.lookup.specs.contracts.HeldClasses.{wordAt}
+use Rattle.lookup.specs.laws.HeldLaws.{word-in}
+use Rattle.declarations.specs.laws.Counts.{class-count}
+use Rattle.declarations.specs.contracts.Judgements.{ClassesAt}
+use Rattle.declarations.specs.contracts.Indexing.{Ready}
+use Rattle.typecheck.specs.declared.check.Finding.{Finding}
+use Rattle.typecheck.specs.declared.check.Finding.the-variants.{Program as found, Refused as declined}
 use Rattle.typecheck.specs.declared.check.CheckAnswer.{CheckAnswer}
-use Rattle.typecheck.specs.CheckPost.{Finds, Leaves, answerOf}
+use Rattle.typecheck.specs.contracts.CheckPost.{FindsProgram, Leaves, checkAnswerOf}
 use Rattle.menu.specs.Menu.{menuOrder, writing, positions, listing, menu, Menus}
-use Rattle.menu.specs.Order.{each-once, many-same}
-use Rattle.menu.specs.MenuPost.{rowOf, Rising, rising-none, rising-more, Tabled, Empty, Gathered, overwritten, Closed, Written, listed, Fills}
+use Rattle.menu.specs.laws.Writing.{many-same}
+use Rattle.menu.specs.Order.{each-once}
+use Rattle.menu.specs.contracts.MenuPost.{nameRow, RowsRise, rising-none, rising-more, Tabled, Empty, Gathered, overwritten, ParentsWritten, Written, listingOf, FillsStrip}
 
 -- THE STRIP
 
@@ -71,10 +74,10 @@ empty = record {
 
 -- THE CLASSES
 
-class-row : {ts : List Token} {i j : ℕ} {k : Class} → DerivesClass ts i j k → rowOf k ≡ i + 1
+class-row : {ts : List Token} {i j : ℕ} {k : Class} → DerivesClass ts i j k → nameRow k ≡ i + 1
 class-row (a-class-declaration _ _ _ _ _ _ _) = refl
 
-classes-rise : {ts : List Token} {i j : ℕ} {ks : List Class} → DerivesClasses ts i j ks → Rising ks × All (λ (k : Class). i < rowOf k) ks
+classes-rise : {ts : List Token} {i j : ℕ} {ks : List Class} → DerivesClasses ts i j ks → RowsRise ks × All (λ (k : Class). i < nameRow k) ks
 classes-rise no-class = (rising-none, all-nil)
 classes-rise (more-classes {c = k} {cs = ks} d ds) =
     let u = classes-rise ds in
@@ -82,16 +85,16 @@ classes-rise (more-classes {c = k} {cs = ks} d ds) =
     let n = class-count d in
     (rising-more {k = k} (all-weaken (λ j h. omega (arith, h, n, at)) (u .1)) (u .0), all-cons {x = k} (omega (arith, at)) (all-weaken (λ j h. omega (arith, h, n)) (u .1)))
 
-rise : {ts : List Token} {p : Program} → DerivesProgram ts p → Rising (p .classes)
+rise : {ts : List Token} {p : Program} → DerivesProgram ts p → RowsRise (p .classes)
 rise (a-program _ _ _ _ ds) = classes-rise ds .0
 
-nothing-written : (G : List Class) → Closed [] G
+nothing-written : (G : List Class) → ParentsWritten [] G
 unfolding among
 nothing-written [] = all-nil
 nothing-written (k ∷ G) = all-cons (λ e. absurd (false≢true e)) (nothing-written G)
 
 module _ {tab : List ℕ} {classes : ℕ} {before : List ℕ} where
-  pub fill-short : length before < classes → Fills tab classes before (listed (record { number = 4; position = 0; classes = 0 }) before)
+  pub fill-short : length before < classes → FillsStrip tab classes before (listingOf (record { number = 4; position = 0; classes = 0 }) before)
   fill-short h = record { says = λ n ts p r d t l. let z : length before < length (p .classes) = omega arith in rw (lt-ltb (length before) (length (p .classes)) z) }
 
   module _ {first : ℕ} (e₆ : first ≡ wordAt tab 6 0) {tree firsts next : List ℕ}
@@ -109,7 +112,7 @@ module _ {tab : List ℕ} {classes : ℕ} {before : List ℕ} where
         subst (λ (m : ℕ). (after ≡ overwritten 0 (positions (writing m G [])) before) × (unwritten + length (writing m G []) ≡ m)) (sym l)
         (w .says n ts G table (start .1) [] (nothing-written G) (start .0))
 
-    pub fill-long : classes ≤ length before → Fills tab classes before (listed (record { number = 0; position = 0; classes = classes }) after)
+    pub fill-long : classes ≤ length before → FillsStrip tab classes before (listingOf (record { number = 0; position = 0; classes = classes }) after)
     fill-long h =
         record {
           says = λ n ts p r d t l.
@@ -122,26 +125,26 @@ module _ {tab : List ℕ} {classes : ℕ} {before : List ℕ} where
         }
 
     -- all classes of a typed program are written
-    pub fill-never : (unwritten ≡ 0 → ⊥) → (a : CheckAnswer) → Fills tab classes before (listed a after)
+    pub fill-never : (unwritten ≡ 0 → ⊥) → (a : CheckAnswer) → FillsStrip tab classes before (listingOf a after)
     fill-never some a = record { says = λ n ts p r d t l. absurd (some (omega (arith, told r d l .1, many-same (each-once t)))) }
 
 -- THE ANSWER
 
-module _ (s : List ℕ) (f : Found) (middle before : List ℕ) (l : Leaves s (checking s) f middle) where
-  pub answer-found : {n k : ℕ} → f ≡ found n k → {r : CheckAnswer} {after : List ℕ} → Fills middle k before (listed r after) → listed r after ≡ listing (checking s) before
+module _ (s : List ℕ) (f : Finding) (middle before : List ℕ) (l : Leaves s (checking s) f middle) where
+  pub answer-found : {n k : ℕ} → f ≡ found n k → {r : CheckAnswer} {after : List ℕ} → FillsStrip middle k before (listingOf r after) → listingOf r after ≡ listing (checking s) before
   answer-found {n} {k} is {r} {after} g = go (checking s) (l .finds)
     where
-      go : (w : Outcome Program) → Finds s w f middle → listed r after ≡ listing w before
+      go : (w : Outcome Program) → FindsProgram s w f middle → listingOf r after ≡ listing w before
       go (accepted p) h =
           let z = h .answer in
           let c : length (p .classes) ≡ k = cc in
           g .says (length (h .stream)) (h .stream) p (h .ready) (h .derived) (h .typed) c
       go (refused m q) h = let z = h in apart (cc)
 
-  pub answer-unfit : {n q : ℕ} → f ≡ unfit n q → listed (record { number = n; position = q; classes = 0 }) before ≡ listing (checking s) before
+  pub answer-unfit : {n q : ℕ} → f ≡ declined n q → listingOf (record { number = n; position = q; classes = 0 }) before ≡ listing (checking s) before
   answer-unfit {n} {q} is = go (checking s) (l .finds)
     where
-      go : (w : Outcome Program) → Finds s w f middle → listed (record { number = n; position = q; classes = 0 }) before ≡ listing w before
+      go : (w : Outcome Program) → FindsProgram s w f middle → listingOf (record { number = n; position = q; classes = 0 }) before ≡ listing w before
       go (accepted p) h = let z = h .answer in apart (cc)
       go (refused m p) h = let z = h in let a : n ≡ m = cc in let b : q ≡ p = cc in rw (a, b)
 
@@ -152,8 +155,8 @@ module _ (s table before : List ℕ) where
   unfolding menu tableAfter
   menu-short h = record { answer = rw (lt-ltb (length table) tableLeast h); cleared = rw (lt-ltb (length table) tableLeast h) }
 
-  pub menu-answer : 16384 ≤ length table → {r : CheckAnswer} (middle : List ℕ) {last after : List ℕ} → listed r after ≡ listing (checking s) before → length middle ≡ length table
-      → last ≡ replicate (length middle) 0 → Menus s table before (answerOf r) last after
+  pub menu-answer : 16384 ≤ length table → {r : CheckAnswer} (middle : List ℕ) {last after : List ℕ} → listingOf r after ≡ listing (checking s) before → length middle ≡ length table
+      → last ≡ replicate (length middle) 0 → Menus s table before (checkAnswerOf r) last after
   unfolding menu tableAfter
   menu-answer long middle m same zero =
       record { answer = rw (le-ltb (length table) tableLeast long) m; cleared = rw (le-ltb (length table) tableLeast long) (zero ∙ ap (λ (k : ℕ). replicate k 0) same) }

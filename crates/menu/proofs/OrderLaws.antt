@@ -14,25 +14,28 @@ use lib.Dec.{eqb}
 use borrow.Author.Tests.{eqb-true, eq-eqb, ne-eqb}
 use Rattle.base.specs.Bytes.{same}
 use Rattle.base.specs.Choice.{if_then_else_, option}
-use Rattle.base.specs.Lists.{All, all-nil, all-cons, all-weaken}
-use Rattle.base.specs.Tests.{and-true, and-false, and-right, or-either, or-neither, not-true, same-equal, same-of, apart-same}
+use Rattle.base.specs.All.{All, all-nil, all-cons}
+use Rattle.base.specs.laws.Lists.{all-weaken}
+use Rattle.base.specs.laws.Tests.{and-true, and-false, and-right, or-either, or-neither, not-true, same-equal, same-of, apart-same}
 use Rattle.lexer.specs.Tokens.{Token}
 use Rattle.parser.specs.Tree.{Name, Class}
 use Rattle.parser.specs.Stream.{tokenAt}
-use Rattle.checker.specs.ClassTable.{among, classNamed}
-use Rattle.checker.specs.Typing.{className}
-use Rattle.typing.specs.Choices.{by-test, none-some}
-use Rattle.typing.specs.Chains.{class-name}
-use Rattle.typing.specs.Distinctness.{all-zip}
-use Rattle.lookup.specs.Standing.{absent, wordAt, Lexemes, Numbers, no-name, a-name, ClassStands, ClassesStand, more-classes, World, parentName}
-use Rattle.lookup.specs.StandingLaws.{word-in, start-word, row-there, all-stand, ClassAt, no-class, a-class, class-at}
-use Rattle.lookup.specs.Lookups.{Above}
-use Rattle.declarations.specs.Judgements.{ClassesAt, Own}
+use Rattle.typesystem.specs.ClassTable.{among, classNamed}
+use Rattle.typesystem.specs.TypingRules.{className}
+use Rattle.typing.specs.laws.Choices.{by-test, none-some}
+use Rattle.typing.specs.laws.Chains.{class-name}
+use Rattle.typing.specs.laws.Distinctness.{all-zip}
+use Rattle.parser.specs.contracts.Layout.{absent}
+use Rattle.lookup.specs.contracts.HeldClasses.{wordAt, Lexemes, MaybeNumber, no-name, a-name, ClassHeld, ClassesHeld, more-classes, ClassTableHeld, parentName}
+use Rattle.lookup.specs.laws.HeldLaws.{word-in, start-word, row-there, all-stand, ClassAt, no-class, a-class, class-at}
+use Rattle.lookup.specs.contracts.Lookups.{Above}
+use Rattle.declarations.specs.contracts.Judgements.{ClassesAt, FoundByName}
 use Rattle.menu.specs.Menu.{mayStand, earliest, writing, positions}
-use Rattle.menu.specs.Order.{MayStand, earliest-sound, among-more, all-there}
-use Rattle.menu.specs.Least.{Keeps, Entered, Removed}
-use Rattle.menu.specs.MenuPost.{rowOf, standing, Rising, rising-more, Tabled, isChild, childRows, Linked, linked-end, linked-more, Listed, Empty, Gathered}
-use Rattle.menu.specs.MenuPost.{Joined, elem, Freed, overwritten, Closed, Written}
+use Rattle.menu.specs.laws.Writing.{among-more, all-there, earliest-sound}
+use Rattle.menu.specs.InOrder.{MayStand}
+use Rattle.menu.specs.contracts.Least.{Keeps, Entered, Removed}
+use Rattle.menu.specs.contracts.MenuPost.{nameRow, standing, RowsRise, rising-more, Tabled, isChild, childRows, Linked, linked-end, linked-more, ChildrenListed, Empty, Gathered}
+use Rattle.menu.specs.contracts.MenuPost.{ChildJoined, elem, Freed, overwritten, ParentsWritten, Written}
 use Rattle.menu.proofs.LeastLaws.{top-least, top-in, keeps-same}
 
 on : {R : Type 0} (b : Bool) → (b ≡ true → R) → (b ≡ false → R) → R
@@ -78,16 +81,16 @@ module _ {next : List ℕ} {left row : ℕ} {tree : List ℕ} where
 -- THE EARLIEST
 
 module _ (w : List Class) where
-  standing-above : (ks : List Class) {low r : ℕ} → All (λ (j : Class). low < rowOf j) ks → standing w ks r ≡ true → low < r
+  standing-above : (ks : List Class) {low r : ℕ} → All (λ (j : Class). low < nameRow j) ks → standing w ks r ≡ true → low < r
   unfolding standing
   standing-above [] h e = absurd (false≢true e)
   standing-above (k ∷ ks) {low} {r} (all-cons l h) e =
-      ⊎-elim (λ a. omega (arith, eqb-true (rowOf k) r (and-true (eqb (rowOf k) r) (mayStand w k) a .0)))
-      (λ b. standing-above ks h b) (or-either (eqb (rowOf k) r && mayStand w k) (standing w ks r) e)
+      ⊎-elim (λ a. omega (arith, eqb-true (nameRow k) r (and-true (eqb (nameRow k) r) (mayStand w k) a .0)))
+      (λ b. standing-above ks h b) (or-either (eqb (nameRow k) r && mayStand w k) (standing w ks r) e)
 
   -- the least row is that of the earliest class
-  earliest-is : (ks : List Class) → Rising ks → {x : ℕ} → standing w ks x ≡ true → ((r : ℕ) → r < x → standing w ks r ≡ false)
-      → (k : Class) × (earliest w ks ≡ some k) × (rowOf k ≡ x)
+  earliest-is : (ks : List Class) → RowsRise ks → {x : ℕ} → standing w ks x ≡ true → ((r : ℕ) → r < x → standing w ks r ≡ false)
+      → (k : Class) × (earliest w ks ≡ some k) × (nameRow k ≡ x)
   unfolding standing earliest
   earliest-is [] rise e h = absurd (false≢true e)
   earliest-is (k ∷ ks) (rising-more l s) {x} e h =
@@ -96,23 +99,23 @@ module _ (w : List Class) where
       (λ m. (
         k,
         rw m,
-        ⊎-elim (λ a. eqb-true (rowOf k) x (and-true (eqb (rowOf k) x) (mayStand w k) a .0))
-            (λ b. absurd (true≢false (sym (rw (eq-eqb (rowOf k) (rowOf k) refl, m)) ∙ h (rowOf k) (standing-above ks l b))))
-            (or-either (eqb (rowOf k) x && mayStand w k) (standing w ks x) e),
+        ⊎-elim (λ a. eqb-true (nameRow k) x (and-true (eqb (nameRow k) x) (mayStand w k) a .0))
+            (λ b. absurd (true≢false (sym (rw (eq-eqb (nameRow k) (nameRow k) refl, m)) ∙ h (nameRow k) (standing-above ks l b))))
+            (or-either (eqb (nameRow k) x && mayStand w k) (standing w ks x) e),
       ))
       (λ m.
-      let rest : (r : ℕ) → ((eqb (rowOf k) r && mayStand w k) || standing w ks r) ≡ standing w ks r = λ r. rw (m, and-false (eqb (rowOf k) r)) in
+      let rest : (r : ℕ) → ((eqb (nameRow k) r && mayStand w k) || standing w ks r) ≡ standing w ks r = λ r. rw (m, and-false (eqb (nameRow k) r)) in
       let f = earliest-is ks s (sym (rest x) ∙ e) (λ r low. sym (rest r) ∙ h r low) in
       (f .0, skipped m ∙ f .1, f .2))
 
   -- where no row is in the set, no class may stand
-  earliest-none : (ks : List Class) → All (λ (k : Class). rowOf k < absent) ks → ((r : ℕ) → r < absent → standing w ks r ≡ false) → earliest w ks ≡ none
+  earliest-none : (ks : List Class) → All (λ (k : Class). nameRow k < absent) ks → ((r : ℕ) → r < absent → standing w ks r ≡ false) → earliest w ks ≡ none
   unfolding standing earliest
   earliest-none [] all-nil h = refl
   earliest-none (k ∷ ks) (all-cons low rows) h =
-      let n = or-neither (eqb (rowOf k) (rowOf k) && mayStand w k) (standing w ks (rowOf k)) (h (rowOf k) low) .0 in
-      rw (and-right (eqb (rowOf k) (rowOf k)) (mayStand w k) n (eq-eqb (rowOf k) (rowOf k) refl))
-      (earliest-none ks rows (λ r here. or-neither (eqb (rowOf k) r && mayStand w k) (standing w ks r) (h r here) .1))
+      let n = or-neither (eqb (nameRow k) (nameRow k) && mayStand w k) (standing w ks (nameRow k)) (h (nameRow k) low) .0 in
+      rw (and-right (eqb (nameRow k) (nameRow k)) (mayStand w k) n (eq-eqb (nameRow k) (nameRow k) refl))
+      (earliest-none ks rows (λ r here. or-neither (eqb (nameRow k) r && mayStand w k) (standing w ks r) (h r here) .1))
 
 -- ONE CLASS MORE
 
@@ -145,17 +148,17 @@ row-truth true s m c r t x h = rw (h refl) (go s m c r)
     go false false false true = refl
     go false false false false = refl
 
-elem-child : (c : List ℕ) (k : Class) (ks : List Class) (r : ℕ) → elem r (childRows c (k ∷ ks)) ≡ ((isChild c k && eqb (rowOf k) r) || elem r (childRows c ks))
+elem-child : (c : List ℕ) (k : Class) (ks : List Class) (r : ℕ) → elem r (childRows c (k ∷ ks)) ≡ ((isChild c k && eqb (nameRow k) r) || elem r (childRows c ks))
 unfolding elem childRows
 elem-child c k ks r = go (isChild c k)
   where
-    go : (b : Bool) → elem r (if b then (λ _. rowOf k ∷ childRows c ks) else λ _. childRows c ks) ≡ ((b && eqb (rowOf k) r) || elem r (childRows c ks))
+    go : (b : Bool) → elem r (if b then (λ _. nameRow k ∷ childRows c ks) else λ _. childRows c ks) ≡ ((b && eqb (nameRow k) r) || elem r (childRows c ks))
     go true = refl
     go false = refl
 
 -- what is known of a class of the table when k is written
 record Beside (w : List Class) (k j : Class) : Type 0 where
-  one : same (className k) (className j) ≡ eqb (rowOf k) (rowOf j)
+  one : same (className k) (className j) ≡ eqb (nameRow k) (nameRow j)
   child : isChild (className k) j ≡ true → (among (className j) w ≡ false) × (same (className k) (className j) ≡ false)
 
 module _ (w : List Class) (k : Class) where
@@ -170,36 +173,36 @@ module _ (w : List Class) (k : Class) where
       go (some p) h = rw (among-more (p .text) w k) (may-truth (among (className j) w) (same (className k) (className j)) (among (p .text) w) (same (className k) (p .text)) h)
 
   standing-more : (ks : List Class) (r : ℕ) → All (Beside w k) ks
-      → standing (w ++ k ∷ []) ks r ≡ (elem r (childRows (className k) ks) || (not (eqb (rowOf k) r) && standing w ks r))
+      → standing (w ++ k ∷ []) ks r ≡ (elem r (childRows (className k) ks) || (not (eqb (nameRow k) r) && standing w ks r))
   unfolding standing elem childRows
-  standing-more [] r all-nil = sym (and-false (not (eqb (rowOf k) r)))
+  standing-more [] r all-nil = sym (and-false (not (eqb (nameRow k) r)))
   standing-more (j ∷ ks) r (all-cons b h) =
       rw (may-more j b, standing-more ks r h)
-      (row-truth (eqb (rowOf j) r) (same (className k) (className j)) (mayStand w j) (isChild (className k) j) (elem r (childRows (className k) ks)) (standing w ks r)
-      (eqb (rowOf k) r) (λ e. ap (eqb (rowOf k)) (sym (eqb-true (rowOf j) r e)) ∙ sym (b .one))
-      ∙ ap (λ (x : Bool). x || (not (eqb (rowOf k) r) && ((eqb (rowOf j) r && mayStand w j) || standing w ks r))) (sym (elem-child (className k) j ks r)))
+      (row-truth (eqb (nameRow j) r) (same (className k) (className j)) (mayStand w j) (isChild (className k) j) (elem r (childRows (className k) ks)) (standing w ks r)
+      (eqb (nameRow k) r) (λ e. ap (eqb (nameRow k)) (sym (eqb-true (nameRow j) r e)) ∙ sym (b .one))
+      ∙ ap (λ (x : Bool). x || (not (eqb (nameRow k) r) && ((eqb (nameRow j) r && mayStand w j) || standing w ks r))) (sym (elem-child (className k) j ks r)))
 
 -- TWO CLASSES OF A TABLE
 
 -- classes in one row have one name
-one-text : {tab : List ℕ} {n : ℕ} {ts : List Token} {j k : Class} → ClassStands tab n ts j → ClassStands tab n ts k → rowOf j ≡ rowOf k → className j ≡ className k
+one-text : {tab : List ℕ} {n : ℕ} {ts : List Token} {j k : Class} → ClassHeld tab n ts j → ClassHeld tab n ts k → nameRow j ≡ nameRow k → className j ≡ className k
 one-text {ts = ts} a b e = sym (a .named .token .spelt) ∙ ap (λ (i : ℕ). tokenAt ts i .text) e ∙ b .named .token .spelt
 
 -- those of one name are one
 one-class : (G : List Class) {c : List ℕ} {j k : Class} → classNamed G (className j) ≡ some j → classNamed G c ≡ some k → className j ≡ c → j ≡ k
 one-class G {c} {j} {k} own f e = Option·some-injective j k (sym own ∙ ap (classNamed G) e ∙ f)
 
-module _ {tab : List ℕ} {n : ℕ} {ts : List Token} (G w : List Class) {k : Class} (stands : ClassStands tab n ts k) (own : classNamed G (className k) ≡ some k)
+module _ {tab : List ℕ} {n : ℕ} {ts : List Token} (G w : List Class) {k : Class} (stands : ClassHeld tab n ts k) (own : classNamed G (className k) ≡ some k)
     (may : MayStand w k) where
-  beside : (j : Class) → ClassStands tab n ts j → classNamed G (className j) ≡ some j
+  beside : (j : Class) → ClassHeld tab n ts j → classNamed G (className j) ≡ some j
       → (among (className j) w ≡ true → (option (j .parent) true λ p. among (p .text) w) ≡ true) → Beside w k j
   beside j s o closed = record { one = one; child = child (j .parent) refl }
     where
-      one : same (className k) (className j) ≡ eqb (rowOf k) (rowOf j)
+      one : same (className k) (className j) ≡ eqb (nameRow k) (nameRow j)
       one =
           on (same (className k) (className j))
-          (λ e. e ∙ sym (eq-eqb (rowOf k) (rowOf j) (ap rowOf (one-class G own o (same-equal (className k) (className j) e)))))
-          (λ e. e ∙ sym (ne-eqb (rowOf k) (rowOf j) (λ z. true≢false (sym (same-of (one-text stands s z)) ∙ e))))
+          (λ e. e ∙ sym (eq-eqb (nameRow k) (nameRow j) (ap nameRow (one-class G own o (same-equal (className k) (className j) e)))))
+          (λ e. e ∙ sym (ne-eqb (nameRow k) (nameRow j) (λ z. true≢false (sym (same-of (one-text stands s z)) ∙ e))))
 
       written : (p : Name) → same (className k) (p .text) ≡ true → among (p .text) w ≡ true → ⊥
       written p e a = true≢false (sym a ∙ ap (λ (x : List ℕ). among x w) (sym (same-equal (className k) (p .text) e)) ∙ may .new)
@@ -233,7 +236,7 @@ unfolding childRows
 child-few c [] = omega arith
 child-few c (k ∷ ks) = go (isChild c k) (child-few c ks)
   where
-    go : (b : Bool) → length (childRows c ks) ≤ length ks → length (if b then (λ _. rowOf k ∷ childRows c ks) else λ _. childRows c ks) ≤ length (k ∷ ks)
+    go : (b : Bool) → length (childRows c ks) ≤ length ks → length (if b then (λ _. nameRow k ∷ childRows c ks) else λ _. childRows c ks) ≤ length (k ∷ ks)
     go true h = omega arith
     go false h = omega arith
 
@@ -247,8 +250,8 @@ unfolding writing
 writing-end zero G w e = refl
 writing-end (suc n) G w e = rw e
 
-rows-there : {tab : List ℕ} {n : ℕ} {ts : List Token} {G : List Class} → World tab n ts G → All (λ (k : Class). rowOf k < absent) G
-rows-there w = all-weaken (λ k s. row-there (w .tokens) (rowOf k) (s .named .token .there)) (all-stand (w .classes))
+rows-there : {tab : List ℕ} {n : ℕ} {ts : List Token} {G : List Class} → ClassTableHeld tab n ts G → All (λ (k : Class). nameRow k < absent) G
+rows-there w = all-weaken (λ k s. row-there (w .tokens) (nameRow k) (s .named .token .there)) (all-stand (w .classes))
 
 module _ {tab tree first next : List ℕ} {i left : ℕ} {before : List ℕ} where
   pub write-none : left ≡ 0 → Written tab tree first next i left before before 0
@@ -277,22 +280,22 @@ module _ {tab tree first next : List ℕ} {i left : ℕ} {before : List ℕ} whe
     unfolding overwritten positions
     write-next more near {p} e₁ {strip} put {tree₁} out {child} ec {tree₂} free {after} {r} rest = record { says = says }
       where
-        says : (n : ℕ) (ts : List Token) (G : List Class) → Tabled tab n ts G → Listed first next G G → (w : List Class) → Closed w G → Keeps tree (standing w G)
+        says : (n : ℕ) (ts : List Token) (G : List Class) → Tabled tab n ts G → ChildrenListed first next G G → (w : List Class) → ParentsWritten w G → Keeps tree (standing w G)
             → (after ≡ overwritten i (positions (writing left G w)) before) × (r + length (writing left G w) ≡ left)
         says n ts G t l w c kept =
             let found = earliest-is w G (t .rising) (top-in kept top near) (λ r low. not-true (standing w G r) (λ e. omega (arith, top-least kept r (omega arith) e))) in
             let k = found .0 in
             let f = earliest-sound w G (found .1) in
-            let stand = all-there (f .before) (f .behind) (subst (All (ClassStands tab n ts)) (f .there) (all-stand (t .world .classes))) in
-            let own = all-there (f .before) (f .behind) (subst (Own G) (f .there) (t .own)) in
-            let linked = all-there (f .before) (f .behind) (subst (λ (ks : List Class). Listed first next ks G) (f .there) l) in
+            let stand = all-there (f .before) (f .behind) (subst (All (ClassHeld tab n ts)) (f .there) (all-stand (t .world .classes))) in
+            let own = all-there (f .before) (f .behind) (subst (FoundByName G) (f .there) (t .own)) in
+            let linked = all-there (f .before) (f .behind) (subst (λ (ks : List Class). ChildrenListed first next ks G) (f .there) l) in
             let facts = all-weaken (λ j h. beside G w stand own (f .may) j (h .0) (h .1 .0) (h .1 .1)) (all-zip (all-stand (t .world .classes)) (all-zip (t .own) c)) in
             let few : length (childRows (className k) G) ≤ 2048 = omega (arith, child-few (className k) G, t .world .few, t .world .tokens .few) in
             let free₁ = free .says (childRows (className k) G) (subst (λ (x : ℕ). Linked next x (childRows (className k) G)) (ap (λ (x : ℕ). getD first x 0) (found .2) ∙ sym ec) linked) few _
             (out .says (standing w G) kept) in
             let kept₂ = keeps-same (λ r low. ap (λ (x : ℕ). elem r (childRows (className k) G) || (not (eqb x r) && standing w G r)) (sym (found .2)) ∙ sym (standing-more w k G r facts)) free₁ in
             let closed = all-weaken (λ j h. closed-more G w stand own (f .may) j (h .0) (h .1)) (all-zip (t .own) c) in
-            let start : p ≡ k .name .start = e₁ ∙ ap (wordAt tab 1) (sym (found .2)) ∙ start-word (t .world .tokens) (rowOf k) (stand .named .token .there) ∙ stand .named .start in
+            let start : p ≡ k .name .start = e₁ ∙ ap (wordAt tab 1) (sym (found .2)) ∙ start-word (t .world .tokens) (nameRow k) (stand .named .token .there) ∙ stand .named .start in
             let later = rest .says n ts G t l (w ++ k ∷ []) closed kept₂ in
             let now = writing-next left G w more (found .1) in (
               later .0
@@ -304,37 +307,37 @@ module _ {tab tree first next : List ℕ} {i left : ℕ} {before : List ℕ} whe
 -- GATHERING
 
 -- the first of the classes of a row, and the others
-record Headed (tab : List ℕ) (n : ℕ) (ts : List Token) (k : Class) (ks : List Class) (left row : ℕ) : Type 0 where
-  here : rowOf k ≡ row
-  stands : ClassStands tab n ts k
+record FirstClass (tab : List ℕ) (n : ℕ) (ts : List Token) (k : Class) (ks : List Class) (left row : ℕ) : Type 0 where
+  here : nameRow k ≡ row
+  stands : ClassHeld tab n ts k
   rest : {next : ℕ} → next ≡ wordAt tab 6 row → (left ≡ 0 → ⊥) → ClassesAt tab n ts ks (left - 1) next
 
-headed : {tab : List ℕ} {n : ℕ} {ts : List Token} → Lexemes tab n ts → {k : Class} {ks : List Class} {left row : ℕ} → ClassesAt tab n ts (k ∷ ks) left row → Headed tab n ts k ks left row
-headed {tab} {n} {ts} lx {k} {ks} {left} {row} a = go (a .stand)
+first-class : {tab : List ℕ} {n : ℕ} {ts : List Token} → Lexemes tab n ts → {k : Class} {ks : List Class} {left row : ℕ} → ClassesAt tab n ts (k ∷ ks) left row → FirstClass tab n ts k ks left row
+first-class {tab} {n} {ts} lx {k} {ks} {left} {row} a = go (a .stand)
   where
-    go : ClassesStand tab n ts (k ∷ ks) → Headed tab n ts k ks left row
+    go : ClassesHeld tab n ts (k ∷ ks) → FirstClass tab n ts k ks left row
     go (more-classes s c₆ h) = record {
       here = a .here;
       stands = s;
       rest = λ e more. record {
-        here = sym (e ∙ ap (wordAt tab 6) (sym (a .here)) ∙ word-in tab 6 (rowOf k) (row-there lx (rowOf k) (s .named .token .there)) c₆);
+        here = sym (e ∙ ap (wordAt tab 6) (sym (a .here)) ∙ word-in tab 6 (nameRow k) (row-there lx (nameRow k) (s .named .token .there)) c₆);
         stand = h;
         few = omega (arith, a .few);
       };
     }
 
-nothing-gathered : {tab : List ℕ} {n : ℕ} {ts : List Token} {G : List Class} (tree first next : List ℕ) → Empty tree first → World tab n ts G
-    → Keeps tree (standing [] []) × Listed first next G []
+nothing-gathered : {tab : List ℕ} {n : ℕ} {ts : List Token} {G : List Class} (tree first next : List ℕ) → Empty tree first → ClassTableHeld tab n ts G
+    → Keeps tree (standing [] []) × ChildrenListed first next G []
 unfolding standing childRows
 nothing-gathered tree first next e w =
-    (keeps-same (λ r low. refl) (e .none-kept), all-weaken (λ q low. linked-end (omega (arith, e .none-listed (rowOf q) low))) (rows-there w))
+    (keeps-same (λ r low. refl) (e .none-kept), all-weaken (λ q low. linked-end (omega (arith, e .none-listed (nameRow q) low))) (rows-there w))
 
 module _ {tab : List ℕ} {left row : ℕ} {tree first next : List ℕ} where
   pub gather-none : left ≡ 0 → Gathered tab left row tree first tree first next
   gather-none z = record { says = λ e n ts G t ks a rise. go e n ts G t ks (a .few) }
     where
       go : Empty tree first → (n : ℕ) (ts : List Token) (G : List Class) → Tabled tab n ts G → (ks : List Class) → length ks ≤ left
-          → Keeps tree (standing [] ks) × Listed first next G ks
+          → Keeps tree (standing [] ks) × ChildrenListed first next G ks
       go e n ts G t [] few = nothing-gathered tree first next e (t .world)
       go e n ts G t (k ∷ ks) few = absurd (omega arith)
 
@@ -342,14 +345,14 @@ module _ {tab : List ℕ} {left row : ℕ} {tree first next : List ℕ} where
   gather-absent far = record { says = λ e n ts G t ks a rise. go e n ts G t ks a }
     where
       go : Empty tree first → (n : ℕ) (ts : List Token) (G : List Class) → Tabled tab n ts G → (ks : List Class) → ClassesAt tab n ts ks left row
-          → Keeps tree (standing [] ks) × Listed first next G ks
+          → Keeps tree (standing [] ks) × ChildrenListed first next G ks
       go e n ts G t [] a = nothing-gathered tree first next e (t .world)
       go e n ts G t (k ∷ ks) a =
-          let h = headed (t .world .tokens) a in
-          absurd (omega (arith, h .here, row-there (t .world .tokens) (rowOf k) (h .stands .named .token .there)))
+          let h = first-class (t .world .tokens) a in
+          absurd (omega (arith, h .here, row-there (t .world .tokens) (nameRow k) (h .stands .named .token .there)))
 
 pub link-row : {parent row : ℕ} {first next : List ℕ} → parent < length first → row < length next → {f : ℕ} → f ≡ getD first parent 0 → {next′ first′ : List ℕ}
-    → next′ ≡ set next row f → first′ ≡ set first parent row → Joined parent row first next first′ next′
+    → next′ ≡ set next row f → first′ ≡ set first parent row → ChildJoined parent row first next first′ next′
 link-row {row = row} {next = next} p q e s h = record { is-parent = p; is-row = q; head = h; link = s ∙ ap (set next row) e }
 
 -- a link from a row that is not in a list leaves the list
@@ -358,7 +361,7 @@ linked-kept i v h (linked-end far) = linked-end far
 linked-kept {next} i v (all-cons other h) (linked-more {row = row} near e l) = linked-more near (getD-set-other next i row v 0 other ∙ e) (linked-kept i v h l)
 
 -- the rows of later classes are other rows
-child-later : (c : List ℕ) (row : ℕ) (ks : List Class) → All (λ (j : Class). row < rowOf j) ks → All (λ (r : ℕ). r ≡ row → ⊥) (childRows c ks)
+child-later : (c : List ℕ) (row : ℕ) (ks : List Class) → All (λ (j : Class). row < nameRow j) ks → All (λ (r : ℕ). r ≡ row → ⊥) (childRows c ks)
 unfolding childRows
 child-later c row [] all-nil = all-nil
 child-later c row (k ∷ ks) (all-cons l h) =
@@ -368,14 +371,14 @@ child-not : (c : List ℕ) (k : Class) (ks : List Class) → isChild c k ≡ fal
 unfolding childRows
 child-not c k ks e = rw e
 
-child-is : (c : List ℕ) (k : Class) (ks : List Class) → isChild c k ≡ true → childRows c (k ∷ ks) ≡ rowOf k ∷ childRows c ks
+child-is : (c : List ℕ) (k : Class) (ks : List Class) → isChild c k ≡ true → childRows c (k ∷ ks) ≡ nameRow k ∷ childRows c ks
 unfolding childRows
 child-is c k ks e = rw e
 
 -- a class may stand first just where it has no parent
-standing-root : (k : Class) (ks : List Class) (r : ℕ) → k .parent ≡ none → standing [] (k ∷ ks) r ≡ (eqb (rowOf k) r || standing [] ks r)
+standing-root : (k : Class) (ks : List Class) (r : ℕ) → k .parent ≡ none → standing [] (k ∷ ks) r ≡ (eqb (nameRow k) r || standing [] ks r)
 unfolding standing mayStand among
-standing-root k ks r e = rw e (ap (λ (b : Bool). b || standing [] ks r) (and-yes (eqb (rowOf k) r)))
+standing-root k ks r e = rw e (ap (λ (b : Bool). b || standing [] ks r) (and-yes (eqb (nameRow k) r)))
   where
     and-yes : (b : Bool) → (b && true) ≡ b
     and-yes true = refl
@@ -383,14 +386,14 @@ standing-root k ks r e = rw e (ap (λ (b : Bool). b || standing [] ks r) (and-ye
 
 standing-child : (k : Class) (ks : List Class) (r : ℕ) {p : Name} → k .parent ≡ some p → standing [] (k ∷ ks) r ≡ standing [] ks r
 unfolding standing mayStand among
-standing-child k ks r e = rw (e, and-false (eqb (rowOf k) r))
+standing-child k ks r e = rw (e, and-false (eqb (nameRow k) r))
 
 module _ {ts : List Token} {c : ℕ} (few : length ts ≤ 2048) where
-  no-parent : (o : Option Name) → Numbers ts (parentName o) c → absent ≤ c → o ≡ none
+  no-parent : (o : Option Name) → MaybeNumber ts (parentName o) c → absent ≤ c → o ≡ none
   no-parent none h far = refl
   no-parent (some p) (a-name s) far = absurd (omega (arith, s .there))
 
-  a-parent : (o : Option Name) → Numbers ts (parentName o) c → c < absent → (p : Name) × (o ≡ some p)
+  a-parent : (o : Option Name) → MaybeNumber ts (parentName o) c → c < absent → (p : Name) × (o ≡ some p)
   a-parent none (no-name far) near = absurd (omega arith)
   a-parent (some p) h near = (p, refl)
 
@@ -398,15 +401,15 @@ module _ {tab : List ℕ} {left row : ℕ} (more : left ≡ 0 → ⊥) (near : r
     (g : Gathered tab (left - 1) rest tree₀ first₀ tree first next) {c : ℕ} (up : Above tab row c) where
   -- the class of the row, and what was gathered of the later ones
   record Later (n : ℕ) (ts : List Token) (G : List Class) (k : Class) (ks : List Class) : Type 0 where
-    here : rowOf k ≡ row
+    here : nameRow k ≡ row
     kept : Keeps tree (standing [] ks)
-    listed : Listed first next G ks
-    above : Numbers ts (parentName (k .parent)) c
+    listed : ChildrenListed first next G ks
+    above : MaybeNumber ts (parentName (k .parent)) c
     few : length ts ≤ 2048
 
-  later : Empty tree₀ first₀ → {n : ℕ} {ts : List Token} {G : List Class} → Tabled tab n ts G → {k : Class} {ks : List Class} → ClassesAt tab n ts (k ∷ ks) left row → Rising ks → Later n ts G k ks
+  later : Empty tree₀ first₀ → {n : ℕ} {ts : List Token} {G : List Class} → Tabled tab n ts G → {k : Class} {ks : List Class} → ClassesAt tab n ts (k ∷ ks) left row → RowsRise ks → Later n ts G k ks
   later e {n} {ts} {G} t {k} {ks} a rise =
-      let h = headed (t .world .tokens) a in
+      let h = first-class (t .world .tokens) a in
       let q = g .says e n ts G t ks (h .rest e₆ more) rise in
       record {
         here = h .here;
@@ -419,8 +422,8 @@ module _ {tab : List ℕ} {left row : ℕ} (more : left ≡ 0 → ⊥) (near : r
   pub gather-root : absent ≤ c → {tree′ : List ℕ} → Entered row tree tree′ → Gathered tab left row tree₀ first₀ tree′ first next
   gather-root far {tree′} en = record { says = λ e n ts G t ks a rise. go e n ts G t ks a rise }
     where
-      go : Empty tree₀ first₀ → (n : ℕ) (ts : List Token) (G : List Class) → Tabled tab n ts G → (ks : List Class) → ClassesAt tab n ts ks left row → Rising ks
-          → Keeps tree′ (standing [] ks) × Listed first next G ks
+      go : Empty tree₀ first₀ → (n : ℕ) (ts : List Token) (G : List Class) → Tabled tab n ts G → (ks : List Class) → ClassesAt tab n ts ks left row → RowsRise ks
+          → Keeps tree′ (standing [] ks) × ChildrenListed first next G ks
       go e n ts G t [] a rise = absurd (omega (arith, a .here))
       go e n ts G t (k ∷ ks) a (rising-more l s) =
           let h = later e t a s in
@@ -434,13 +437,13 @@ module _ {tab : List ℕ} {left row : ℕ} (more : left ≡ 0 → ⊥) (near : r
     pub gather-unknown : absent ≤ parent → Gathered tab left row tree₀ first₀ tree first next
     gather-unknown far = record { says = λ e n ts G t ks a rise. go e n ts G t ks a rise }
       where
-        go : Empty tree₀ first₀ → (n : ℕ) (ts : List Token) (G : List Class) → Tabled tab n ts G → (ks : List Class) → ClassesAt tab n ts ks left row → Rising ks
-            → Keeps tree (standing [] ks) × Listed first next G ks
+        go : Empty tree₀ first₀ → (n : ℕ) (ts : List Token) (G : List Class) → Tabled tab n ts G → (ks : List Class) → ClassesAt tab n ts ks left row → RowsRise ks
+            → Keeps tree (standing [] ks) × ChildrenListed first next G ks
         go e n ts G t [] a rise = absurd (omega (arith, a .here))
         go e n ts G t (k ∷ ks) a (rising-more l s) =
             let h = later e t a s in
             let p = a-parent (h .few) (k .parent) (h .above) low in
-            let unknown = nobody (p .0) (class-at (t .world) (some (p .0 .text)) c parent (subst (λ (o : Option Name). Numbers ts (parentName o) c) (p .1) (h .above)) e₇) in
+            let unknown = nobody (p .0) (class-at (t .world) (some (p .0 .text)) c parent (subst (λ (o : Option Name). MaybeNumber ts (parentName o) c) (p .1) (h .above)) e₇) in
             let other : (j : Class) → classNamed G (className j) ≡ some j → isChild (className j) k ≡ false = λ j own.
             ap (λ (o : Option Name). option o false λ q. same (className j) (q .text)) (p .1)
             ∙ apart-same (className j) (p .0 .text) (λ z. none-some unknown (ap (classNamed G) (sym z) ∙ own)) in (
@@ -452,36 +455,36 @@ module _ {tab : List ℕ} {left row : ℕ} (more : left ≡ 0 → ⊥) (near : r
             nobody p (no-class e far) = e
             nobody p (a-class q e at near s sp) = absurd (omega arith)
 
-    pub gather-child : parent < absent → {first′ next′ : List ℕ} → Joined parent row first next first′ next′ → Gathered tab left row tree₀ first₀ tree first′ next′
+    pub gather-child : parent < absent → {first′ next′ : List ℕ} → ChildJoined parent row first next first′ next′ → Gathered tab left row tree₀ first₀ tree first′ next′
     gather-child here {first′} {next′} put = record { says = λ e n ts G t ks a rise. go e n ts G t ks a rise }
       where
-        go : Empty tree₀ first₀ → (n : ℕ) (ts : List Token) (G : List Class) → Tabled tab n ts G → (ks : List Class) → ClassesAt tab n ts ks left row → Rising ks
-            → Keeps tree (standing [] ks) × Listed first′ next′ G ks
+        go : Empty tree₀ first₀ → (n : ℕ) (ts : List Token) (G : List Class) → Tabled tab n ts G → (ks : List Class) → ClassesAt tab n ts ks left row → RowsRise ks
+            → Keeps tree (standing [] ks) × ChildrenListed first′ next′ G ks
         go e n ts G t [] a rise = absurd (omega (arith, a .here))
         go e n ts G t (k ∷ ks) a (rising-more l s) =
             let h = later e t a s in
             let p = a-parent (h .few) (k .parent) (h .above) low in
-            let at = class-at (t .world) (some (p .0 .text)) c parent (subst (λ (o : Option Name). Numbers ts (parentName o) c) (p .1) (h .above)) e₇ in (
+            let at = class-at (t .world) (some (p .0 .text)) c parent (subst (λ (o : Option Name). MaybeNumber ts (parentName o) c) (p .1) (h .above)) e₇ in (
               keeps-same (λ r here. sym (standing-child k ks r (p .1))) (h .kept),
               all-weaken (λ j x. entry j (x .0) (x .1 .0) (x .1 .1) (h .here) (p .0) (p .1) at) (all-zip (all-stand (t .world .classes)) (all-zip (t .own) (h .listed))),
             )
           where
-            entry : (j : Class) → ClassStands tab n ts j → classNamed G (className j) ≡ some j → Linked next (getD first (rowOf j) 0) (childRows (className j) ks) → rowOf k ≡ row
-                → (p : Name) → k .parent ≡ some p → ClassAt tab n ts G (some (p .text)) c parent → Linked next′ (getD first′ (rowOf j) 0) (childRows (className j) (k ∷ ks))
+            entry : (j : Class) → ClassHeld tab n ts j → classNamed G (className j) ≡ some j → Linked next (getD first (nameRow j) 0) (childRows (className j) ks) → nameRow k ≡ row
+                → (p : Name) → k .parent ≡ some p → ClassAt tab n ts G (some (p .text)) c parent → Linked next′ (getD first′ (nameRow j) 0) (childRows (className j) (k ∷ ks))
             entry j stands own old is p e (no-class nobody far) = absurd (omega arith)
-            entry j stands own old is p e (a-class q found at near′ s sp) = rw (put .link, put .head) (by (ℕ-discrete (rowOf j) parent))
+            entry j stands own old is p e (a-class q found at near′ s sp) = rw (put .link, put .head) (by (ℕ-discrete (nameRow j) parent))
               where
-                by : Dec (rowOf j ≡ parent) → Linked (set next row (getD first parent 0)) (getD (set first parent row) (rowOf j) 0) (childRows (className j) (k ∷ ks))
+                by : Dec (nameRow j ≡ parent) → Linked (set next row (getD first parent 0)) (getD (set first parent row) (nameRow j) 0) (childRows (className j) (k ∷ ks))
                 by (yes z) =
                     let name : className j ≡ p .text = one-text stands s (z ∙ sym at) ∙ class-name G (p .text) found in
                     let child : isChild (className j) k ≡ true = ap (λ (o : Option Name). option o false λ q. same (className j) (q .text)) e ∙ same-of name in
-                    let first-is : getD (set first parent row) (rowOf j) 0 ≡ rowOf k = ap (λ (i : ℕ). getD (set first parent row) i 0) z ∙ getD-set-same first parent row 0 (put .is-parent) ∙ sym is in
-                    let link : getD (set next row (getD first parent 0)) (rowOf k) 0 ≡ getD first (rowOf j) 0 =
+                    let first-is : getD (set first parent row) (nameRow j) 0 ≡ nameRow k = ap (λ (i : ℕ). getD (set first parent row) i 0) z ∙ getD-set-same first parent row 0 (put .is-parent) ∙ sym is in
+                    let link : getD (set next row (getD first parent 0)) (nameRow k) 0 ≡ getD first (nameRow j) 0 =
                     ap (λ (i : ℕ). getD (set next row (getD first parent 0)) i 0) is ∙ getD-set-same next row (getD first parent 0) 0 (put .is-row) ∙ ap (λ (i : ℕ). getD first i 0) (sym z) in
-                    rw (child-is (className j) k ks child, first-is) (linked-more {row = rowOf k} (omega (arith, is)) link (linked-kept row (getD first parent 0) (child-later (className j) row ks (subst (λ (i : ℕ). All (λ (j : Class). i < rowOf j) ks) is l)) old))
+                    rw (child-is (className j) k ks child, first-is) (linked-more {row = nameRow k} (omega (arith, is)) link (linked-kept row (getD first parent 0) (child-later (className j) row ks (subst (λ (i : ℕ). All (λ (j : Class). i < nameRow j) ks) is l)) old))
                 by (no other) =
                     let child : isChild (className j) k ≡ false =
                     ap (λ (o : Option Name). option o false λ q. same (className j) (q .text)) e
-                    ∙ apart-same (className j) (p .text) (λ z. other (ap rowOf (one-class G own found z) ∙ at)) in
-                    rw (child-not (className j) k ks child, getD-set-other first parent (rowOf j) row 0 other)
-                    (linked-kept row (getD first parent 0) (child-later (className j) row ks (subst (λ (i : ℕ). All (λ (j : Class). i < rowOf j) ks) is l)) old)
+                    ∙ apart-same (className j) (p .text) (λ z. other (ap nameRow (one-class G own found z) ∙ at)) in
+                    rw (child-not (className j) k ks child, getD-set-other first parent (nameRow j) row 0 other)
+                    (linked-kept row (getD first parent 0) (child-later (className j) row ks (subst (λ (i : ℕ). All (λ (j : Class). i < nameRow j) ks) is l)) old)

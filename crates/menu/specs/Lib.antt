@@ -1,5 +1,6 @@
 -- The operation Menu as a definition, theorems on its order, and what its functions ensure.
 pub mod Menu
+pub mod InOrder
 pub mod Order
-pub mod Least
-pub mod MenuPost
+pub mod contracts
+pub mod laws

@@ -11,8 +11,8 @@ use Rattle.base.specs.Outcome.{Outcome, accepted, refused}
 use Rattle.base.specs.Codes.{tableTooShort, tableLeast, stripTooShort}
 use Rattle.parser.specs.Tree.{Class, Program}
 use Rattle.parser.specs.Read.{tableAfter}
-use Rattle.checker.specs.ClassTable.{among}
-use Rattle.checker.specs.Check.{CheckAnswer, refusal, checkAnswer, checking}
+use Rattle.typesystem.specs.ClassTable.{among}
+use Rattle.typesystem.specs.Check.{CheckAnswer, checkRefusal, checkAnswer, checking}
 
 -- THE ORDER: again and again, the unwritten class earliest in the lesson whose parent is already written or absent
 
@@ -44,13 +44,13 @@ pub record Listing : Type 0 where
 
 abbrev pub listing : Outcome Program → (before : List ℕ) → Listing
 listing (accepted p) before =
-    if ltb (length before) (length (p .classes)) then (λ _. record { answer = refusal stripTooShort 0; strip = before }) else λ _.
+    if ltb (length before) (length (p .classes)) then (λ _. record { answer = checkRefusal stripTooShort 0; strip = before }) else λ _.
     record { answer = checkAnswer (accepted p); strip = positions (menuOrder (p .classes)) ++ drop (length (p .classes)) before }
-listing (refused n p) before = record { answer = refusal n p; strip = before }
+listing (refused n p) before = record { answer = checkRefusal n p; strip = before }
 
 unfoldable pub menu : List ℕ → (table : ℕ) → (before : List ℕ) → Listing
 menu s table before =
-    if ltb table tableLeast then (λ _. record { answer = refusal tableTooShort 0; strip = before }) else λ _. listing (checking s) before
+    if ltb table tableLeast then (λ _. record { answer = checkRefusal tableTooShort 0; strip = before }) else λ _. listing (checking s) before
 
 -- the answer, the work table and the strip that are right for a source and what the work table and the strip held before
 pub record Menus (s table before : List ℕ) (a : CheckAnswer) (tableExit after : List ℕ) : Type 0 where

@@ -1,10 +1,10 @@
 // A set of rows with its least at hand: a tree of 4,096 words, in which each node has the lesser of the two words below it. Node 1 is the top, node v stands
 // over 2 * v and 2 * v + 1, and leaf 2048 + r has the row r where that is in the set, else ABSENT.
-use lookup::rows::ABSENT;
+use parser::columns::ABSENT;
 ghost use mathlib.Core.Path.{_≡_};
 ghost use Prim.Native.Nat.{_<_, min};
 ghost use lib.ListN.{length, getD, set};
-ghost use Rattle.menu.specs.Least.{Mended, Entered, Removed};
+ghost use Rattle.menu.specs.contracts.Least.{Mended, Entered, Removed};
 
 // The word in a place, 0 past the end.
 pub fn cell(words: &[u32], i: usize) -> usize

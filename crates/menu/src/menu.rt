@@ -1,27 +1,29 @@
 // The operation Menu of document 01: the positions of the names of a lesson's classes.
 use crate::order::gather;
 use crate::order::write;
+use base::codes;
 use base::fill::zero_words;
 use lookup::rows::word;
+use parser::columns;
 use typecheck::check::CheckAnswer;
-use typecheck::check::Found;
+use typecheck::check::Finding;
 use typecheck::check::find;
 ghost use mathlib.Core.Path.{_≡_};
 ghost use Prim.Native.Nat.{_≤_};
 ghost use lib.ListN.{length};
-ghost use Rattle.typecheck.specs.CheckPost.{answerOf};
-ghost use Rattle.checker.specs.Check.{checking};
+ghost use Rattle.typecheck.specs.contracts.CheckPost.{checkAnswerOf};
+ghost use Rattle.typesystem.specs.Check.{checking};
 ghost use Rattle.menu.specs.Menu.{listing, Menus};
-ghost use Rattle.menu.specs.MenuPost.{listed, Fills};
+ghost use Rattle.menu.specs.contracts.MenuPost.{listingOf, FillsStrip};
 
 // Fills the strip, where it is long enough.
 fn fill(table: &[u32], strip: &mut [u32], classes: usize) -> CheckAnswer
     requires { ⌜ 16384 ≤ length (now table) ⌝ }
-    ensures { λ r. ⌜ Fills (now (table .entry)) classes (now (strip .entry)) (listed r (now (strip .exit))) ⌝ }
+    ensures { λ r. ⌜ FillsStrip (now (table .entry)) classes (now (strip .entry)) (listingOf r (now (strip .exit))) ⌝ }
 {
     if strip.len() < classes {
         return CheckAnswer {
-            number: 4,
+            number: codes::STRIP_TOO_SHORT,
             position: 0,
             classes: 0,
         };
@@ -36,19 +38,19 @@ fn fill(table: &[u32], strip: &mut [u32], classes: usize) -> CheckAnswer
         &mut first,
         &mut next,
         classes,
-        word(table, 6, 0),
+        word(table, columns::NEXT, columns::CLASS_LIST),
     );
     let unwritten = write(table, &mut tree, &first, &next, strip, 0, classes);
     // Never: where each chain ends, each class is written.
     if unwritten != 0 {
         return CheckAnswer {
-            number: 22,
+            number: codes::CHAIN_ENDLESS,
             position: 0,
             classes: 0,
         };
     }
     CheckAnswer {
-        number: 0,
+        number: codes::SUCCESS,
         position: 0,
         classes,
     }
@@ -57,12 +59,12 @@ fn fill(table: &[u32], strip: &mut [u32], classes: usize) -> CheckAnswer
 // What Menu answers, and the strip; the table is left filled.
 fn answer(source: &[u8], table: &mut [u32], strip: &mut [u32]) -> CheckAnswer
     requires { ⌜ 16384 ≤ length (now table) ⌝ }
-    ensures { λ r. ⌜ listed r (now (strip .exit)) ≡ listing (checking (now (source .entry))) (now (strip .entry)) ⌝ }
+    ensures { λ r. ⌜ listingOf r (now (strip .exit)) ≡ listing (checking (now (source .entry))) (now (strip .entry)) ⌝ }
 {
     let f = find(source, table);
     match f {
-        Found::Program(_tokens, classes) => fill(table, strip, classes),
-        Found::Refused(number, position) => CheckAnswer {
+        Finding::Program(_tokens, classes) => fill(table, strip, classes),
+        Finding::Refused(number, position) => CheckAnswer {
             number,
             position,
             classes: 0,
@@ -72,11 +74,11 @@ fn answer(source: &[u8], table: &mut [u32], strip: &mut [u32]) -> CheckAnswer
 
 // The operation Menu.
 pub fn menu(source: &[u8], table: &mut [u32], strip: &mut [u32]) -> CheckAnswer
-    ensures { λ r. ⌜ Menus (now (source .entry)) (now (table .entry)) (now (strip .entry)) (answerOf r) (now (table .exit)) (now (strip .exit)) ⌝ }
+    ensures { λ r. ⌜ Menus (now (source .entry)) (now (table .entry)) (now (strip .entry)) (checkAnswerOf r) (now (table .exit)) (now (strip .exit)) ⌝ }
 {
-    if table.len() < 16384 {
+    if table.len() < codes::TABLE_LEAST {
         return CheckAnswer {
-            number: 1,
+            number: codes::TABLE_TOO_SHORT,
             position: 0,
             classes: 0,
         };

@@ -5,17 +5,18 @@ use crate::least::enter;
 use crate::least::put;
 use crate::least::remove;
 use lookup::chain::above;
-use lookup::rows::ABSENT;
 use lookup::rows::word;
+use parser::columns;
+use parser::columns::ABSENT;
 ghost use mathlib.Core.Path.{_≡_};
 ghost use Prim.Native.Nat.{_+_, _≤_, _<_};
 ghost use lib.ListN.{length};
-ghost use Rattle.menu.specs.MenuPost.{Joined, Gathered, Freed, Written};
+ghost use Rattle.menu.specs.contracts.MenuPost.{ChildJoined, Gathered, Freed, Written};
 
 // A class joins its parent's children, before the others.
 fn link(first: &mut [u32], next: &mut [u32], parent: usize, row: usize)
     requires { ⌜ (parent < length (now first)) × (row < length (now next)) × (row < 4294967296) ⌝ }
-    ensures { λ _. ⌜ Joined parent row (now (first .entry)) (now (next .entry)) (now (first .exit)) (now (next .exit)) ⌝ }
+    ensures { λ _. ⌜ ChildJoined parent row (now (first .entry)) (now (next .entry)) (now (first .exit)) (now (next .exit)) ⌝ }
 {
     put(next, row, cell(first, parent));
     put(first, parent, row);
@@ -39,13 +40,20 @@ pub fn gather(
     if ABSENT <= row {
         return;
     }
-    gather(table, tree, first, next, left - 1, word(table, 6, row));
+    gather(
+        table,
+        tree,
+        first,
+        next,
+        left - 1,
+        word(table, columns::NEXT, row),
+    );
     let c = above(table, row);
     if ABSENT <= c {
         enter(tree, row);
         return;
     }
-    let parent = word(table, 7, c);
+    let parent = word(table, columns::CLASS, c);
     if ABSENT <= parent {
         return;
     }
@@ -87,7 +95,7 @@ pub fn write(
     if ABSENT <= row {
         return left;
     }
-    put(strip, i, word(table, 1, row));
+    put(strip, i, word(table, columns::START, row));
     remove(tree, row);
     free(tree, next, 2048, cell(first, row));
     write(table, tree, first, next, strip, i + 1, left - 1)

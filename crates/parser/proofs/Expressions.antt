@@ -7,7 +7,7 @@ use mathlib.Core.Bool.{Bool, true, false}
 use mathlib.Core.Option.{Option, none, some}
 use native.Mathlib.Omega.{arith}
 use Rattle.base.specs.Choice.{option}
-use Rattle.base.specs.Table.{col}
+use Rattle.base.specs.contracts.Table.{col}
 use Rattle.lexer.specs.Tokens.{Token}
 use Rattle.parser.specs.declared.answer.Answer.{Answer}
 use Rattle.parser.specs.declared.answer.Answer.the-variants.{At, Bad}
@@ -15,8 +15,8 @@ use Rattle.parser.specs.Tree.{Place, Operator, Sort, Sort.expression, Pa
 use Rattle.parser.specs.Tree.{Part.negation, Part.binary}
 use Rattle.parser.specs.Stream.{startAt, placeAt, Level, Level.conjunction, Level.comparison, Level.sum, Level.product, operatorOf}
 use Rattle.parser.specs.Parse.{Parsed, bind, Mode, operation, operations, operand, unary, postfix, primary, suffixes, step}
-use Rattle.parser.specs.Layout.{absent, rowOf, node, given, store}
-use Rattle.parser.specs.Post.{kindIn, TokensIn, met-ok, ModePost, RestPost, LevelsPost, Rest, restMode, moreOperations, moreSuffixes, levelAt, isOperator, startsArray, rank, fuel}
+use Rattle.parser.specs.contracts.Layout.{absent, rowOf, node, given, store}
+use Rattle.parser.specs.contracts.Post.{kindInTable, TokensIn, met-ok, ModePost, RestPost, LevelsPost, Rest, restMode, moreOperations, moreSuffixes, levelAt, isOperator, startsArray, rank, fuel}
 use Rattle.parser.proofs.Laws.{there, there-by, tokens-kept, given-node, kind-of, is, is-not, at-result, bind-ok, bind-bad, stepped, within-ok, within-more}
 
 -- a node as the code writes it
@@ -84,7 +84,7 @@ zero-no-operator sum = refl
 zero-no-operator product = refl
 
 -- an operator's token is there
-pub operator-there : (T : List ℕ) (n i k level : ℕ) {b : Bool} → k ≡ kindIn T n i → b ≡ isOperator level k → b ≡ true → i < n
+pub operator-there : (T : List ℕ) (n i k level : ℕ) {b : Bool} → k ≡ kindInTable T n i → b ≡ isOperator level k → b ≡ true → i < n
 unfolding isOperator
 operator-there T n i k level e eb t = there-by (isOperator level) (zero-no-operator (levelAt level)) T n i k e (sym eb ∙ t)
 
@@ -173,7 +173,7 @@ is-binary : (p : Place) (o : Operator) (l r : Expression) (t : List ℕ) → sto
 unfolding store
 is-binary p o l r t = refl
 
-module _ (level : ℕ) {n first left i k : ℕ} {T : List ℕ} {b : Bool} (ek : k ≡ kindIn T n i) (eb : b ≡ isOperator level k) where
+module _ (level : ℕ) {n first left i k : ℕ} {T : List ℕ} {b : Bool} (ek : k ≡ kindInTable T n i) (eb : b ≡ isOperator level k) where
   pub operations-ok : {x j : ℕ} {T₁ T₂ T₃ : List ℕ} {r₁ r : Answer} → n ≤ 2048 → first < n → b ≡ true
       → ModePost (operand (levelAt level)) n n (i + 1) T r₁ T₁ → r₁ ≡ At x j → T₂ ≡ node T₁ i (col T₁ 1 first) left x
       → RestPost (moreOperations (levelAt level) first) n i j T₂ r T₃ → RestPost (moreOperations (levelAt level) first) n left i T r T₃
@@ -223,7 +223,7 @@ is-negation : (p : Place) (e : Expression) (t : List ℕ) → store (negation p 
 unfolding store
 is-negation p e t = refl
 
-module _ {n i k : ℕ} {T : List ℕ} (ek : k ≡ kindIn T n i) where
+module _ {n i k : ℕ} {T : List ℕ} (ek : k ≡ kindInTable T n i) where
   pub negation-ok : {x j : ℕ} {T₁ T₂ : List ℕ} {r₁ : Answer} → n ≤ 2048 → k ≡ 29 → ModePost unary n n (i + 1) T r₁ T₁ → r₁ ≡ At x j
       → T₂ ≡ node T₁ i (col T₁ 1 i) x 2048 → ModePost unary n n i T (At i j) T₂
   unfolding step

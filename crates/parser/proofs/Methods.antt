@@ -6,17 +6,17 @@ use mathlib.Core.List.{List, [], _∷_}
 use mathlib.Core.Logic.{_≢_}
 use mathlib.Core.Bool.{Bool, true, false}
 use native.Mathlib.Omega.{arith}
-use Rattle.base.specs.Table.{put}
+use Rattle.base.specs.contracts.Table.{put}
 use Rattle.lexer.specs.Kinds.{isName}
 use Rattle.lexer.specs.Tokens.{Token}
 use Rattle.parser.specs.declared.answer.Answer.{Answer}
 use Rattle.parser.specs.declared.answer.Answer.the-variants.{At, Bad}
 use Rattle.parser.specs.Tree.{Sort.statements, Part, Expression, Variable, Method, Class, Program}
 use Rattle.parser.specs.Stream.{nameAt}
-use Rattle.parser.specs.Parse.{Parsed, ok, bad, bind, expectAll, operation, aStatement, run, methodEnd, methodFrom, methodsFrom, parentFrom, classFrom, classesFrom, mainHead, mainEnd, programFrom}
-use Rattle.parser.specs.Layout.{given, rowOf, store, headOf, rowVariables, storeVariable, storeVariables, methodRow, storeMethod, rowMethods, storeMethods, rowParent, classRow, storeClass, rowClasses, storeClasses, storeProgram}
-use Rattle.parser.specs.Post.{kindIn, met-ok, met-bad, ModePost, ListPost, levelAt, matchedIn}
-use Rattle.parser.specs.DeclarationPost.{aVariable, variableList, formals, aMethod, methodList, aParent, aClass, classList, DeclPost, LocalsPost, BodyPost, ReturnedPost, MembersPost, ClassMethodsPost, ProgramPost, EndsThere}
+use Rattle.parser.specs.Parse.{Parsed, ok, bad, bind, expectAll, operation, aStatement, parseAs, methodEnd, methodFrom, methodsFrom, parentFrom, classFrom, classesFrom, mainHead, mainEnd, programFrom}
+use Rattle.parser.specs.contracts.Layout.{given, rowOf, store, headOf, rowVariables, storeVariable, storeVariables, methodRow, storeMethod, rowMethods, storeMethods, rowParent, classRow, storeClass, rowClasses, storeClasses, storeProgram}
+use Rattle.parser.specs.contracts.Post.{kindInTable, met-ok, met-bad, ModePost, ListPost, levelAt, matchedIn}
+use Rattle.parser.specs.contracts.DeclarationPost.{aVariable, variableList, formals, aMethod, methodList, aParent, aClass, classList, DeclPost, LocalsPost, BodyPost, ReturnedPost, MembersPost, ClassMethodsPost, ProgramPost, EndsThere}
 use Rattle.parser.proofs.Laws.{there, tokens-kept, given-put, is, is-not, passes, at-result, bind-ok, bind-bad, at-suc, within-ok, within-more, plus-two}
 use Rattle.parser.proofs.Postfix.{name-there}
 use Rattle.parser.proofs.Matched.{matched-there, all-matched, not-matched}
@@ -88,7 +88,7 @@ module _ {n name first second j : ℕ} {T T₁ : List ℕ} {r₁ : Answer} (p : 
   pub body-bad : {y : ℕ} → r₁ ≡ Bad y → BodyPost n name first second j T (Bad y) T₁
   body-bad e = record { kept = p .kept; within = tt; says = λ hd ps ls base _ _ _ _ ts h f enough. bind-bad _ e (p .says ts h f (omega arith)) }
 
-  module _ {x m k : ℕ} (few : n ≤ 2048) (e : r₁ ≡ At x m) (ek : k ≡ kindIn T₁ n m) where
+  module _ {x m k : ℕ} (few : n ≤ 2048) (e : r₁ ≡ At x m) (ek : k ≡ kindInTable T₁ n m) where
     pub body-return : k ≢ 16 → BodyPost n name first second j T (Bad m) T₁
     body-return z =
         record {
@@ -109,7 +109,7 @@ module _ {n name first second j : ℕ} {T T₁ : List ℕ} {r₁ : Answer} (p : 
         }
 
 -- AFTER THE PARAMETERS
-module _ {n name first j k : ℕ} {T : List ℕ} (ek : k ≡ kindIn T n j) where
+module _ {n name first j k : ℕ} {T : List ℕ} (ek : k ≡ kindInTable T n j) where
   pub locals-open : k ≢ 38 → LocalsPost n name first j T (Bad j) T
   locals-open z = record { kept = refl; within = tt; says = λ hd ps base _ _ _ ts h f enough. rw (is-not h j ek z) met-bad }
 
@@ -136,14 +136,14 @@ module _ {n name first j k : ℕ} {T : List ℕ} (ek : k ≡ kindIn T n j) where
 pub ends-there : {x j : ℕ} {r : Answer} → r ≡ At x j → EndsThere r → x + 1 ≡ j
 ends-there e h = subst EndsThere e h
 
-module _ {n i : ℕ} {T T₁ : List ℕ} {r₁ : Answer} (z : kindIn T n i ≡ 15) (p : DeclPost aVariable n (i + 1) T r₁ T₁) where
+module _ {n i : ℕ} {T T₁ : List ℕ} {r₁ : Answer} (z : kindInTable T n i ≡ 15) (p : DeclPost aVariable n (i + 1) T r₁ T₁) where
   pub method-bad : {y : ℕ} → r₁ ≡ Bad y → DeclPost aMethod n i T (Bad y) T₁
   unfolding methodFrom
   method-bad e =
       let l = there T n i _ 15 refl z (omega arith) in
       record { kept = p .kept; within = tt; says = λ ts h f enough. rw (is h i refl z) (bind-bad _ e (p .says ts h f (omega arith))) }
 
-  module _ {x j k : ℕ} (few : n ≤ 2048) (e : r₁ ≡ At x j) (ek : k ≡ kindIn T₁ n j) where
+  module _ {x j k : ℕ} (few : n ≤ 2048) (e : r₁ ≡ At x j) (ek : k ≡ kindInTable T₁ n j) where
     pub method-open : k ≢ 34 → DeclPost aMethod n i T (Bad j) T₁
     unfolding methodFrom
     method-open z′ =
@@ -191,7 +191,7 @@ is-no-method : (t : List ℕ) → storeMethods [] t ≡ t
 unfolding storeMethods
 is-no-method t = refl
 
-module _ {n i k : ℕ} {T : List ℕ} (ek : k ≡ kindIn T n i) where
+module _ {n i k : ℕ} {T : List ℕ} (ek : k ≡ kindInTable T n i) where
   pub methods-end : i ≤ n → k ≢ 15 → DeclPost methodList n i T (At 2048 i) T
   unfolding methodsFrom
   methods-end le z =
@@ -237,12 +237,12 @@ module _ {n i k : ℕ} {T : List ℕ} (ek : k ≡ kindIn T n i) where
           }
 
 -- CLASSES
-module _ {n i k : ℕ} {T : List ℕ} (ek : k ≡ kindIn T n i) where
+module _ {n i k : ℕ} {T : List ℕ} (ek : k ≡ kindInTable T n i) where
   pub parent-none : i ≤ n → k ≢ 8 → DeclPost aParent n i T (At 2048 i) T
   unfolding parentFrom
   parent-none le z = record { kept = refl; within = (omega arith, le, omega arith); says = λ ts h f enough. rw (is-not h i ek z) (met-ok refl refl) }
 
-  module _ {k₁ : ℕ} {b : Bool} (z : k ≡ 8) (ek₁ : k₁ ≡ kindIn T n (i + 1)) (eb : b ≡ isName k₁) where
+  module _ {k₁ : ℕ} {b : Bool} (z : k ≡ 8) (ek₁ : k₁ ≡ kindInTable T n (i + 1)) (eb : b ≡ isName k₁) where
     pub parent-some : n ≤ 2048 → b ≡ true → DeclPost aParent n i T (At (i + 1) (i + 2)) T
     unfolding parentFrom
     parent-some few t =
@@ -261,7 +261,7 @@ module _ {n name above first j : ℕ} {T T₁ : List ℕ} {r₁ : Answer} (p : D
   pub class-methods-bad : {y : ℕ} → r₁ ≡ Bad y → ClassMethodsPost n name above first j T (Bad y) T₁
   class-methods-bad e = record { kept = p .kept; within = tt; says = λ q fs base _ _ _ ts h f enough. bind-bad _ e (p .says ts h f (omega arith)) }
 
-  module _ {x m k : ℕ} (few : n ≤ 2048) (e : r₁ ≡ At x m) (ek : k ≡ kindIn T₁ n m) where
+  module _ {x m k : ℕ} (few : n ≤ 2048) (e : r₁ ≡ At x m) (ek : k ≡ kindInTable T₁ n m) where
     pub class-close : k ≢ 39 → ClassMethodsPost n name above first j T (Bad m) T₁
     class-close z =
         record {
@@ -282,7 +282,7 @@ module _ {n name above first j : ℕ} {T T₁ : List ℕ} {r₁ : Answer} (p : D
               (eT ∙ cc (is-class (record { name = nameAt ts name; parent = q; fields = fs; methods = a }) base))));
         }
 
-module _ {n name above j k : ℕ} {T : List ℕ} (ek : k ≡ kindIn T n j) where
+module _ {n name above j k : ℕ} {T : List ℕ} (ek : k ≡ kindInTable T n j) where
   pub members-open : k ≢ 38 → MembersPost n name above j T (Bad j) T
   members-open z = record { kept = refl; within = tt; says = λ q _ ts h f enough. rw (is-not h j ek z) met-bad }
 
@@ -303,12 +303,12 @@ module _ {n name above j k : ℕ} {T : List ℕ} (ek : k ≡ kindIn T n j) where
               (λ a ea ta. s .says q a T eq ea ta ts (tokens-kept few (p .kept) h) f (omega arith)));
         }
 
-module _ {n i k : ℕ} {T : List ℕ} (ek : k ≡ kindIn T n i) where
+module _ {n i k : ℕ} {T : List ℕ} (ek : k ≡ kindInTable T n i) where
   pub class-missing : k ≢ 6 → DeclPost aClass n i T (Bad i) T
   unfolding classFrom
   class-missing z = record { kept = refl; within = tt; says = λ ts h f enough. rw (is-not h i ek z) met-bad }
 
-  module _ {k₁ : ℕ} {b : Bool} (z : k ≡ 6) (ek₁ : k₁ ≡ kindIn T n (i + 1)) (eb : b ≡ isName k₁) where
+  module _ {k₁ : ℕ} {b : Bool} (z : k ≡ 6) (ek₁ : k₁ ≡ kindInTable T n (i + 1)) (eb : b ≡ isName k₁) where
     pub class-name : b ≡ false → DeclPost aClass n i T (Bad (i + 1)) T
     unfolding classFrom
     class-name t = record { kept = refl; within = tt; says = λ ts h f enough. rw (is h i ek z, passes h isName (i + 1) ek₁ (sym eb ∙ t)) met-bad }
@@ -344,7 +344,7 @@ is-no-class : (t : List ℕ) → storeClasses [] t ≡ t
 unfolding storeClasses
 is-no-class t = refl
 
-module _ {n i k : ℕ} {T : List ℕ} (ek : k ≡ kindIn T n i) where
+module _ {n i k : ℕ} {T : List ℕ} (ek : k ≡ kindInTable T n i) where
   pub classes-end : i ≤ n → k ≡ 0 → DeclPost classList n i T (At 2048 i) T
   unfolding classesFrom
   classes-end le z =
@@ -400,7 +400,7 @@ module _ (f : ℕ) (ts : List Token) where
   others s j = bind (classesFrom f ts j) λ cs j. ok (record { main = nameAt ts 1; parameter = nameAt ts 11; statement = s; classes = cs }) j
 
   abbrev mains : ℕ → Parsed Program
-  mains j = bind (run f ts aStatement j) λ s j. expectAll ts mainEnd j (others s)
+  mains j = bind (parseAs f ts aStatement j) λ s j. expectAll ts mainEnd j (others s)
 
 module _ {n k : ℕ} {T : List ℕ} (em : k ≡ matchedIn T n 0 mainHead) where
   pub program-head : k < 14 → ProgramPost n T (Bad k) T

@@ -8,7 +8,7 @@ use mathlib.Core.Bool.{Bool, true, false, _&&_, _||_}
 use native.Mathlib.Omega.{arith}
 use lib.Dec.{eqb, eqb→eq, leb, leb→le, T}
 use borrow.Author.Tests.{ne-eqb}
-use Rattle.base.specs.Table.{col, put}
+use Rattle.base.specs.contracts.Table.{col, put}
 use Rattle.lexer.specs.Kinds.{isName}
 use Rattle.lexer.specs.Tokens.{Token, decimal}
 use Rattle.parser.specs.declared.answer.Answer.{Answer}
@@ -16,9 +16,9 @@ use Rattle.parser.specs.declared.answer.Answer.the-variants.{At, Bad}
 use Rattle.parser.specs.Tree.{Place, Name, Sort, Sort.arguments, Part, Expression}
 use Rattle.parser.specs.Tree.{Part.literal, Part.truth, Part.variable, Part.this, Part.newArray, Part.newObject, Part.element, Part.arrayLength, Part.call, Part.noArguments, Part.argument}
 use Rattle.parser.specs.Stream.{tokenAt, kindAt, startAt, placeAt, nameAt}
-use Rattle.parser.specs.Parse.{Parsed, ok, Mode, operation, postfix, primary, suffixes, argumentList, someArguments, step, run}
-use Rattle.parser.specs.Layout.{absent, rowOf, node, given, store}
-use Rattle.parser.specs.Post.{kindIn, TokensIn, met-ok, met-bad, ModePost, RestPost, moreSuffixes, levelAt, isAtom, startsArray, fuel}
+use Rattle.parser.specs.Parse.{Parsed, ok, Mode, operation, postfix, primary, suffixes, argumentList, someArguments, step, parseAs}
+use Rattle.parser.specs.contracts.Layout.{absent, rowOf, node, given, store}
+use Rattle.parser.specs.contracts.Post.{kindInTable, TokensIn, met-ok, met-bad, ModePost, RestPost, moreSuffixes, levelAt, isAtom, startsArray, fuel}
 use Rattle.parser.proofs.Laws.{plus-two, plus-three, plus-four, there, there-by, tokens-kept, given-put, given-node, kind-of, is, is-not, passes, at-result, bind-ok, bind-bad, stepped, within-ok, within-more}
 use Rattle.parser.proofs.Expressions.{made}
 
@@ -33,7 +33,7 @@ neither true b e = absurd (let z : _≡_ {A = ℕ} 0 1 = cc in omega arith)
 neither false b e = (refl, e)
 
 -- a name's token is there
-pub name-there : (T : List ℕ) (n i k : ℕ) {b : Bool} → k ≡ kindIn T n i → b ≡ isName k → b ≡ true → i < n
+pub name-there : (T : List ℕ) (n i k : ℕ) {b : Bool} → k ≡ kindInTable T n i → b ≡ isName k → b ≡ true → i < n
 unfolding isName
 name-there T n i k e eb t = there-by isName refl T n i k e (sym eb ∙ t)
 
@@ -42,8 +42,8 @@ is-new-array : (p : Place) (e : Expression) (t : List ℕ) → store (newArray p
 unfolding store
 is-new-array p e t = refl
 
-module _ (T : List ℕ) (n i k : ℕ) (ek : k ≡ kindIn T n i) where
-  pub new-int : (k′ : ℕ) → k ≡ 14 → k′ ≡ kindIn T n (i + 1) → eqb k′ 11 ≡ startsArray T n i
+module _ (T : List ℕ) (n i k : ℕ) (ek : k ≡ kindInTable T n i) where
+  pub new-int : (k′ : ℕ) → k ≡ 14 → k′ ≡ kindInTable T n (i + 1) → eqb k′ 11 ≡ startsArray T n i
   unfolding startsArray
   new-int k′ z ek′ = rw (← ek, z, ← ek′) refl
 
@@ -56,8 +56,8 @@ module _ (T : List ℕ) (n i : ℕ) (pre : startsArray T n i ≡ true) where
   unfolding startsArray
   array-tests h = rw (← h .kinds i, ← h .kinds (i + 1)) pre
 
-  pub array-ok : {k x j k′ : ℕ} {T₁ T₂ T₃ : List ℕ} {r₁ r : Answer} → n ≤ 2048 → k ≡ kindIn T n (i + 2) → k ≡ 36
-      → ModePost (operation (levelAt 0)) n n (i + 3) T r₁ T₁ → r₁ ≡ At x j → k′ ≡ kindIn T₁ n j → k′ ≡ 37 → T₂ ≡ node T₁ i (col T₁ 1 i) x 2048
+  pub array-ok : {k x j k′ : ℕ} {T₁ T₂ T₃ : List ℕ} {r₁ r : Answer} → n ≤ 2048 → k ≡ kindInTable T n (i + 2) → k ≡ 36
+      → ModePost (operation (levelAt 0)) n n (i + 3) T r₁ T₁ → r₁ ≡ At x j → k′ ≡ kindInTable T₁ n j → k′ ≡ 37 → T₂ ≡ node T₁ i (col T₁ 1 i) x 2048
       → RestPost (moreSuffixes false i) n i (j + 1) T₂ r T₃ → ModePost postfix n n i T r T₃
   unfolding step levelAt
   array-ok {k} {x} {j} {k′} {T₁} {T₂} {T₃} {r₁} {r} few ek z p e ek′ z′ eT q =
@@ -75,8 +75,8 @@ module _ (T : List ℕ) (n i : ℕ) (pre : startsArray T n i ≡ true) where
             ts (tokens-kept few same h) f (omega arith)))));
       }
 
-  pub array-close : {k x j k′ : ℕ} {T₁ : List ℕ} {r₁ : Answer} → n ≤ 2048 → k ≡ kindIn T n (i + 2) → k ≡ 36
-      → ModePost (operation (levelAt 0)) n n (i + 3) T r₁ T₁ → r₁ ≡ At x j → k′ ≡ kindIn T₁ n j → k′ ≢ 37 → ModePost postfix n n i T (Bad j) T₁
+  pub array-close : {k x j k′ : ℕ} {T₁ : List ℕ} {r₁ : Answer} → n ≤ 2048 → k ≡ kindInTable T n (i + 2) → k ≡ 36
+      → ModePost (operation (levelAt 0)) n n (i + 3) T r₁ T₁ → r₁ ≡ At x j → k′ ≡ kindInTable T₁ n j → k′ ≢ 37 → ModePost postfix n n i T (Bad j) T₁
   unfolding step levelAt
   array-close {k} {x} {j} {k′} {T₁} {r₁} few ek z p e ek′ z′ =
       let il = there T n (i + 2) k 36 ek z (omega arith) in
@@ -87,7 +87,7 @@ module _ (T : List ℕ) (n i : ℕ) (pre : startsArray T n i ≡ true) where
             (bind-ok _ e (p .says ts h f (omega arith)) (λ a ea ta. rw (is-not (tokens-kept few (p .kept) h) j ek′ z′) met-bad)));
       }
 
-  pub array-bad : {k z : ℕ} {T₁ : List ℕ} {r₁ : Answer} → k ≡ kindIn T n (i + 2) → k ≡ 36
+  pub array-bad : {k z : ℕ} {T₁ : List ℕ} {r₁ : Answer} → k ≡ kindInTable T n (i + 2) → k ≡ 36
       → ModePost (operation (levelAt 0)) n n (i + 3) T r₁ T₁ → r₁ ≡ Bad z → ModePost postfix n n i T (Bad z) T₁
   unfolding step levelAt
   array-bad {k} {z} {T₁} {r₁} ek q p e =
@@ -98,7 +98,7 @@ module _ (T : List ℕ) (n i : ℕ) (pre : startsArray T n i ≡ true) where
         says = λ ts h. stepped postfix ts i (fuel postfix n i) (λ f enough. rw (array-tests h, is h (i + 2) ek q, plus-three i) (bind-bad _ e (p .says ts h f (omega arith))));
       }
 
-  pub array-open : {k : ℕ} → k ≡ kindIn T n (i + 2) → k ≢ 36 → ModePost postfix n n i T (Bad (i + 2)) T
+  pub array-open : {k : ℕ} → k ≡ kindInTable T n (i + 2) → k ≢ 36 → ModePost postfix n n i T (Bad (i + 2)) T
   unfolding step
   array-open ek q =
       record {
@@ -126,7 +126,7 @@ module _ {n first left i : ℕ} {T : List ℕ} where
       → RestPost (moreSuffixes b first) n left i T r T₁
   suffix-element {T₁} {r} e p = subst (λ (b : Bool). RestPost (moreSuffixes b first) n left i T r T₁) (sym e) p
 
-  pub suffix-closed : {k : ℕ} {b : Bool} → k ≡ kindIn T n i → k ≡ 36 → b ≡ false → RestPost (moreSuffixes b first) n left i T (Bad i) T
+  pub suffix-closed : {k : ℕ} {b : Bool} → k ≡ kindInTable T n i → k ≡ 36 → b ≡ false → RestPost (moreSuffixes b first) n left i T (Bad i) T
   unfolding step
   suffix-closed {k} {b} ek z t =
       record {
@@ -135,7 +135,7 @@ module _ {n first left i : ℕ} {T : List ℕ} where
         says = λ l base el et ts h. stepped (suffixes b first l) ts i (16 * (n - i)) (λ f enough. rw (is h i ek z, t) met-bad);
       }
 
-  pub suffix-length : {k k′ : ℕ} {b : Bool} {T₁ T₂ : List ℕ} {r : Answer} → n ≤ 2048 → first < n → k ≡ kindIn T n i → k ≡ 31 → k′ ≡ kindIn T n (i + 1) → k′ ≡ 12
+  pub suffix-length : {k k′ : ℕ} {b : Bool} {T₁ T₂ : List ℕ} {r : Answer} → n ≤ 2048 → first < n → k ≡ kindInTable T n i → k ≡ 31 → k′ ≡ kindInTable T n (i + 1) → k′ ≡ 12
       → T₁ ≡ node T i (col T 1 first) left 2048 → RestPost (moreSuffixes true first) n i (i + 2) T₁ r T₂ → RestPost (moreSuffixes b first) n left i T r T₂
   unfolding step
   suffix-length {k} {k′} {b} {T₁} {T₂} {r} few lt ek z ek′ z′ eT q =
@@ -149,7 +149,7 @@ module _ {n first left i : ℕ} {T : List ℕ} where
             ts (tokens-kept few same h) f (omega arith)));
       }
 
-  pub suffix-none : {k : ℕ} {b : Bool} → i ≤ n → left < n → k ≡ kindIn T n i → k ≢ 36 → k ≢ 31 → RestPost (moreSuffixes b first) n left i T (At left i) T
+  pub suffix-none : {k : ℕ} {b : Bool} → i ≤ n → left < n → k ≡ kindInTable T n i → k ≢ 36 → k ≢ 31 → RestPost (moreSuffixes b first) n left i T (At left i) T
   unfolding step
   suffix-none {k} {b} le lt ek z z′ =
       record {
@@ -159,8 +159,8 @@ module _ {n first left i : ℕ} {T : List ℕ} where
       }
 
   -- `[e]`
-  pub element-ok : {x j k : ℕ} {T₁ T₂ T₃ : List ℕ} {r₁ r : Answer} → n ≤ 2048 → first < n → kindIn T n i ≡ 36
-      → ModePost (operation (levelAt 0)) n n (i + 1) T r₁ T₁ → r₁ ≡ At x j → k ≡ kindIn T₁ n j → k ≡ 37 → T₂ ≡ node T₁ i (col T₁ 1 first) left x
+  pub element-ok : {x j k : ℕ} {T₁ T₂ T₃ : List ℕ} {r₁ r : Answer} → n ≤ 2048 → first < n → kindInTable T n i ≡ 36
+      → ModePost (operation (levelAt 0)) n n (i + 1) T r₁ T₁ → r₁ ≡ At x j → k ≡ kindInTable T₁ n j → k ≡ 37 → T₂ ≡ node T₁ i (col T₁ 1 first) left x
       → RestPost (moreSuffixes true first) n i (j + 1) T₂ r T₃ → RestPost (moreSuffixes true first) n left i T r T₃
   unfolding step levelAt
   element-ok {x} {j} {k} {T₁} {T₂} {T₃} {r₁} {r} few lt z p e ek z′ eT q =
@@ -178,8 +178,8 @@ module _ {n first left i : ℕ} {T : List ℕ} where
             ts (tokens-kept few same h) f (omega arith)))));
       }
 
-  pub element-close : {x j k : ℕ} {T₁ : List ℕ} {r₁ : Answer} → n ≤ 2048 → kindIn T n i ≡ 36
-      → ModePost (operation (levelAt 0)) n n (i + 1) T r₁ T₁ → r₁ ≡ At x j → k ≡ kindIn T₁ n j → k ≢ 37
+  pub element-close : {x j k : ℕ} {T₁ : List ℕ} {r₁ : Answer} → n ≤ 2048 → kindInTable T n i ≡ 36
+      → ModePost (operation (levelAt 0)) n n (i + 1) T r₁ T₁ → r₁ ≡ At x j → k ≡ kindInTable T₁ n j → k ≢ 37
       → RestPost (moreSuffixes true first) n left i T (Bad j) T₁
   unfolding step levelAt
   element-close {x} {j} {k} {T₁} {r₁} few z p e ek z′ =
@@ -191,7 +191,7 @@ module _ {n first left i : ℕ} {T : List ℕ} where
             (bind-ok _ e (p .says ts h f (omega arith)) (λ a ea ta. rw (is-not (tokens-kept few (p .kept) h) j ek z′) met-bad)));
       }
 
-  pub element-bad : {k : ℕ} {T₁ : List ℕ} {r₁ : Answer} → kindIn T n i ≡ 36 → ModePost (operation (levelAt 0)) n n (i + 1) T r₁ T₁ → r₁ ≡ Bad k
+  pub element-bad : {k : ℕ} {T₁ : List ℕ} {r₁ : Answer} → kindInTable T n i ≡ 36 → ModePost (operation (levelAt 0)) n n (i + 1) T r₁ T₁ → r₁ ≡ Bad k
       → RestPost (moreSuffixes true first) n left i T (Bad k) T₁
   unfolding step levelAt
   element-bad {k} {T₁} {r₁} z p e =
@@ -203,9 +203,9 @@ module _ {n first left i : ℕ} {T : List ℕ} where
       }
 
   -- `.m(e, ..)`
-  module _ {b : Bool} (z : kindIn T n i ≡ 31) (z₁ : kindIn T n (i + 1) ≡ 12 → ⊥) where
-    pub call-ok : {k k₂ x j : ℕ} {c : Bool} {T₁ T₂ T₃ : List ℕ} {r₁ r : Answer} → n ≤ 2048 → first < n → k ≡ kindIn T n (i + 1) → c ≡ isName k → c ≡ true
-        → k₂ ≡ kindIn T n (i + 2) → k₂ ≡ 34 → ModePost argumentList n 2049 (i + 3) T r₁ T₁ → r₁ ≡ At x j → T₂ ≡ node T₁ i (col T₁ 1 first) left x
+  module _ {b : Bool} (z : kindInTable T n i ≡ 31) (z₁ : kindInTable T n (i + 1) ≡ 12 → ⊥) where
+    pub call-ok : {k k₂ x j : ℕ} {c : Bool} {T₁ T₂ T₃ : List ℕ} {r₁ r : Answer} → n ≤ 2048 → first < n → k ≡ kindInTable T n (i + 1) → c ≡ isName k → c ≡ true
+        → k₂ ≡ kindInTable T n (i + 2) → k₂ ≡ 34 → ModePost argumentList n 2049 (i + 3) T r₁ T₁ → r₁ ≡ At x j → T₂ ≡ node T₁ i (col T₁ 1 first) left x
         → RestPost (moreSuffixes true first) n i j T₂ r T₃ → RestPost (moreSuffixes b first) n left i T r T₃
     unfolding step
     call-ok {k} {k₂} {x} {j} {c} {T₁} {T₂} {T₃} {r₁} {r} few lt ek ec t ek₂ z₂ p e eT q =
@@ -222,8 +222,8 @@ module _ {n first left i : ℕ} {T : List ℕ} where
               ts (tokens-kept few same h) f (omega arith))));
         }
 
-    pub call-bad : {k k₂ y : ℕ} {c : Bool} {T₁ : List ℕ} {r₁ : Answer} → k ≡ kindIn T n (i + 1) → c ≡ isName k → c ≡ true
-        → k₂ ≡ kindIn T n (i + 2) → k₂ ≡ 34 → ModePost argumentList n 2049 (i + 3) T r₁ T₁ → r₁ ≡ Bad y → RestPost (moreSuffixes b first) n left i T (Bad y) T₁
+    pub call-bad : {k k₂ y : ℕ} {c : Bool} {T₁ : List ℕ} {r₁ : Answer} → k ≡ kindInTable T n (i + 1) → c ≡ isName k → c ≡ true
+        → k₂ ≡ kindInTable T n (i + 2) → k₂ ≡ 34 → ModePost argumentList n 2049 (i + 3) T r₁ T₁ → r₁ ≡ Bad y → RestPost (moreSuffixes b first) n left i T (Bad y) T₁
     unfolding step
     call-bad {k} {k₂} {y} {c} {T₁} {r₁} ek ec t ek₂ z₂ p e =
         let il = there T n (i + 2) k₂ 34 ek₂ z₂ (omega arith) in
@@ -234,7 +234,7 @@ module _ {n first left i : ℕ} {T : List ℕ} where
               rw (is h i refl z, is-not h (i + 1) refl z₁, passes h isName (i + 1) ek (sym ec ∙ t), plus-two i, is h (i + 2) ek₂ z₂, plus-three i) (bind-bad _ e (p .says ts h f (omega arith))));
         }
 
-    pub call-open : {k k₂ : ℕ} {c : Bool} → k ≡ kindIn T n (i + 1) → c ≡ isName k → c ≡ true → k₂ ≡ kindIn T n (i + 2) → k₂ ≢ 34
+    pub call-open : {k k₂ : ℕ} {c : Bool} → k ≡ kindInTable T n (i + 1) → c ≡ isName k → c ≡ true → k₂ ≡ kindInTable T n (i + 2) → k₂ ≢ 34
         → RestPost (moreSuffixes b first) n left i T (Bad (i + 2)) T
     unfolding step
     call-open {k} {k₂} {c} ek ec t ek₂ z₂ =
@@ -245,7 +245,7 @@ module _ {n first left i : ℕ} {T : List ℕ} where
               rw (is h i refl z, is-not h (i + 1) refl z₁, passes h isName (i + 1) ek (sym ec ∙ t), plus-two i, is-not h (i + 2) ek₂ z₂) met-bad);
         }
 
-    pub call-name : {k : ℕ} {c : Bool} → k ≡ kindIn T n (i + 1) → c ≡ isName k → c ≡ false → RestPost (moreSuffixes b first) n left i T (Bad (i + 1)) T
+    pub call-name : {k : ℕ} {c : Bool} → k ≡ kindInTable T n (i + 1) → c ≡ isName k → c ≡ false → RestPost (moreSuffixes b first) n left i T (Bad (i + 1)) T
     unfolding step
     call-name {k} {c} ek ec t =
         record {
@@ -314,7 +314,7 @@ unfolding isAtom isName
 zero-no-atom = refl
 
 -- the token of an atom is there
-pub atom-there : (T : List ℕ) (n i k : ℕ) {b : Bool} → k ≡ kindIn T n i → b ≡ isAtom k → b ≡ true → i < n
+pub atom-there : (T : List ℕ) (n i k : ℕ) {b : Bool} → k ≡ kindInTable T n i → b ≡ isAtom k → b ≡ true → i < n
 atom-there T n i k e eb t = there-by isAtom zero-no-atom T n i k e (sym eb ∙ t)
 
 is-new-object : (p : Place) (c : Name) (t : List ℕ) → store (newObject p c) t ≡ node t (p .row) (p .start) absent absent
@@ -322,7 +322,7 @@ unfolding store
 is-new-object p c t = refl
 
 module _ {n i : ℕ} {T : List ℕ} where
-  pub an-atom : {k : ℕ} {b : Bool} {T₁ : List ℕ} → k ≡ kindIn T n i → b ≡ isAtom k → b ≡ true → T₁ ≡ node T i (col T 1 i) 2048 2048
+  pub an-atom : {k : ℕ} {b : Bool} {T₁ : List ℕ} → k ≡ kindInTable T n i → b ≡ isAtom k → b ≡ true → T₁ ≡ node T i (col T 1 i) 2048 2048
       → ModePost primary n n i T (At i (i + 1)) T₁
   an-atom {k} {b} {T₁} ek eb t eT =
       let il = atom-there T n i k ek eb t in
@@ -330,11 +330,11 @@ module _ {n i : ℕ} {T : List ℕ} where
         kept = ap given eT ∙ given-node T i (col T 1 i) 2048 2048;
         within = (omega arith, omega arith, omega arith);
         says = λ ts h. stepped primary ts i (fuel primary n i) (λ f enough.
-            let o = one-token ts (λ s m j. run f ts m j) i (atom (kindAt ts i) (passes h isAtom i ek (sym eb ∙ t))) in
+            let o = one-token ts (λ s m j. parseAs f ts m j) i (atom (kindAt ts i) (passes h isAtom i ek (sym eb ∙ t))) in
             at-result (o .read) (met-ok (o .row) (made T₁ i i 2048 2048 h il eT ∙ sym (o .lies T))));
       }
 
-  pub no-primary : {k : ℕ} {b : Bool} → k ≡ kindIn T n i → b ≡ isAtom k → b ≡ false → k ≢ 14 → k ≢ 34 → ModePost primary n n i T (Bad i) T
+  pub no-primary : {k : ℕ} {b : Bool} → k ≡ kindInTable T n i → b ≡ isAtom k → b ≡ false → k ≢ 14 → k ≢ 34 → ModePost primary n n i T (Bad i) T
   unfolding step isAtom
   no-primary {k} {b} ek eb t z z′ =
       let q₄ = neither (eqb k 4 || eqb k 21 || eqb k 9 || eqb k 20) (isName k) (sym eb ∙ t) in
@@ -349,8 +349,8 @@ module _ {n i : ℕ} {T : List ℕ} where
       }
 
   -- `new C()`
-  module _ (z : kindIn T n i ≡ 14) {k₁ : ℕ} {c : Bool} (ek : k₁ ≡ kindIn T n (i + 1)) (ec : c ≡ isName k₁) where
-    pub object-ok : {k₂ k₃ : ℕ} {T₁ : List ℕ} → c ≡ true → k₂ ≡ kindIn T n (i + 2) → k₂ ≡ 34 → k₃ ≡ kindIn T n (i + 3) → k₃ ≡ 35
+  module _ (z : kindInTable T n i ≡ 14) {k₁ : ℕ} {c : Bool} (ek : k₁ ≡ kindInTable T n (i + 1)) (ec : c ≡ isName k₁) where
+    pub object-ok : {k₂ k₃ : ℕ} {T₁ : List ℕ} → c ≡ true → k₂ ≡ kindInTable T n (i + 2) → k₂ ≡ 34 → k₃ ≡ kindInTable T n (i + 3) → k₃ ≡ 35
         → T₁ ≡ node T i (col T 1 i) 2048 2048 → ModePost primary n n i T (At i (i + 4)) T₁
     unfolding step isName
     object-ok {k₂} {k₃} {T₁} t ek₂ z₂ ek₃ z₃ eT =
@@ -363,7 +363,7 @@ module _ {n i : ℕ} {T : List ℕ} where
               (met-ok refl (made T₁ i i 2048 2048 h (omega arith) eT ∙ sym (is-new-object (placeAt ts i i) (nameAt ts (i + 1)) T))));
         }
 
-    pub object-close : {k₂ k₃ : ℕ} → c ≡ true → k₂ ≡ kindIn T n (i + 2) → k₂ ≡ 34 → k₃ ≡ kindIn T n (i + 3) → k₃ ≢ 35 → ModePost primary n n i T (Bad (i + 3)) T
+    pub object-close : {k₂ k₃ : ℕ} → c ≡ true → k₂ ≡ kindInTable T n (i + 2) → k₂ ≡ 34 → k₃ ≡ kindInTable T n (i + 3) → k₃ ≢ 35 → ModePost primary n n i T (Bad (i + 3)) T
     unfolding step isName
     object-close t ek₂ z₂ ek₃ z₃ =
         record {
@@ -373,7 +373,7 @@ module _ {n i : ℕ} {T : List ℕ} where
               rw (is h i refl z, passes h isName (i + 1) ek (sym ec ∙ t), plus-two i, is h (i + 2) ek₂ z₂, plus-three i, is-not h (i + 3) ek₃ z₃) met-bad);
         }
 
-    pub object-open : {k₂ : ℕ} → c ≡ true → k₂ ≡ kindIn T n (i + 2) → k₂ ≢ 34 → ModePost primary n n i T (Bad (i + 2)) T
+    pub object-open : {k₂ : ℕ} → c ≡ true → k₂ ≡ kindInTable T n (i + 2) → k₂ ≢ 34 → ModePost primary n n i T (Bad (i + 2)) T
     unfolding step isName
     object-open t ek₂ z₂ =
         record {
@@ -393,9 +393,9 @@ module _ {n i : ℕ} {T : List ℕ} where
         }
 
   -- `(e)`
-  module _ (z : kindIn T n i ≡ 34) where
+  module _ (z : kindInTable T n i ≡ 34) where
     pub parentheses-ok : {x j k : ℕ} {T₁ : List ℕ} {r₁ : Answer} → n ≤ 2048 → ModePost (operation (levelAt 0)) n n (i + 1) T r₁ T₁ → r₁ ≡ At x j
-        → k ≡ kindIn T₁ n j → k ≡ 35 → ModePost primary n n i T (At x (j + 1)) T₁
+        → k ≡ kindInTable T₁ n j → k ≡ 35 → ModePost primary n n i T (At x (j + 1)) T₁
     unfolding step levelAt isName
     parentheses-ok {x} {j} {k} {T₁} {r₁} few p e ek z′ =
         let il = there T n i _ 34 refl z (omega arith) in
@@ -409,7 +409,7 @@ module _ {n i : ℕ} {T : List ℕ} where
         }
 
     pub parentheses-close : {x j k : ℕ} {T₁ : List ℕ} {r₁ : Answer} → n ≤ 2048 → ModePost (operation (levelAt 0)) n n (i + 1) T r₁ T₁ → r₁ ≡ At x j
-        → k ≡ kindIn T₁ n j → k ≢ 35 → ModePost primary n n i T (Bad j) T₁
+        → k ≡ kindInTable T₁ n j → k ≢ 35 → ModePost primary n n i T (Bad j) T₁
     unfolding step levelAt isName
     parentheses-close {x} {j} {k} {T₁} {r₁} few p e ek z′ =
         let il = there T n i _ 34 refl z (omega arith) in
@@ -439,7 +439,7 @@ is-no-argument : (t : List ℕ) → store noArguments t ≡ t
 unfolding store
 is-no-argument t = refl
 
-module _ {n i k : ℕ} {T : List ℕ} (ek : k ≡ kindIn T n i) where
+module _ {n i k : ℕ} {T : List ℕ} (ek : k ≡ kindInTable T n i) where
   pub arguments-none : k ≡ 35 → ModePost argumentList n 2049 i T (At 2048 (i + 1)) T
   unfolding step
   arguments-none z =
@@ -469,7 +469,7 @@ module _ {n i : ℕ} {T T₁ : List ℕ} {r₁ : Answer} (p : ModePost (operatio
         says = λ ts h. stepped someArguments ts i (fuel someArguments n i) (λ f enough. bind-bad _ e (p .says ts h f (omega arith)));
       }
 
-  module _ {x j k : ℕ} (e : r₁ ≡ At x j) (few : n ≤ 2048) (ek : k ≡ kindIn T₁ n j) where
+  module _ {x j k : ℕ} (e : r₁ ≡ At x j) (few : n ≤ 2048) (ek : k ≡ kindInTable T₁ n j) where
     pub argument-last : {T₂ : List ℕ} → k ≡ 35 → T₂ ≡ put T₁ 6 x 2048 → ModePost someArguments n 2049 i T (At x (j + 1)) T₂
     unfolding step levelAt
     argument-last {T₂} z eT =

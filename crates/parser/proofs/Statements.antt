@@ -7,7 +7,7 @@ use mathlib.Core.Bool.{Bool, true, false}
 use native.Mathlib.Omega.{arith}
 use lib.Dec.{eqb}
 use borrow.Author.Tests.{ne-eqb}
-use Rattle.base.specs.Table.{col, put}
+use Rattle.base.specs.contracts.Table.{col, put}
 use Rattle.lexer.specs.Kinds.{isName}
 use Rattle.lexer.specs.Tokens.{Token}
 use Rattle.parser.specs.declared.answer.Answer.{Answer}
@@ -15,9 +15,9 @@ use Rattle.parser.specs.declared.answer.Answer.the-variants.{At, Bad}
 use Rattle.parser.specs.Tree.{Place, Sort, Sort.expression, Sort.statement, Sort.statements, Part, Expression, Statement}
 use Rattle.parser.specs.Tree.{Part.block, Part.conditional, Part.loop, Part.print, Part.assign, Part.assignElement, Part.noStatements, Part.sequence}
 use Rattle.parser.specs.Stream.{tokenAt, kindAt, placeAt}
-use Rattle.parser.specs.Parse.{Parsed, ok, bad, bind, expect, Mode, operation, aStatement, statementList, anExpression, beginsStatement, printHead, printEnd, elementEnd, expectAll, assignFrom, assignElementFrom, step, run}
-use Rattle.parser.specs.Layout.{absent, rowOf, node, given, store}
-use Rattle.parser.specs.Post.{kindIn, TokensIn, part, Met, met-ok, met-bad, ModePost, ListPost, Tail, branching, repeating, tailKind, tailFrom, TailPost, levelAt, matchedIn, fuel}
+use Rattle.parser.specs.Parse.{Parsed, ok, bad, bind, expect, Mode, operation, aStatement, statementList, anExpression, beginsStatement, printHead, printEnd, elementEnd, expectAll, assignFrom, assignElementFrom, step, parseAs}
+use Rattle.parser.specs.contracts.Layout.{absent, rowOf, node, given, store}
+use Rattle.parser.specs.contracts.Post.{kindInTable, TokensIn, part, Met, met-ok, met-bad, ModePost, ListPost, Tail, branching, repeating, tailKind, tailFrom, TailPost, levelAt, matchedIn, fuel}
 use Rattle.parser.proofs.Laws.{plus-two, there, tokens-kept, given-put, given-node, is, is-not, passes, at-result, bind-ok, bind-bad, stepped, within-ok, within-more}
 use Rattle.parser.proofs.Expressions.{made}
 use Rattle.parser.proofs.Postfix.{small-name}
@@ -32,7 +32,7 @@ is-no-statement : (t : List ℕ) → store noStatements t ≡ t
 unfolding store
 is-no-statement t = refl
 
-module _ {n i k : ℕ} {T : List ℕ} {b : Bool} (ek : k ≡ kindIn T n i) (eb : b ≡ beginsStatement k) where
+module _ {n i k : ℕ} {T : List ℕ} {b : Bool} (ek : k ≡ kindInTable T n i) (eb : b ≡ beginsStatement k) where
   pub list-end : i ≤ n → b ≡ false → ListPost n i T (At 2048 i) T
   unfolding step
   list-end le t =
@@ -86,7 +86,7 @@ is-block : (p : Place) (ss : Part statements) (t : List ℕ) → store (block p 
 unfolding store
 is-block p ss t = refl
 
-module _ {n i : ℕ} {T T₁ : List ℕ} {r₁ : Answer} (z : kindIn T n i ≡ 38) (p : ListPost n (i + 1) T r₁ T₁) where
+module _ {n i : ℕ} {T T₁ : List ℕ} {r₁ : Answer} (z : kindInTable T n i ≡ 38) (p : ListPost n (i + 1) T r₁ T₁) where
   pub block-bad : {y : ℕ} → r₁ ≡ Bad y → ModePost aStatement n n i T (Bad y) T₁
   unfolding step
   block-bad e =
@@ -97,7 +97,7 @@ module _ {n i : ℕ} {T T₁ : List ℕ} {r₁ : Answer} (z : kindIn T n i ≡ 3
         says = λ ts h. stepped aStatement ts i (fuel aStatement n i) (λ f enough. rw (is h i refl z) (bind-bad _ e (p .says ts h f (omega arith))));
       }
 
-  module _ {x j k : ℕ} (few : n ≤ 2048) (e : r₁ ≡ At x j) (ek : k ≡ kindIn T₁ n j) where
+  module _ {x j k : ℕ} (few : n ≤ 2048) (e : r₁ ≡ At x j) (ek : k ≡ kindInTable T₁ n j) where
     pub block-ok : {T₂ : List ℕ} → k ≡ 39 → T₂ ≡ node T₁ i (col T₁ 1 i) x 2048 → ModePost aStatement n n i T (At i (j + 1)) T₂
     unfolding step
     block-ok {T₂} z′ eT =
@@ -136,7 +136,7 @@ tail-positive : (t : Tail) → 0 < tailKind t
 tail-positive branching = omega arith
 tail-positive repeating = omega arith
 
-module _ (t : Tail) {n i k : ℕ} {T : List ℕ} (z : kindIn T n i ≡ tailKind t) (ek : k ≡ kindIn T n (i + 1)) where
+module _ (t : Tail) {n i k : ℕ} {T : List ℕ} (z : kindInTable T n i ≡ tailKind t) (ek : k ≡ kindInTable T n (i + 1)) where
   pub test-open : k ≢ 34 → ModePost aStatement n n i T (Bad (i + 1)) T
   test-open z₁ =
       record {
@@ -157,7 +157,7 @@ module _ (t : Tail) {n i k : ℕ} {T : List ℕ} (z : kindIn T n i ≡ tailKind 
               (rw (is h (i + 1) ek z₁, plus-two i) (bind-bad _ e (p .says ts h f (omega arith)))));
         }
 
-    module _ {x j k₂ : ℕ} (few : n ≤ 2048) (e : r₁ ≡ At x j) (ek₂ : k₂ ≡ kindIn T₁ n j) where
+    module _ {x j k₂ : ℕ} (few : n ≤ 2048) (e : r₁ ≡ At x j) (ek₂ : k₂ ≡ kindInTable T₁ n j) where
       pub test-close : k₂ ≢ 35 → ModePost aStatement n n i T (Bad j) T₁
       unfolding levelAt
       test-close z₂ =
@@ -204,7 +204,7 @@ module _ {n i test j : ℕ} {T T₁ : List ℕ} {r₁ : Answer} (p : ModePost aS
       }
     where
       go : (t : Tail) (x : Expression) (base : List ℕ) (ts : List Token) → TokensIn T n ts → (f : ℕ) → 16 * (n - j) < f
-          → Met (part statement) base T₁ (Bad y) (tailFrom t ts (λ s m j. run f ts m j) i x j)
+          → Met (part statement) base T₁ (Bad y) (tailFrom t ts (λ s m j. parseAs f ts m j) i x j)
       go branching x base ts h f enough = bind-bad _ e (p .says ts h f (omega arith))
       go repeating x base ts h f enough = bind-bad _ e (p .says ts h f (omega arith))
 
@@ -220,7 +220,7 @@ module _ {n i test j : ℕ} {T T₁ : List ℕ} {r₁ : Answer} (p : ModePost aS
               (made T₂ i i test y (tokens-kept few (p .kept) h) il eT ∙ cc (is-loop (placeAt ts i i) x a base)));
         }
 
-    module _ {k : ℕ} (ek : k ≡ kindIn T₁ n m) where
+    module _ {k : ℕ} (ek : k ≡ kindInTable T₁ n m) where
       pub else-missing : k ≢ 7 → TailPost branching n i test j T (Bad m) T₁
       else-missing z =
           record {
@@ -275,24 +275,24 @@ module _ (ts : List Token) (P : (s : Sort) → Mode s → ℕ → Parsed (Part s
   is-printing e = rw e refl
 
 -- a head that matches is there
-pub head-there : (T : List ℕ) (n i m : ℕ) → kindIn T n i ≡ 19 → m ≡ matchedIn T n (i + 1) printHead → i + 1 + m ≤ n
+pub head-there : (T : List ℕ) (n i m : ℕ) → kindInTable T n i ≡ 19 → m ≡ matchedIn T n (i + 1) printHead → i + 1 + m ≤ n
 head-there T n i m z em =
     let il = there T n i _ 19 refl z (omega arith) in
     omega (arith, matched-there T n (i + 1) printHead (omega arith) (omega arith))
 
-head-is : (T : List ℕ) (n i m : ℕ) → kindIn T n i ≡ 19 → m ≡ matchedIn T n (i + 1) printHead → 5 ≤ m → {ts : List Token} → TokensIn T n ts
+head-is : (T : List ℕ) (n i m : ℕ) → kindInTable T n i ≡ 19 → m ≡ matchedIn T n (i + 1) printHead → 5 ≤ m → {ts : List Token} → TokensIn T n ts
     → (P : (s : Sort) → Mode s → ℕ → Parsed (Part s)) → step ts P aStatement i ≡ printing ts P i (i + 6)
 head-is T n i m z em l {ts} h P =
     is-printing ts P i (is h i refl z) ∙ all-matched h (i + 1) printHead (printing ts P i) (omega arith) ∙ ap (printing ts P i) (omega arith)
 
-module _ {n i m : ℕ} {T : List ℕ} (z : kindIn T n i ≡ 19) (em : m ≡ matchedIn T n (i + 1) printHead) where
+module _ {n i m : ℕ} {T : List ℕ} (z : kindInTable T n i ≡ 19) (em : m ≡ matchedIn T n (i + 1) printHead) where
   pub print-head : m < 5 → ModePost aStatement n n i T (Bad (i + 1 + m)) T
   print-head lt =
       record {
         kept = refl;
         within = tt;
         says = λ ts h. stepped aStatement ts i (fuel aStatement n i) (λ f enough.
-            at-result (is-printing ts _ i (is h i refl z) ∙ not-matched h (i + 1) printHead (printing ts (λ s m j. run f ts m j) i) (omega arith) ∙ ap bad (omega arith)) met-bad);
+            at-result (is-printing ts _ i (is h i refl z) ∙ not-matched h (i + 1) printHead (printing ts (λ s m j. parseAs f ts m j) i) (omega arith) ∙ ap bad (omega arith)) met-bad);
       }
 
   module _ {T₁ : List ℕ} {r₁ : Answer} (l : 5 ≤ m) (p : ModePost (operation (levelAt 0)) n n (i + 6) T r₁ T₁) where
@@ -315,7 +315,7 @@ module _ {n i m : ℕ} {T : List ℕ} (z : kindIn T n i ≡ 19) (em : m ≡ matc
             kept = p .kept;
             within = tt;
             says = λ ts h. stepped aStatement ts i (fuel aStatement n i) (λ f enough. at-result (head-is T n i m z em l h _) (bind-ok _ e (p .says ts h f (omega arith))
-                (λ a ea ta. at-result (not-matched (tokens-kept few (p .kept) h) j printEnd (printed ts (λ s m j. run f ts m j) i a) (omega arith) ∙ ap bad (omega arith)) met-bad)));
+                (λ a ea ta. at-result (not-matched (tokens-kept few (p .kept) h) j printEnd (printed ts (λ s m j. parseAs f ts m j) i a) (omega arith) ∙ ap bad (omega arith)) met-bad)));
           }
 
       pub print-ok : {T₂ : List ℕ} → 2 ≤ m₂ → T₂ ≡ node T₁ i (col T₁ 1 i) x 2048 → ModePost aStatement n n i T (At i (j + 2)) T₂
@@ -328,7 +328,7 @@ module _ {n i m : ℕ} {T : List ℕ} (z : kindIn T n i ≡ 19) (em : m ≡ matc
             kept = ap given eT ∙ given-node T₁ i (col T₁ 1 i) x 2048 ∙ p .kept;
             within = (omega arith, omega arith, omega arith);
             says = λ ts h. stepped aStatement ts i (fuel aStatement n i) (λ f enough. at-result (head-is T n i m z em l h _) (bind-ok _ e (p .says ts h f (omega arith))
-                (λ a ea ta. at-result (all-matched (tokens-kept few (p .kept) h) j printEnd (printed ts (λ s m j. run f ts m j) i a) (omega arith))
+                (λ a ea ta. at-result (all-matched (tokens-kept few (p .kept) h) j printEnd (printed ts (λ s m j. parseAs f ts m j) i a) (omega arith))
                 (met-ok {a = print (placeAt ts i i) a} refl (made T₂ i i x 2048 (tokens-kept few (p .kept) h) (omega arith) eT ∙ cc (is-print (placeAt ts i i) a T))))));
           }
 
@@ -361,14 +361,14 @@ unfolding isName
 zero-no-name = refl
 
 -- what a name's token is
-of-name : {T : List ℕ} {n : ℕ} {ts : List Token} (h : TokensIn T n ts) (i : ℕ) → isName (kindIn T n i) ≡ true → isName (kindAt ts i) ≡ true
+of-name : {T : List ℕ} {n : ℕ} {ts : List Token} (h : TokensIn T n ts) (i : ℕ) → isName (kindInTable T n i) ≡ true → isName (kindAt ts i) ≡ true
 of-name h i t = ap isName (sym (h .kinds i)) ∙ t
 
-as-assignment : (T : List ℕ) (n i k : ℕ) → isName (kindIn T n i) ≡ true → k ≡ kindIn T n (i + 1) → k ≡ 30 → {ts : List Token} → TokensIn T n ts
+as-assignment : (T : List ℕ) (n i k : ℕ) → isName (kindInTable T n i) ≡ true → k ≡ kindInTable T n (i + 1) → k ≡ 30 → {ts : List Token} → TokensIn T n ts
     → (P : (s : Sort) → Mode s → ℕ → Parsed (Part s)) → step ts P aStatement i ≡ assignFrom ts P i
 as-assignment T n i k t ek z {ts} h P = is-assignment ts P i (of-name h i t) (rw (is h (i + 1) ek z) refl)
 
-module _ {n i k : ℕ} {T : List ℕ} (t : isName (kindIn T n i) ≡ true) (ek : k ≡ kindIn T n (i + 1)) where
+module _ {n i k : ℕ} {T : List ℕ} (t : isName (kindInTable T n i) ≡ true) (ek : k ≡ kindInTable T n (i + 1)) where
   pub assign-missing : k ≢ 36 → k ≢ 30 → ModePost aStatement n n i T (Bad (i + 1)) T
   assign-missing z z′ =
       record {
@@ -390,7 +390,7 @@ module _ {n i k : ℕ} {T : List ℕ} (t : isName (kindIn T n i) ≡ true) (ek :
               (rw (is h (i + 1) ek z, plus-two i) (bind-bad _ e (p .says ts h f (omega arith)))));
         }
 
-    module _ {x j k₂ : ℕ} (few : n ≤ 2048) (e : r₁ ≡ At x j) (ek₂ : k₂ ≡ kindIn T₁ n j) where
+    module _ {x j k₂ : ℕ} (few : n ≤ 2048) (e : r₁ ≡ At x j) (ek₂ : k₂ ≡ kindInTable T₁ n j) where
       pub assign-end : k₂ ≢ 33 → ModePost aStatement n n i T (Bad j) T₁
       unfolding levelAt
       assign-end z₂ =
@@ -423,11 +423,11 @@ module _ (ts : List Token) (P : (s : Sort) → Mode s → ℕ → Parsed (Part s
   abbrev assigning : ℕ → Parsed Statement
   assigning j = bind (P expression anExpression j) λ e j. expect ts 33 j λ j. ok (assignElement (placeAt ts i i) (tokenAt ts i .text) a e) j
 
-as-element : (T : List ℕ) (n i : ℕ) → isName (kindIn T n i) ≡ true → kindIn T n (i + 1) ≡ 36 → {ts : List Token} → TokensIn T n ts
+as-element : (T : List ℕ) (n i : ℕ) → isName (kindInTable T n i) ≡ true → kindInTable T n (i + 1) ≡ 36 → {ts : List Token} → TokensIn T n ts
     → (P : (s : Sort) → Mode s → ℕ → Parsed (Part s)) → step ts P aStatement i ≡ assignElementFrom ts P i
 as-element T n i t z {ts} h P = is-element-assignment ts P i (of-name h i t) (is h (i + 1) refl z)
 
-module _ {n i : ℕ} {T T₁ : List ℕ} {r₁ : Answer} (t : isName (kindIn T n i) ≡ true) (z : kindIn T n (i + 1) ≡ 36)
+module _ {n i : ℕ} {T T₁ : List ℕ} {r₁ : Answer} (t : isName (kindInTable T n i) ≡ true) (z : kindInTable T n (i + 1) ≡ 36)
     (p : ModePost (operation (levelAt 0)) n n (i + 2) T r₁ T₁) where
   pub index-bad : {y : ℕ} → r₁ ≡ Bad y → ModePost aStatement n n i T (Bad y) T₁
   unfolding levelAt
@@ -448,7 +448,7 @@ module _ {n i : ℕ} {T T₁ : List ℕ} {r₁ : Answer} (t : isName (kindIn T n
           kept = p .kept;
           within = tt;
           says = λ ts h. stepped aStatement ts i (fuel aStatement n i) (λ f enough. at-result (as-element T n i t z h _) (bind-ok _ e (p .says ts h f (omega arith))
-              (λ a ea ta. at-result (not-matched (tokens-kept few (p .kept) h) j elementEnd (assigning ts (λ s m j. run f ts m j) i a) (omega arith) ∙ ap bad (omega arith)) met-bad)));
+              (λ a ea ta. at-result (not-matched (tokens-kept few (p .kept) h) j elementEnd (assigning ts (λ s m j. parseAs f ts m j) i a) (omega arith) ∙ ap bad (omega arith)) met-bad)));
         }
 
     module _ {T₂ : List ℕ} {r₂ : Answer} (l : 2 ≤ m) (q : ModePost (operation (levelAt 0)) n n (j + 2) T₁ r₂ T₂) where
@@ -462,11 +462,11 @@ module _ {n i : ℕ} {T T₁ : List ℕ} {r₁ : Answer} (t : isName (kindIn T n
             kept = q .kept ∙ p .kept;
             within = tt;
             says = λ ts h. stepped aStatement ts i (fuel aStatement n i) (λ f enough. at-result (as-element T n i t z h _) (bind-ok _ e (p .says ts h f (omega arith))
-                (λ a ea ta. at-result (all-matched (tokens-kept few (p .kept) h) j elementEnd (assigning ts (λ s m j. run f ts m j) i a) (omega arith))
+                (λ a ea ta. at-result (all-matched (tokens-kept few (p .kept) h) j elementEnd (assigning ts (λ s m j. parseAs f ts m j) i a) (omega arith))
                 (bind-bad _ e₂ (q .says ts (tokens-kept few (p .kept) h) f (omega arith))))));
           }
 
-      module _ {y u k : ℕ} (e₂ : r₂ ≡ At y u) (ek : k ≡ kindIn T₂ n u) where
+      module _ {y u k : ℕ} (e₂ : r₂ ≡ At y u) (ek : k ≡ kindInTable T₂ n u) where
         pub value-end : k ≢ 33 → ModePost aStatement n n i T (Bad u) T₂
         unfolding levelAt
         value-end z₂ =
@@ -477,7 +477,7 @@ module _ {n i : ℕ} {T T₁ : List ℕ} {r₁ : Answer} (t : isName (kindIn T n
               kept = q .kept ∙ p .kept;
               within = tt;
               says = λ ts h. stepped aStatement ts i (fuel aStatement n i) (λ f enough. at-result (as-element T n i t z h _) (bind-ok _ e (p .says ts h f (omega arith))
-                  (λ a ea ta. at-result (all-matched (tokens-kept few (p .kept) h) j elementEnd (assigning ts (λ s m j. run f ts m j) i a) (omega arith))
+                  (λ a ea ta. at-result (all-matched (tokens-kept few (p .kept) h) j elementEnd (assigning ts (λ s m j. parseAs f ts m j) i a) (omega arith))
                   (bind-ok _ e₂ (q .says ts (tokens-kept few (p .kept) h) f (omega arith)) (λ b eb tb. rw (is-not (tokens-kept few (q .kept ∙ p .kept) h) u ek z₂) met-bad)))));
             }
 
@@ -493,14 +493,14 @@ module _ {n i : ℕ} {T T₁ : List ℕ} {r₁ : Answer} (t : isName (kindIn T n
               kept = ap given eT ∙ given-node T₂ i (col T₂ 1 i) x y ∙ q .kept ∙ p .kept;
               within = (omega arith, omega arith, omega arith);
               says = λ ts h. stepped aStatement ts i (fuel aStatement n i) (λ f enough. at-result (as-element T n i t z h _) (bind-ok _ e (p .says ts h f (omega arith))
-                  (λ a ea ta. at-result (all-matched (tokens-kept few (p .kept) h) j elementEnd (assigning ts (λ s m j. run f ts m j) i a) (omega arith))
+                  (λ a ea ta. at-result (all-matched (tokens-kept few (p .kept) h) j elementEnd (assigning ts (λ s m j. parseAs f ts m j) i a) (omega arith))
                   (bind-ok _ e₂ (q .says ts (tokens-kept few (p .kept) h) f (omega arith)) (λ b eb tb. rw (is (tokens-kept few (q .kept ∙ p .kept) h) u ek z₂)
                   (met-ok {a = assignElement (placeAt ts i i) (tokenAt ts i .text) a b} refl
                   (made T₃ i i x y (tokens-kept few (q .kept ∙ p .kept) h) (omega arith) eT ∙ cc (is-assign-element (placeAt ts i i) (tokenAt ts i .text) a b T))))))));
             }
 
 -- NO STATEMENT
-pub no-statement : {n i k : ℕ} {T : List ℕ} {b : Bool} → k ≡ kindIn T n i → k ≢ 38 → k ≢ 10 → k ≢ 23 → k ≢ 19 → b ≡ isName k → b ≡ false
+pub no-statement : {n i k : ℕ} {T : List ℕ} {b : Bool} → k ≡ kindInTable T n i → k ≢ 38 → k ≢ 10 → k ≢ 23 → k ≢ 19 → b ≡ isName k → b ≡ false
     → ModePost aStatement n n i T (Bad i) T
 unfolding step
 no-statement {i = i} ek z₁ z₂ z₃ z₄ eb t =

@@ -7,7 +7,7 @@ use mathlib.Core.Logic.{_≢_}
 use mathlib.Core.Bool.{Bool, true, false}
 use native.Mathlib.Omega.{arith}
 use borrow.Author.Tests.{ne-eqb}
-use Rattle.base.specs.Table.{put}
+use Rattle.base.specs.contracts.Table.{put}
 use Rattle.lexer.specs.Kinds.{isName}
 use Rattle.lexer.specs.Tokens.{Token}
 use Rattle.parser.specs.declared.answer.Answer.{Answer}
@@ -15,15 +15,15 @@ use Rattle.parser.specs.declared.answer.Answer.the-variants.{At, Bad}
 use Rattle.parser.specs.Tree.{Variable}
 use Rattle.parser.specs.Stream.{nameAt}
 use Rattle.parser.specs.Parse.{typeFrom, variableFrom, beginsVariable, variablesFrom, someParameters, parametersFrom}
-use Rattle.parser.specs.Layout.{given, rowVariables, storeVariable, storeVariables}
-use Rattle.parser.specs.Post.{kindIn, TokensIn, met-ok, met-bad}
-use Rattle.parser.specs.DeclarationPost.{aType, aVariable, variableList, parameterList, formals, DeclPost, startsVariable}
+use Rattle.parser.specs.contracts.Layout.{given, rowVariables, storeVariable, storeVariables}
+use Rattle.parser.specs.contracts.Post.{kindInTable, TokensIn, met-ok, met-bad}
+use Rattle.parser.specs.contracts.DeclarationPost.{aType, aVariable, variableList, parameterList, formals, DeclPost, startsVariable}
 use Rattle.parser.proofs.Laws.{there, tokens-kept, given-put, is, is-not, passes, bind-ok, bind-bad, at-suc, within-ok, plus-three}
 use Rattle.parser.proofs.Postfix.{name-there}
 
 -- TYPES
-module _ {n i k : ℕ} {T : List ℕ} (ek : k ≡ kindIn T n i) where
-  pub type-array : {k₁ k₂ : ℕ} → k ≡ 11 → k₁ ≡ kindIn T n (i + 1) → k₁ ≡ 36 → k₂ ≡ kindIn T n (i + 2) → k₂ ≡ 37 → DeclPost aType n i T (At i (i + 3)) T
+module _ {n i k : ℕ} {T : List ℕ} (ek : k ≡ kindInTable T n i) where
+  pub type-array : {k₁ k₂ : ℕ} → k ≡ 11 → k₁ ≡ kindInTable T n (i + 1) → k₁ ≡ 36 → k₂ ≡ kindInTable T n (i + 2) → k₂ ≡ 37 → DeclPost aType n i T (At i (i + 3)) T
   unfolding typeFrom
   type-array z ek₁ z₁ ek₂ z₂ =
       let l = there T n (i + 2) _ 37 ek₂ z₂ (omega arith) in
@@ -33,12 +33,12 @@ module _ {n i k : ℕ} {T : List ℕ} (ek : k ≡ kindIn T n i) where
         says = λ ts h f enough. rw (is h i ek z, is h (i + 1) ek₁ z₁, is h (i + 2) ek₂ z₂, plus-three i) (met-ok refl refl);
       }
 
-  pub type-open : {k₁ k₂ : ℕ} → k ≡ 11 → k₁ ≡ kindIn T n (i + 1) → k₁ ≡ 36 → k₂ ≡ kindIn T n (i + 2) → k₂ ≢ 37 → DeclPost aType n i T (Bad (i + 2)) T
+  pub type-open : {k₁ k₂ : ℕ} → k ≡ 11 → k₁ ≡ kindInTable T n (i + 1) → k₁ ≡ 36 → k₂ ≡ kindInTable T n (i + 2) → k₂ ≢ 37 → DeclPost aType n i T (Bad (i + 2)) T
   unfolding typeFrom
   type-open z ek₁ z₁ ek₂ z₂ =
       record { kept = refl; within = tt; says = λ ts h f enough. rw (is h i ek z, is h (i + 1) ek₁ z₁, is-not h (i + 2) ek₂ z₂) met-bad }
 
-  pub type-int : {k₁ : ℕ} → k ≡ 11 → k₁ ≡ kindIn T n (i + 1) → k₁ ≢ 36 → DeclPost aType n i T (At i (i + 1)) T
+  pub type-int : {k₁ : ℕ} → k ≡ 11 → k₁ ≡ kindInTable T n (i + 1) → k₁ ≢ 36 → DeclPost aType n i T (At i (i + 1)) T
   unfolding typeFrom
   type-int z ek₁ z₁ =
       let l = there T n i _ 11 ek z (omega arith) in
@@ -79,7 +79,7 @@ module _ {n i : ℕ} {T : List ℕ} {r₁ : Answer} (p : DeclPost aType n i T r�
   unfolding variableFrom
   variable-bad e = record { kept = refl; within = tt; says = λ ts h f enough. bind-bad _ e (p .says ts h f enough) }
 
-  module _ {x j k : ℕ} {b : Bool} (e : r₁ ≡ At x j) (ek : k ≡ kindIn T n j) (eb : b ≡ isName k) where
+  module _ {x j k : ℕ} {b : Bool} (e : r₁ ≡ At x j) (ek : k ≡ kindInTable T n j) (eb : b ≡ isName k) where
     pub variable-ok : {T₁ : List ℕ} → b ≡ true → T₁ ≡ put T 3 j x → DeclPost aVariable n i T (At j (j + 1)) T₁
     unfolding variableFrom
     variable-ok {T₁} t eT =
@@ -98,7 +98,7 @@ module _ {n i : ℕ} {T : List ℕ} {r₁ : Answer} (p : DeclPost aType n i T r�
         record { kept = refl; within = tt; says = λ ts h f enough. bind-ok _ e (p .says ts h f enough) (λ u eu tu. rw (passes h isName j ek (sym eb ∙ t)) met-bad) }
 
 -- WHERE A VARIABLE BEGINS
-module _ (T : List ℕ) (c : Bool) (n i k : ℕ) (ek : k ≡ kindIn T n i) where
+module _ (T : List ℕ) (c : Bool) (n i k : ℕ) (ek : k ≡ kindInTable T n i) where
   pub starts-int : k ≡ 11 → true ≡ startsVariable T c n i
   unfolding startsVariable
   starts-int z = rw (← ek, z) refl
@@ -112,7 +112,7 @@ module _ (T : List ℕ) (c : Bool) (n i k : ℕ) (ek : k ≡ kindIn T n i) where
     unfolding startsVariable
     starts-field t t′ = rw (← ek, ne-eqb k 11 z, ne-eqb k 5 z′, sym eb ∙ t, t′) refl
 
-    pub starts-local : {k′ : ℕ} {b′ : Bool} → b ≡ true → c ≡ false → k′ ≡ kindIn T n (i + 1) → b′ ≡ isName k′ → b′ ≡ startsVariable T c n i
+    pub starts-local : {k′ : ℕ} {b′ : Bool} → b ≡ true → c ≡ false → k′ ≡ kindInTable T n (i + 1) → b′ ≡ isName k′ → b′ ≡ startsVariable T c n i
     unfolding startsVariable
     starts-local t t′ ek′ eb′ = rw (← ek, ne-eqb k 11 z, ne-eqb k 5 z′, sym eb ∙ t, t′, ← ek′) eb′
 
@@ -154,7 +154,7 @@ module _ {n i : ℕ} {T : List ℕ} {c : Bool} where
           says = λ ts h. at-suc (λ f. variablesFrom f c ts i) (λ f enough. rw (begins T c n i h ∙ s) (bind-bad _ e (p .says ts h (suc f) (omega arith))));
         }
 
-    module _ {x j k : ℕ} (few : n ≤ 2048) (e : r₁ ≡ At x j) (ek : k ≡ kindIn T₁ n j) where
+    module _ {x j k : ℕ} (few : n ≤ 2048) (e : r₁ ≡ At x j) (ek : k ≡ kindInTable T₁ n j) where
       pub variables-semicolon : k ≢ 33 → DeclPost (variableList c) n i T (Bad j) T₁
       unfolding variablesFrom
       variables-semicolon z =
@@ -203,7 +203,7 @@ module _ {n i : ℕ} {T T₁ : List ℕ} {r₁ : Answer} (p : DeclPost aVariable
         says = λ ts h. at-suc (λ f. someParameters f ts i) (λ f enough. bind-bad _ e (p .says ts h (suc f) (omega arith)));
       }
 
-  module _ {x j k : ℕ} (few : n ≤ 2048) (e : r₁ ≡ At x j) (ek : k ≡ kindIn T₁ n j) where
+  module _ {x j k : ℕ} (few : n ≤ 2048) (e : r₁ ≡ At x j) (ek : k ≡ kindInTable T₁ n j) where
     pub parameter-last : {T₂ : List ℕ} → k ≡ 35 → T₂ ≡ put T₁ 6 x 2048 → DeclPost parameterList n i T (At x (j + 1)) T₂
     unfolding someParameters
     parameter-last {T₂} z eT =
@@ -253,7 +253,7 @@ module _ {n i : ℕ} {T T₁ : List ℕ} {r₁ : Answer} (p : DeclPost aVariable
                 (λ u eu tu. rw (is (tokens-kept few (p .kept) h) j ek z) (bind-bad _ e₂ (q .says ts (tokens-kept few (p .kept) h) f (omega arith)))));
           }
 
-module _ {n i k : ℕ} {T : List ℕ} (ek : k ≡ kindIn T n i) where
+module _ {n i k : ℕ} {T : List ℕ} (ek : k ≡ kindInTable T n i) where
   pub formals-none : k ≡ 35 → DeclPost formals n i T (At 2048 (i + 1)) T
   unfolding parametersFrom
   formals-none z =

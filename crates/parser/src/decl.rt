@@ -1,5 +1,6 @@
 // Declarations, by recursive descent.
 use crate::answer::Answer;
+use crate::columns;
 use crate::expr::operation;
 use crate::kinds::is_name;
 use crate::stmt::list;
@@ -16,21 +17,26 @@ use lexer::kinds::CLOSE_BRACKET;
 use lexer::kinds::COMMA;
 use lexer::kinds::EXTENDS;
 use lexer::kinds::INT;
+use lexer::kinds::MAIN;
+use lexer::kinds::NAME;
 use lexer::kinds::OPEN;
 use lexer::kinds::OPEN_BRACE;
 use lexer::kinds::OPEN_BRACKET;
 use lexer::kinds::PUBLIC;
 use lexer::kinds::RETURN;
 use lexer::kinds::SEMICOLON;
+use lexer::kinds::STATIC;
+use lexer::kinds::STRING;
+use lexer::kinds::VOID;
 ghost use mathlib.Core.Path.{_≡_};
 ghost use mathlib.Core.Bool.{true};
 ghost use Prim.Native.Nat.{_+_, _<_, _≤_};
 ghost use lib.ListN.{length};
-ghost use Rattle.parser.specs.Layout.{methodRow, classRow};
-ghost use Rattle.parser.specs.Post.{Ready, kindIn};
-ghost use Rattle.parser.specs.DeclarationPost.{DeclPost, LocalsPost, BodyPost, ReturnedPost, MembersPost, ClassMethodsPost, ProgramPost};
-ghost use Rattle.parser.specs.DeclarationPost.{startsVariable, EndsThere};
-ghost use Rattle.parser.specs.DeclarationPost.{aType, aVariable, variableList, parameterList, formals, aMethod, methodList, aParent, aClass, classList};
+ghost use Rattle.parser.specs.contracts.Layout.{methodRow, classRow};
+ghost use Rattle.parser.specs.contracts.Post.{Parsable, kindInTable};
+ghost use Rattle.parser.specs.contracts.DeclarationPost.{DeclPost, LocalsPost, BodyPost, ReturnedPost, MembersPost, ClassMethodsPost, ProgramPost};
+ghost use Rattle.parser.specs.contracts.DeclarationPost.{startsVariable, EndsThere};
+ghost use Rattle.parser.specs.contracts.DeclarationPost.{aType, aVariable, variableList, parameterList, formals, aMethod, methodList, aParent, aClass, classList};
 
 // A type; its row is that of its first token.
 fn type_use(table: &[u32], n: usize, i: usize) -> Answer
@@ -58,14 +64,14 @@ fn type_use(table: &[u32], n: usize, i: usize) -> Answer
 
 // A type and a name.
 fn variable(table: &mut [u32], n: usize, i: usize) -> Answer
-    requires { ⌜ Ready (now table) n i ⌝ }
+    requires { ⌜ Parsable (now table) n i ⌝ }
     ensures { λ r. ⌜ DeclPost aVariable n i (now (table .entry)) r (now (table .exit)) × EndsThere r ⌝ }
 {
     let a = type_use(table, n, i);
     match a {
         Answer::At(row, next) => {
             if is_name(kind(table, n, next)) {
-                put(table, 3, next, row);
+                put(table, columns::TYPE, next, row);
                 return Answer::At(next, next + 1);
             }
             Answer::Bad(next)
@@ -97,18 +103,18 @@ fn starts_variable(table: &[u32], in_class: bool, n: usize, i: usize) -> bool
 
 // Fields or locals, each with its `;`.
 fn variables(table: &mut [u32], in_class: bool, n: usize, i: usize) -> Answer
-    requires { ⌜ Ready (now table) n i ⌝ }
+    requires { ⌜ Parsable (now table) n i ⌝ }
     ensures { λ r. ⌜ DeclPost (variableList «in_class») n i (now (table .entry)) r (now (table .exit)) ⌝ }
 {
     if starts_variable(table, in_class, n, i) {
         return some_variables(table, in_class, n, i);
     }
-    Answer::At(2048, i)
+    Answer::At(columns::ABSENT, i)
 }
 
 // One or more of them.
 fn some_variables(table: &mut [u32], in_class: bool, n: usize, i: usize) -> Answer
-    requires { ⌜ Ready (now table) n i × (startsVariable (now table) «in_class» n i ≡ true) ⌝ }
+    requires { ⌜ Parsable (now table) n i × (startsVariable (now table) «in_class» n i ≡ true) ⌝ }
     ensures { λ r. ⌜ DeclPost (variableList «in_class») n i (now (table .entry)) r (now (table .exit)) ⌝ }
 {
     let a = variable(table, n, i);
@@ -134,18 +140,18 @@ fn some_variables(table: &mut [u32], in_class: bool, n: usize, i: usize) -> Answ
 
 // Parameters, with the `)` that ends them.
 fn parameters(table: &mut [u32], n: usize, i: usize) -> Answer
-    requires { ⌜ Ready (now table) n i ⌝ }
+    requires { ⌜ Parsable (now table) n i ⌝ }
     ensures { λ r. ⌜ DeclPost formals n i (now (table .entry)) r (now (table .exit)) ⌝ }
 {
     if kind(table, n, i) == CLOSE {
-        return Answer::At(2048, i + 1);
+        return Answer::At(columns::ABSENT, i + 1);
     }
     some_parameters(table, n, i)
 }
 
 // One or more of them.
 fn some_parameters(table: &mut [u32], n: usize, i: usize) -> Answer
-    requires { ⌜ Ready (now table) n i ⌝ }
+    requires { ⌜ Parsable (now table) n i ⌝ }
     ensures { λ r. ⌜ DeclPost parameterList n i (now (table .entry)) r (now (table .exit)) ⌝ }
 {
     let a = variable(table, n, i);
@@ -153,7 +159,7 @@ fn some_parameters(table: &mut [u32], n: usize, i: usize) -> Answer
         Answer::At(row, next) => {
             let k = kind(table, n, next);
             if k == CLOSE {
-                link(table, row, 2048);
+                link(table, row, columns::ABSENT);
                 return Answer::At(row, next + 1);
             }
             if k == COMMA {
@@ -176,7 +182,7 @@ fn some_parameters(table: &mut [u32], n: usize, i: usize) -> Answer
 
 // A method, from `public` to the `}` of its body.
 fn method(table: &mut [u32], n: usize, i: usize) -> Answer
-    requires { ⌜ Ready (now table) n i × (kindIn (now table) n i ≡ 15) ⌝ }
+    requires { ⌜ Parsable (now table) n i × (kindInTable (now table) n i ≡ 15) ⌝ }
     ensures { λ r. ⌜ DeclPost aMethod n i (now (table .entry)) r (now (table .exit)) ⌝ }
 {
     let a = variable(table, n, i + 1);
@@ -201,7 +207,7 @@ fn method(table: &mut [u32], n: usize, i: usize) -> Answer
 
 // A method after its parameters.
 fn locals(table: &mut [u32], n: usize, name: usize, first: usize, j: usize) -> Answer
-    requires { ⌜ Ready (now table) n j × (name + 1 < n) × (first ≤ 2048) ⌝ }
+    requires { ⌜ Parsable (now table) n j × (name + 1 < n) × (first ≤ 2048) ⌝ }
     ensures { λ r. ⌜ LocalsPost n name first j (now (table .entry)) r (now (table .exit)) ⌝ }
 {
     if kind(table, n, j) == OPEN_BRACE {
@@ -220,7 +226,7 @@ fn locals(table: &mut [u32], n: usize, name: usize, first: usize, j: usize) -> A
 
 // A method after its locals.
 fn body(table: &mut [u32], n: usize, name: usize, first: usize, second: usize, j: usize) -> Answer
-    requires { ⌜ Ready (now table) n j × (name + 1 < n) × (first ≤ 2048) × (second ≤ 2048) ⌝ }
+    requires { ⌜ Parsable (now table) n j × (name + 1 < n) × (first ≤ 2048) × (second ≤ 2048) ⌝ }
     ensures { λ r. ⌜ BodyPost n name first second j (now (table .entry)) r (now (table .exit)) ⌝ }
 {
     let a = list(table, n, j);
@@ -245,13 +251,13 @@ fn returned(
     start: usize,
     j: usize,
 ) -> Answer
-    requires { ⌜ Ready (now table) n j × (name + 1 < n) × (first ≤ 2048) × (second ≤ 2048) × (start ≤ 2048) ⌝ }
+    requires { ⌜ Parsable (now table) n j × (name + 1 < n) × (first ≤ 2048) × (second ≤ 2048) × (start ≤ 2048) ⌝ }
     ensures { λ r. ⌜ ReturnedPost n name first second start j (now (table .entry)) r (now (table .exit)) ⌝ }
 {
     let a = operation(table, n, 0, j);
     match a {
         Answer::At(value, next) => {
-            let end = [33u32, 39];
+            let end = [SEMICOLON, CLOSE_BRACE];
             let m = matched(table, n, next, &end);
             if m < 2 {
                 return Answer::Bad(next + m);
@@ -275,15 +281,15 @@ fn method_row(
     requires { ⌜ (16384 ≤ length (now table)) × (name + 1 < 2048) × (first ≤ 2048) × (second ≤ 2048) × (start ≤ 2048) × (value ≤ 2048) ⌝ }
     ensures { λ _. ⌜ now (table .exit) ≡ methodRow (now (table .entry)) name first second start value ⌝ }
 {
-    put(table, 4, name, first);
-    put(table, 5, name, second);
-    put(table, 4, name + 1, start);
-    put(table, 5, name + 1, value);
+    put(table, columns::PARAMETERS, name, first);
+    put(table, columns::LOCALS, name, second);
+    put(table, columns::BODY, name + 1, start);
+    put(table, columns::VALUE, name + 1, value);
 }
 
 // Methods, as many as there are.
 fn methods(table: &mut [u32], n: usize, i: usize) -> Answer
-    requires { ⌜ Ready (now table) n i ⌝ }
+    requires { ⌜ Parsable (now table) n i ⌝ }
     ensures { λ r. ⌜ DeclPost methodList n i (now (table .entry)) r (now (table .exit)) ⌝ }
 {
     if kind(table, n, i) == PUBLIC {
@@ -306,7 +312,7 @@ fn methods(table: &mut [u32], n: usize, i: usize) -> Answer
             }
         }
     }
-    Answer::At(2048, i)
+    Answer::At(columns::ABSENT, i)
 }
 
 // `extends` and a name, or nothing; the row is that of the name.
@@ -320,12 +326,12 @@ fn parent(table: &[u32], n: usize, i: usize) -> Answer
         }
         return Answer::Bad(i + 1);
     }
-    Answer::At(2048, i)
+    Answer::At(columns::ABSENT, i)
 }
 
 // A class, from `class` to its `}`.
 fn class(table: &mut [u32], n: usize, i: usize) -> Answer
-    requires { ⌜ Ready (now table) n i ⌝ }
+    requires { ⌜ Parsable (now table) n i ⌝ }
     ensures { λ r. ⌜ DeclPost aClass n i (now (table .entry)) r (now (table .exit)) ⌝ }
 {
     if kind(table, n, i) == CLASS {
@@ -347,7 +353,7 @@ fn class(table: &mut [u32], n: usize, i: usize) -> Answer
 
 // A class after its parent.
 fn members(table: &mut [u32], n: usize, name: usize, above: usize, j: usize) -> Answer
-    requires { ⌜ Ready (now table) n j × (name < n) × (above ≤ 2048) ⌝ }
+    requires { ⌜ Parsable (now table) n j × (name < n) × (above ≤ 2048) ⌝ }
     ensures { λ r. ⌜ MembersPost n name above j (now (table .entry)) r (now (table .exit)) ⌝ }
 {
     if kind(table, n, j) == OPEN_BRACE {
@@ -373,7 +379,7 @@ fn class_methods(
     first: usize,
     j: usize,
 ) -> Answer
-    requires { ⌜ Ready (now table) n j × (name < n) × (above ≤ 2048) × (first ≤ 2048) ⌝ }
+    requires { ⌜ Parsable (now table) n j × (name < n) × (above ≤ 2048) × (first ≤ 2048) ⌝ }
     ensures { λ r. ⌜ ClassMethodsPost n name above first j (now (table .entry)) r (now (table .exit)) ⌝ }
 {
     let a = methods(table, n, j);
@@ -394,18 +400,18 @@ fn class_row(table: &mut [u32], name: usize, above: usize, first: usize, second:
     requires { ⌜ (16384 ≤ length (now table)) × (name < 2048) × (above ≤ 2048) × (first ≤ 2048) × (second ≤ 2048) ⌝ }
     ensures { λ _. ⌜ now (table .exit) ≡ classRow (now (table .entry)) name above first second ⌝ }
 {
-    put(table, 3, name, above);
-    put(table, 4, name, first);
-    put(table, 5, name, second);
+    put(table, columns::PARENT, name, above);
+    put(table, columns::FIELDS, name, first);
+    put(table, columns::METHODS, name, second);
 }
 
 // Classes, up to the last token.
 fn classes(table: &mut [u32], n: usize, i: usize) -> Answer
-    requires { ⌜ Ready (now table) n i ⌝ }
+    requires { ⌜ Parsable (now table) n i ⌝ }
     ensures { λ r. ⌜ DeclPost classList n i (now (table .entry)) r (now (table .exit)) ⌝ }
 {
     if kind(table, n, i) == 0 {
-        return Answer::At(2048, i);
+        return Answer::At(columns::ABSENT, i);
     }
     let a = class(table, n, i);
     match a {
@@ -425,18 +431,33 @@ fn classes(table: &mut [u32], n: usize, i: usize) -> Answer
 
 // A program: main's head, its statement, its end, and the other classes, the first of which is kept in row 0.
 pub fn program(table: &mut [u32], n: usize) -> Answer
-    requires { ⌜ Ready (now table) n 0 ⌝ }
+    requires { ⌜ Parsable (now table) n 0 ⌝ }
     ensures { λ r. ⌜ ProgramPost n (now (table .entry)) r (now (table .exit)) ⌝ }
 {
-    let head = [6u32, 1, 38, 15, 17, 22, 13, 34, 18, 36, 37, 1, 35, 38];
+    let head = [
+        CLASS,
+        NAME,
+        OPEN_BRACE,
+        PUBLIC,
+        STATIC,
+        VOID,
+        MAIN,
+        OPEN,
+        STRING,
+        OPEN_BRACKET,
+        CLOSE_BRACKET,
+        NAME,
+        CLOSE,
+        OPEN_BRACE,
+    ];
     let m = matched(table, n, 0, &head);
     if m < 14 {
         return Answer::Bad(m);
     }
-    let a = single(table, n, 14);
+    let a = single(table, n, columns::MAIN_STATEMENT);
     match a {
         Answer::At(_, next) => {
-            let end = [39u32, 39];
+            let end = [CLOSE_BRACE, CLOSE_BRACE];
             let e = matched(table, n, next, &end);
             if e < 2 {
                 return Answer::Bad(next + e);

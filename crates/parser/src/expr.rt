@@ -1,6 +1,7 @@
 // Expressions, by recursive descent. A level is that of the binary operators looked for, 0 the loosest. What goes on after an operand or a primary has the
 // number of the token where the whole begins and the row of what stands before.
 use crate::answer::Answer;
+use crate::columns;
 use crate::kinds::is_atom;
 use crate::kinds::is_name;
 use crate::kinds::is_operator;
@@ -22,12 +23,12 @@ ghost use mathlib.Core.Bool.{true};
 ghost use Prim.Native.Nat.{_+_, _<_, _≤_};
 ghost use lib.ListN.{length};
 ghost use Rattle.parser.specs.Parse as Parse;
-ghost use Rattle.parser.specs.Post.{Ready, ModePost, RestPost, LevelsPost, moreOperations, moreSuffixes, levelAt, kindIn, startsArray};
+ghost use Rattle.parser.specs.contracts.Post.{Parsable, ModePost, RestPost, LevelsPost, moreOperations, moreSuffixes, levelAt, kindInTable, startsArray};
 
 // Operands of a level, joined by its operators. At every level a unary expression comes first. It is read here, and the levels are gone through after it, so
 // that an open parenthesis holds one frame of the stack and not one for each level.
 pub fn operation(table: &mut [u32], n: usize, level: u32, i: usize) -> Answer
-    requires { ⌜ Ready (now table) n i × (level ≤ 3) ⌝ }
+    requires { ⌜ Parsable (now table) n i × (level ≤ 3) ⌝ }
     ensures { λ r. ⌜ ModePost (Parse.operation (levelAt level)) n n i (now (table .entry)) r (now (table .exit)) ⌝ }
 {
     let a = unary(table, n, i);
@@ -47,7 +48,7 @@ fn levels(
     left: usize,
     i: usize,
 ) -> Answer
-    requires { ⌜ Ready (now table) n i × (level ≤ top) × (top ≤ 3) × (first < n) × (left < n) ⌝ }
+    requires { ⌜ Parsable (now table) n i × (level ≤ top) × (top ≤ 3) × (first < n) × (left < n) ⌝ }
     ensures { λ r. ⌜ LevelsPost level top n first left i (now (table .entry)) r (now (table .exit)) ⌝ }
 {
     let a = operations(table, n, top, first, left, i);
@@ -71,7 +72,7 @@ fn operations(
     left: usize,
     i: usize,
 ) -> Answer
-    requires { ⌜ Ready (now table) n i × (level ≤ 3) × (first < n) × (left < n) ⌝ }
+    requires { ⌜ Parsable (now table) n i × (level ≤ 3) × (first < n) × (left < n) ⌝ }
     ensures { λ r. ⌜ RestPost (moreOperations (levelAt level) first) n left i (now (table .entry)) r (now (table .exit)) ⌝ }
 {
     let k = kind(table, n, i);
@@ -91,7 +92,7 @@ fn operations(
 
 // An operand of a level: of the next one, or a unary expression.
 fn operand(table: &mut [u32], n: usize, level: u32, i: usize) -> Answer
-    requires { ⌜ Ready (now table) n i × (level ≤ 3) ⌝ }
+    requires { ⌜ Parsable (now table) n i × (level ≤ 3) ⌝ }
     ensures { λ r. ⌜ ModePost (Parse.operand (levelAt level)) n n i (now (table .entry)) r (now (table .exit)) ⌝ }
 {
     if level < 3 {
@@ -103,14 +104,14 @@ fn operand(table: &mut [u32], n: usize, level: u32, i: usize) -> Answer
 
 // Any number of `!`, and a postfix expression.
 fn unary(table: &mut [u32], n: usize, i: usize) -> Answer
-    requires { ⌜ Ready (now table) n i ⌝ }
+    requires { ⌜ Parsable (now table) n i ⌝ }
     ensures { λ r. ⌜ ModePost Parse.unary n n i (now (table .entry)) r (now (table .exit)) ⌝ }
 {
     if kind(table, n, i) == NOT {
         let a = unary(table, n, i + 1);
         match a {
             Answer::At(row, next) => {
-                node(table, i, i, row, 2048);
+                node(table, i, i, row, columns::ABSENT);
                 Answer::At(i, next)
             }
             Answer::Bad(at) => Answer::Bad(at),
@@ -133,7 +134,7 @@ fn starts_array(table: &[u32], n: usize, i: usize) -> bool
 
 // A primary, or `new int[e]`, and what follows it.
 fn postfix(table: &mut [u32], n: usize, i: usize) -> Answer
-    requires { ⌜ Ready (now table) n i ⌝ }
+    requires { ⌜ Parsable (now table) n i ⌝ }
     ensures { λ r. ⌜ ModePost Parse.postfix n n i (now (table .entry)) r (now (table .exit)) ⌝ }
 {
     if starts_array(table, n, i) {
@@ -148,7 +149,7 @@ fn postfix(table: &mut [u32], n: usize, i: usize) -> Answer
 
 // `new int[e]`, which a `[` does not directly follow.
 fn new_array(table: &mut [u32], n: usize, i: usize) -> Answer
-    requires { ⌜ Ready (now table) n i × (startsArray (now table) n i ≡ true) ⌝ }
+    requires { ⌜ Parsable (now table) n i × (startsArray (now table) n i ≡ true) ⌝ }
     ensures { λ r. ⌜ ModePost Parse.postfix n n i (now (table .entry)) r (now (table .exit)) ⌝ }
 {
     if kind(table, n, i + 2) == OPEN_BRACKET {
@@ -156,7 +157,7 @@ fn new_array(table: &mut [u32], n: usize, i: usize) -> Answer
         match a {
             Answer::At(row, next) => {
                 if kind(table, n, next) == CLOSE_BRACKET {
-                    node(table, i, i, row, 2048);
+                    node(table, i, i, row, columns::ABSENT);
                     return suffixes(table, n, false, i, i, next + 1);
                 }
                 return Answer::Bad(next);
@@ -178,7 +179,7 @@ fn suffixes(
     left: usize,
     i: usize,
 ) -> Answer
-    requires { ⌜ Ready (now table) n i × (first < n) × (left < n) ⌝ }
+    requires { ⌜ Parsable (now table) n i × (first < n) × (left < n) ⌝ }
     ensures { λ r. ⌜ RestPost (moreSuffixes indexable first) n left i (now (table .entry)) r (now (table .exit)) ⌝ }
 {
     let k = kind(table, n, i);
@@ -190,7 +191,7 @@ fn suffixes(
     }
     if k == DOT {
         if kind(table, n, i + 1) == LENGTH {
-            node(table, i, first, left, 2048);
+            node(table, i, first, left, columns::ABSENT);
             return suffixes(table, n, true, first, i, i + 2);
         }
         return call(table, n, indexable, first, left, i);
@@ -200,7 +201,7 @@ fn suffixes(
 
 // `[e]` and what follows it.
 fn element(table: &mut [u32], n: usize, first: usize, left: usize, i: usize) -> Answer
-    requires { ⌜ Ready (now table) n i × (first < n) × (left < n) × (kindIn (now table) n i ≡ 36) ⌝ }
+    requires { ⌜ Parsable (now table) n i × (first < n) × (left < n) × (kindInTable (now table) n i ≡ 36) ⌝ }
     ensures { λ r. ⌜ RestPost (moreSuffixes true first) n left i (now (table .entry)) r (now (table .exit)) ⌝ }
 {
     let a = operation(table, n, 0, i + 1);
@@ -218,7 +219,7 @@ fn element(table: &mut [u32], n: usize, first: usize, left: usize, i: usize) -> 
 
 // `.m(e, ..)` and what follows it.
 fn call(table: &mut [u32], n: usize, indexable: bool, first: usize, left: usize, i: usize) -> Answer
-    requires { ⌜ Ready (now table) n i × (first < n) × (left < n) × (kindIn (now table) n i ≡ 31) × (kindIn (now table) n (i + 1) ≡ 12 → ⊥) ⌝ }
+    requires { ⌜ Parsable (now table) n i × (first < n) × (left < n) × (kindInTable (now table) n i ≡ 31) × (kindInTable (now table) n (i + 1) ≡ 12 → ⊥) ⌝ }
     ensures { λ r. ⌜ RestPost (moreSuffixes indexable first) n left i (now (table .entry)) r (now (table .exit)) ⌝ }
 {
     if is_name(kind(table, n, i + 1)) {
@@ -241,12 +242,12 @@ fn call(table: &mut [u32], n: usize, indexable: bool, first: usize, left: usize,
 
 // A literal, a truth value, a name, `this`, `new C()` or an expression in parentheses.
 fn primary(table: &mut [u32], n: usize, i: usize) -> Answer
-    requires { ⌜ Ready (now table) n i ⌝ }
+    requires { ⌜ Parsable (now table) n i ⌝ }
     ensures { λ r. ⌜ ModePost Parse.primary n n i (now (table .entry)) r (now (table .exit)) ⌝ }
 {
     let k = kind(table, n, i);
     if is_atom(k) {
-        node(table, i, i, 2048, 2048);
+        node(table, i, i, columns::ABSENT, columns::ABSENT);
         return Answer::At(i, i + 1);
     }
     if k == NEW {
@@ -260,13 +261,13 @@ fn primary(table: &mut [u32], n: usize, i: usize) -> Answer
 
 // `new C()`.
 fn new_object(table: &mut [u32], n: usize, i: usize) -> Answer
-    requires { ⌜ Ready (now table) n i × (kindIn (now table) n i ≡ 14) ⌝ }
+    requires { ⌜ Parsable (now table) n i × (kindInTable (now table) n i ≡ 14) ⌝ }
     ensures { λ r. ⌜ ModePost Parse.primary n n i (now (table .entry)) r (now (table .exit)) ⌝ }
 {
     if is_name(kind(table, n, i + 1)) {
         if kind(table, n, i + 2) == OPEN {
             if kind(table, n, i + 3) == CLOSE {
-                node(table, i, i, 2048, 2048);
+                node(table, i, i, columns::ABSENT, columns::ABSENT);
                 return Answer::At(i, i + 4);
             }
             return Answer::Bad(i + 3);
@@ -278,7 +279,7 @@ fn new_object(table: &mut [u32], n: usize, i: usize) -> Answer
 
 // `(e)`, which makes no node.
 fn parentheses(table: &mut [u32], n: usize, i: usize) -> Answer
-    requires { ⌜ Ready (now table) n i × (kindIn (now table) n i ≡ 34) ⌝ }
+    requires { ⌜ Parsable (now table) n i × (kindInTable (now table) n i ≡ 34) ⌝ }
     ensures { λ r. ⌜ ModePost Parse.primary n n i (now (table .entry)) r (now (table .exit)) ⌝ }
 {
     let a = operation(table, n, 0, i + 1);
@@ -295,11 +296,11 @@ fn parentheses(table: &mut [u32], n: usize, i: usize) -> Answer
 
 // The arguments of a call, with the `)` that ends them.
 fn arguments(table: &mut [u32], n: usize, i: usize) -> Answer
-    requires { ⌜ Ready (now table) n i ⌝ }
+    requires { ⌜ Parsable (now table) n i ⌝ }
     ensures { λ r. ⌜ ModePost Parse.argumentList n 2049 i (now (table .entry)) r (now (table .exit)) ⌝ }
 {
     if kind(table, n, i) == CLOSE {
-        Answer::At(2048, i + 1)
+        Answer::At(columns::ABSENT, i + 1)
     } else {
         some_arguments(table, n, i)
     }
@@ -307,7 +308,7 @@ fn arguments(table: &mut [u32], n: usize, i: usize) -> Answer
 
 // One or more arguments.
 fn some_arguments(table: &mut [u32], n: usize, i: usize) -> Answer
-    requires { ⌜ Ready (now table) n i ⌝ }
+    requires { ⌜ Parsable (now table) n i ⌝ }
     ensures { λ r. ⌜ ModePost Parse.someArguments n 2049 i (now (table .entry)) r (now (table .exit)) ⌝ }
 {
     let a = operation(table, n, 0, i);
@@ -315,7 +316,7 @@ fn some_arguments(table: &mut [u32], n: usize, i: usize) -> Answer
         Answer::At(row, next) => {
             let k = kind(table, n, next);
             if k == CLOSE {
-                link(table, row, 2048);
+                link(table, row, columns::ABSENT);
                 return Answer::At(row, next + 1);
             }
             if k == COMMA {

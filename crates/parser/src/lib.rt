@@ -1,5 +1,6 @@
 // From tokens to the tree, both in the work table.
 pub mod answer;
+pub mod columns;
 pub mod decl;
 pub mod expr;
 pub mod kinds;

@@ -1,5 +1,6 @@
 // Statements, by recursive descent.
 use crate::answer::Answer;
+use crate::columns;
 use crate::expr::operation;
 use crate::kinds::begins_statement;
 use crate::kinds::is_name;
@@ -11,11 +12,15 @@ use crate::table::third;
 use lexer::kinds::ASSIGN;
 use lexer::kinds::CLOSE;
 use lexer::kinds::CLOSE_BRACE;
+use lexer::kinds::CLOSE_BRACKET;
+use lexer::kinds::DOT;
 use lexer::kinds::ELSE;
 use lexer::kinds::IF;
 use lexer::kinds::OPEN;
 use lexer::kinds::OPEN_BRACE;
 use lexer::kinds::OPEN_BRACKET;
+use lexer::kinds::OUT;
+use lexer::kinds::PRINTLN;
 use lexer::kinds::SEMICOLON;
 use lexer::kinds::SYSTEM;
 use lexer::kinds::WHILE;
@@ -24,11 +29,11 @@ ghost use mathlib.Core.Bool.{true};
 ghost use Prim.Native.Nat.{_+_, _<_};
 ghost use Rattle.lexer.specs.Kinds.{isName};
 ghost use Rattle.parser.specs.Parse.{aStatement};
-ghost use Rattle.parser.specs.Post.{Ready, ModePost, ListPost, TailPost, branching, repeating, kindIn};
+ghost use Rattle.parser.specs.contracts.Post.{Parsable, ModePost, ListPost, TailPost, branching, repeating, kindInTable};
 
 // One statement.
 pub fn single(table: &mut [u32], n: usize, i: usize) -> Answer
-    requires { ⌜ Ready (now table) n i ⌝ }
+    requires { ⌜ Parsable (now table) n i ⌝ }
     ensures { λ r. ⌜ ModePost aStatement n n i (now (table .entry)) r (now (table .exit)) ⌝ }
 {
     let k = kind(table, n, i);
@@ -52,7 +57,7 @@ pub fn single(table: &mut [u32], n: usize, i: usize) -> Answer
 
 // Statements, as many as there are.
 pub fn list(table: &mut [u32], n: usize, i: usize) -> Answer
-    requires { ⌜ Ready (now table) n i ⌝ }
+    requires { ⌜ Parsable (now table) n i ⌝ }
     ensures { λ r. ⌜ ListPost n i (now (table .entry)) r (now (table .exit)) ⌝ }
 {
     if begins_statement(kind(table, n, i)) {
@@ -75,19 +80,19 @@ pub fn list(table: &mut [u32], n: usize, i: usize) -> Answer
             }
         }
     }
-    Answer::At(2048, i)
+    Answer::At(columns::ABSENT, i)
 }
 
 // `{ .. }`
 fn block(table: &mut [u32], n: usize, i: usize) -> Answer
-    requires { ⌜ Ready (now table) n i × (kindIn (now table) n i ≡ 38) ⌝ }
+    requires { ⌜ Parsable (now table) n i × (kindInTable (now table) n i ≡ 38) ⌝ }
     ensures { λ r. ⌜ ModePost aStatement n n i (now (table .entry)) r (now (table .exit)) ⌝ }
 {
     let a = list(table, n, i + 1);
     match a {
         Answer::At(row, next) => {
             if kind(table, n, next) == CLOSE_BRACE {
-                node(table, i, i, row, 2048);
+                node(table, i, i, row, columns::ABSENT);
                 return Answer::At(i, next + 1);
             }
             Answer::Bad(next)
@@ -98,7 +103,7 @@ fn block(table: &mut [u32], n: usize, i: usize) -> Answer
 
 // `if (e) s else t`
 fn conditional(table: &mut [u32], n: usize, i: usize) -> Answer
-    requires { ⌜ Ready (now table) n i × (kindIn (now table) n i ≡ 10) ⌝ }
+    requires { ⌜ Parsable (now table) n i × (kindInTable (now table) n i ≡ 10) ⌝ }
     ensures { λ r. ⌜ ModePost aStatement n n i (now (table .entry)) r (now (table .exit)) ⌝ }
 {
     if kind(table, n, i + 1) == OPEN {
@@ -120,7 +125,7 @@ fn conditional(table: &mut [u32], n: usize, i: usize) -> Answer
 
 // `s else t`, after a test
 fn branches(table: &mut [u32], n: usize, i: usize, test: usize, j: usize) -> Answer
-    requires { ⌜ Ready (now table) n j × (i < j) × (test < n) ⌝ }
+    requires { ⌜ Parsable (now table) n j × (i < j) × (test < n) ⌝ }
     ensures { λ r. ⌜ TailPost branching n i test j (now (table .entry)) r (now (table .exit)) ⌝ }
 {
     let a = single(table, n, j);
@@ -147,7 +152,7 @@ fn branches(table: &mut [u32], n: usize, i: usize, test: usize, j: usize) -> Ans
 
 // `while (e) s`
 fn while_loop(table: &mut [u32], n: usize, i: usize) -> Answer
-    requires { ⌜ Ready (now table) n i × (kindIn (now table) n i ≡ 23) ⌝ }
+    requires { ⌜ Parsable (now table) n i × (kindInTable (now table) n i ≡ 23) ⌝ }
     ensures { λ r. ⌜ ModePost aStatement n n i (now (table .entry)) r (now (table .exit)) ⌝ }
 {
     if kind(table, n, i + 1) == OPEN {
@@ -169,7 +174,7 @@ fn while_loop(table: &mut [u32], n: usize, i: usize) -> Answer
 
 // `s`, after the test of a `while`
 fn repeated(table: &mut [u32], n: usize, i: usize, test: usize, j: usize) -> Answer
-    requires { ⌜ Ready (now table) n j × (i < j) × (test < n) ⌝ }
+    requires { ⌜ Parsable (now table) n j × (i < j) × (test < n) ⌝ }
     ensures { λ r. ⌜ TailPost repeating n i test j (now (table .entry)) r (now (table .exit)) ⌝ }
 {
     let a = single(table, n, j);
@@ -184,10 +189,10 @@ fn repeated(table: &mut [u32], n: usize, i: usize, test: usize, j: usize) -> Ans
 
 // `System.out.println(e);`
 fn print(table: &mut [u32], n: usize, i: usize) -> Answer
-    requires { ⌜ Ready (now table) n i × (kindIn (now table) n i ≡ 19) ⌝ }
+    requires { ⌜ Parsable (now table) n i × (kindInTable (now table) n i ≡ 19) ⌝ }
     ensures { λ r. ⌜ ModePost aStatement n n i (now (table .entry)) r (now (table .exit)) ⌝ }
 {
-    let head = [31u32, 2, 31, 3, 34];
+    let head = [DOT, OUT, DOT, PRINTLN, OPEN];
     let m = matched(table, n, i + 1, &head);
     if m < 5 {
         return Answer::Bad(i + 1 + m);
@@ -195,12 +200,12 @@ fn print(table: &mut [u32], n: usize, i: usize) -> Answer
     let a = operation(table, n, 0, i + 6);
     match a {
         Answer::At(row, next) => {
-            let end = [35u32, 33];
+            let end = [CLOSE, SEMICOLON];
             let e = matched(table, n, next, &end);
             if e < 2 {
                 return Answer::Bad(next + e);
             }
-            node(table, i, i, row, 2048);
+            node(table, i, i, row, columns::ABSENT);
             Answer::At(i, next + 2)
         }
         Answer::Bad(at) => Answer::Bad(at),
@@ -209,7 +214,7 @@ fn print(table: &mut [u32], n: usize, i: usize) -> Answer
 
 // `x = e;` or `x[e] = e;`
 fn assignment(table: &mut [u32], n: usize, i: usize) -> Answer
-    requires { ⌜ Ready (now table) n i × (isName (kindIn (now table) n i) ≡ true) ⌝ }
+    requires { ⌜ Parsable (now table) n i × (isName (kindInTable (now table) n i) ≡ true) ⌝ }
     ensures { λ r. ⌜ ModePost aStatement n n i (now (table .entry)) r (now (table .exit)) ⌝ }
 {
     let k = kind(table, n, i + 1);
@@ -221,7 +226,7 @@ fn assignment(table: &mut [u32], n: usize, i: usize) -> Answer
         match a {
             Answer::At(row, next) => {
                 if kind(table, n, next) == SEMICOLON {
-                    node(table, i, i, row, 2048);
+                    node(table, i, i, row, columns::ABSENT);
                     return Answer::At(i, next + 1);
                 }
                 return Answer::Bad(next);
@@ -236,13 +241,13 @@ fn assignment(table: &mut [u32], n: usize, i: usize) -> Answer
 
 // `x[e] = e;`
 fn assign_element(table: &mut [u32], n: usize, i: usize) -> Answer
-    requires { ⌜ Ready (now table) n i × (isName (kindIn (now table) n i) ≡ true) × (kindIn (now table) n (i + 1) ≡ 36) ⌝ }
+    requires { ⌜ Parsable (now table) n i × (isName (kindInTable (now table) n i) ≡ true) × (kindInTable (now table) n (i + 1) ≡ 36) ⌝ }
     ensures { λ r. ⌜ ModePost aStatement n n i (now (table .entry)) r (now (table .exit)) ⌝ }
 {
     let a = operation(table, n, 0, i + 2);
     match a {
         Answer::At(index, j) => {
-            let end = [37u32, 30];
+            let end = [CLOSE_BRACKET, ASSIGN];
             let m = matched(table, n, j, &end);
             if m < 2 {
                 return Answer::Bad(j + m);

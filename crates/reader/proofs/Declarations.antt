@@ -6,15 +6,15 @@ use mathlib.Core.Bool.{true, false}
 use mathlib.Core.Option.{Option, none}
 use native.Mathlib.Omega.{arith}
 use native.Mathlib.Decide.{decLt}
-use Rattle.base.specs.Table.{col}
+use Rattle.base.specs.contracts.Table.{col}
 use Rattle.lexer.specs.Tokens.{Token}
 use Rattle.parser.specs.Tree.{Method, Class}
-use Rattle.parser.specs.Layout.{absent, rowMethods, rowClasses}
+use Rattle.parser.specs.contracts.Layout.{absent, rowMethods, rowClasses}
 use Rattle.parser.specs.Measure.{deep, methodsNodes, methodsDeep, classesNodes, classesDeep, programNodes, programDeep}
-use Rattle.parser.specs.Post.{TokensIn}
-use Rattle.reader.specs.Holds.{HoldsMethods, HoldsClasses}
-use Rattle.reader.specs.Matches.{MethodsMatch, ClassesMatch}
-use Rattle.reader.specs.WalkPost.{MethodsOrdered, ClassesOrdered, nowhere, countMost, Found, Answers, Walkable, follower, Walks, WalksMethods, WalksClasses, WalksProgram}
+use Rattle.parser.specs.contracts.Post.{TokensIn}
+use Rattle.reader.specs.contracts.Holds.{HoldsMethods, HoldsClasses}
+use Rattle.reader.specs.contracts.Matches.{MethodsMatch, ClassesMatch}
+use Rattle.reader.specs.contracts.WalkPost.{MethodsOrdered, ClassesOrdered, nowhere, countMost, FoundPlace, WalkAnswers, Walkable, follower, Walks, WalksMethods, WalksClasses, WalksProgram}
 use Rattle.reader.specs.declared.walk.Walked.{Walked}
 use Rattle.reader.proofs.Depths.{least-assoc, Joins, nothing, joined, joined-nothing, same-answer}
 use Rattle.reader.proofs.Lists.{follower-up}
@@ -28,7 +28,7 @@ module _ {tab : List ℕ} {n row : ℕ} {w : Walked} where
   methods-absent r far c p = record { says = λ ts tok ms. go ts tok ms }
     where
       go : (ts : List Token) → TokensIn tab n ts → (ms : List Method) → rowMethods ms ≡ row → HoldsMethods tab ms → MethodsMatch ts ms → MethodsOrdered ms
-          → Answers (methodsDeep ms) (methodsNodes ms) w
+          → WalkAnswers (methodsDeep ms) (methodsNodes ms) w
       go ts tok [] e h m o = nothing c p
       go ts tok (x ∷ xs) e h m o = absurd (omega (arith, m .0 .after .there, tok .count, r .few))
 
@@ -42,7 +42,7 @@ module _ {tab : List ℕ} {n row : ℕ} {w : Walked} where
     methods-wrong le = record { says = λ ts tok ms. go ts ms }
       where
         go : (ts : List Token) (ms : List Method) → rowMethods ms ≡ row → HoldsMethods tab ms → MethodsMatch ts ms → MethodsOrdered ms
-            → Answers (methodsDeep ms) (methodsNodes ms) w
+            → WalkAnswers (methodsDeep ms) (methodsNodes ms) w
         go ts [] e h m o = absurd (omega arith)
         go ts (x ∷ xs) e h m o = absurd (omega (arith, o .0, h .1, ap (col tab 6) e))
 
@@ -53,7 +53,7 @@ module _ {tab : List ℕ} {n row : ℕ} {w : Walked} where
       methods-more k = record { says = λ ts tok ms. go ts tok ms }
         where
           go : (ts : List Token) → TokensIn tab n ts → (ms : List Method) → rowMethods ms ≡ row → HoldsMethods tab ms → MethodsMatch ts ms → MethodsOrdered ms
-              → Answers (methodsDeep ms) (methodsNodes ms) w
+              → WalkAnswers (methodsDeep ms) (methodsNodes ms) w
           go ts tok [] e h m o = absurd (omega arith)
           go ts tok (x ∷ xs) e h m o =
               same-answer (sym (least-assoc (deep 1 (x .body)) (deep 1 (x .value)) (methodsDeep xs))) refl
@@ -77,7 +77,7 @@ module _ {tab : List ℕ} {n row : ℕ} {w : Walked} where
   classes-absent r far c p = record { says = λ ts tok ks. go ts tok ks }
     where
       go : (ts : List Token) → TokensIn tab n ts → (ks : List Class) → rowClasses ks ≡ row → HoldsClasses tab ks → ClassesMatch ts ks → ClassesOrdered ks
-          → Answers (classesDeep ks) (classesNodes ks) w
+          → WalkAnswers (classesDeep ks) (classesNodes ks) w
       go ts tok [] e h m o = nothing c p
       go ts tok (x ∷ xs) e h m o = absurd (omega (arith, m .0 .name .token .there, tok .count, r .few))
 
@@ -91,7 +91,7 @@ module _ {tab : List ℕ} {n row : ℕ} {w : Walked} where
     classes-wrong le = record { says = λ ts tok ks. go ts ks }
       where
         go : (ts : List Token) (ks : List Class) → rowClasses ks ≡ row → HoldsClasses tab ks → ClassesMatch ts ks → ClassesOrdered ks
-            → Answers (classesDeep ks) (classesNodes ks) w
+            → WalkAnswers (classesDeep ks) (classesNodes ks) w
         go ts [] e h m o = absurd (omega arith)
         go ts (x ∷ xs) e h m o = absurd (omega (arith, o .0, h .1, ap (col tab 6) e))
 
@@ -101,7 +101,7 @@ module _ {tab : List ℕ} {n row : ℕ} {w : Walked} where
       classes-more k = record { says = λ ts tok ks. go ts tok ks }
         where
           go : (ts : List Token) → TokensIn tab n ts → (ks : List Class) → rowClasses ks ≡ row → HoldsClasses tab ks → ClassesMatch ts ks → ClassesOrdered ks
-              → Answers (classesDeep ks) (classesNodes ks) w
+              → WalkAnswers (classesDeep ks) (classesNodes ks) w
           go ts tok [] e h m o = absurd (omega arith)
           go ts tok (x ∷ xs) e h m o =
               joined (f .says ts tok (x .methods) (sym (h .0 .second) ∙ ap (col tab 5) e ∙ sym l) (h .0 .methods) (m .0 .methods) (o .1))
@@ -116,7 +116,7 @@ module _ {tab : List ℕ} {n row : ℕ} {w : Walked} where
 
 -- THE PROGRAM
 
-exactly : {first : Option ℕ} {many : ℕ} {w : Walked} → many ≤ countMost → Answers first many w → Found first (w .place) × (first ≡ none → w .count ≡ many)
+exactly : {first : Option ℕ} {many : ℕ} {w : Walked} → many ≤ countMost → WalkAnswers first many w → FoundPlace first (w .place) × (first ≡ none → w .count ≡ many)
 exactly few h = (h .place, λ e. omega (arith, h .count e))
 
 pub program-whole : {tab : List ℕ} {n first : ℕ} {main rest w : Walked} → Walks tab n false 14 1 main → first ≡ col tab 6 0 → WalksClasses tab n first rest

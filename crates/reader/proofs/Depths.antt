@@ -10,7 +10,7 @@ use Rattle.parser.specs.Tree.{Place, Sort, Part}
 use Rattle.parser.specs.Tree.{Part.literal, Part.truth, Part.variable, Part.this, Part.newArray, Part.newObject, Part.negation, Part.binary, Part.element, Part.arrayLength, Part.call, Part.noArguments, Part.argument}
 use Rattle.parser.specs.Tree.{Part.block, Part.conditional, Part.loop, Part.print, Part.assign, Part.assignElement, Part.noStatements, Part.sequence}
 use Rattle.parser.specs.Measure.{least, deepHere, deep}
-use Rattle.reader.specs.WalkPost.{Ordered, nowhere, countMost, Found, Answers}
+use Rattle.reader.specs.contracts.WalkPost.{Ordered, nowhere, countMost, FoundPlace, WalkAnswers}
 use Rattle.reader.specs.declared.walk.Walked.{Walked}
 
 -- THE SMALLER OF TWO POSITIONS
@@ -115,14 +115,14 @@ not-before d (sequence s ss) low h = both (not-before d s low (h .1)) (not-befor
 
 -- ANSWERS
 
-found-least : (x y : Option ℕ) (a b : ℕ) → Found x a → Found y b → Found (least x y) (min a b)
+found-least : (x y : Option ℕ) (a b : ℕ) → FoundPlace x a → FoundPlace y b → FoundPlace (least x y) (min a b)
 found-least none none a b h k = omega arith
 found-least none (some q) a b h k = (omega arith, k .1)
 found-least (some p) none a b h k = (omega arith, h .1)
 found-least (some p) (some q) a b h k = (omega arith, omega arith)
 
-found-at : (x : Option ℕ) (a b : ℕ) → a ≡ b → Found x a → Found x b
-found-at x a b e h = subst (Found x) e h
+found-at : (x : Option ℕ) (a b : ℕ) → a ≡ b → FoundPlace x a → FoundPlace x b
+found-at x a b e h = subst (FoundPlace x) e h
 
 -- what `join` answers of two answers
 abbrev pub Joins : Walked → Walked → Walked → Type 0
@@ -132,17 +132,17 @@ Joins a b w = (w .count ≡ min (a .count + b .count) countMost) × (w .place �
 abbrev pub Encloses : Walked → Walked → Type 0
 Encloses a w = (w .count ≡ min (1 + a .count) countMost) × (w .place ≡ a .place)
 
-pub nothing : {w : Walked} → w .count ≡ 0 → w .place ≡ nowhere → Answers none 0 w
+pub nothing : {w : Walked} → w .count ≡ 0 → w .place ≡ nowhere → WalkAnswers none 0 w
 nothing c p = record { place = p; count = λ _. omega arith }
 
-pub joined : {x y : Option ℕ} {k l : ℕ} {a b w : Walked} → Answers x k a → Answers y l b → Joins a b w → Answers (least x y) (k + l) w
+pub joined : {x y : Option ℕ} {k l : ℕ} {a b w : Walked} → WalkAnswers x k a → WalkAnswers y l b → Joins a b w → WalkAnswers (least x y) (k + l) w
 joined {x} {y} {k} {l} {a} {b} {w} h g j =
     record {
       place = found-at (least x y) _ _ (sym (j .1)) (found-least x y _ _ (h .place) (g .place));
       count = λ e. omega (arith, h .count (none-left x y e), g .count (none-right x y e), j .0);
     }
 
-pub enclosed : {x : Option ℕ} {k : ℕ} {a w : Walked} → Answers x k a → Encloses a w → Answers x (1 + k) w
+pub enclosed : {x : Option ℕ} {k : ℕ} {a w : Walked} → WalkAnswers x k a → Encloses a w → WalkAnswers x (1 + k) w
 enclosed {x} {k} {a} {w} h j =
     record {
       place = found-at x _ _ (sym (j .1)) (h .place);
@@ -150,9 +150,9 @@ enclosed {x} {k} {a} {w} h j =
     }
 
 -- the same answer, of equal things
-pub same-answer : {x y : Option ℕ} {k l : ℕ} {w : Walked} → x ≡ y → k ≡ l → Answers x k w → Answers y l w
-same-answer {x} {y} {k} {l} {w} e q h = subst (λ (o : Option ℕ). Answers o l w) e (subst (λ (m : ℕ). Answers x m w) q h)
+pub same-answer : {x y : Option ℕ} {k l : ℕ} {w : Walked} → x ≡ y → k ≡ l → WalkAnswers x k w → WalkAnswers y l w
+same-answer {x} {y} {k} {l} {w} e q h = subst (λ (o : Option ℕ). WalkAnswers o l w) e (subst (λ (m : ℕ). WalkAnswers x m w) q h)
 
 -- where one part is nothing, two answer what the other does
-pub joined-nothing : {x : Option ℕ} {k : ℕ} {a b w : Walked} → a .count ≡ 0 → a .place ≡ nowhere → Answers x k b → Joins a b w → Answers x k w
+pub joined-nothing : {x : Option ℕ} {k : ℕ} {a b w : Walked} → a .count ≡ 0 → a .place ≡ nowhere → WalkAnswers x k b → Joins a b w → WalkAnswers x k w
 joined-nothing {x} c p h j = same-answer {x = x} refl (omega arith) (joined (nothing c p) h j)

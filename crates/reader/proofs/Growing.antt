@@ -9,35 +9,35 @@ use lib.ListN.{length, getD, replicate}
 use lib.Seq.{getD-take}
 use borrow.Author.Tests.{lt-ltb, le-ltb}
 use Rattle.base.specs.Choice.{option}
-use Rattle.base.specs.Codes.{sourceMost, tooDeep}
-use Rattle.base.specs.Lists.{get-below, get-getD}
+use Rattle.base.specs.Codes.{sourceMost, tooDeep, notInGrammar, sourceTooLong}
+use Rattle.base.specs.laws.Lists.{get-below, get-getD}
 use Rattle.base.specs.Outcome.{Outcome, accepted, refused}
-use Rattle.base.specs.Table.{cell, col}
+use Rattle.base.specs.contracts.Table.{cell, col}
 use Rattle.lexer.specs.Tokens.{Token, tokens}
 use Rattle.lexer.specs.declared.Lexed.{Lexed}
 use Rattle.lexer.specs.declared.Lexed.the-variants.{Tokens}
-use Rattle.lexer.specs.Rows.{Rows, Answers as Lexes}
-use Rattle.lexer.specs.RowLaws.{starts-increase, accepted-of-answer, refused-of-answer}
+use Rattle.lexer.specs.contracts.Rows.{Rows, Lexes}
+use Rattle.lexer.specs.laws.RowLaws.{starts-increase, accepted-of-answer, refused-of-answer}
 use Rattle.parser.specs.declared.answer.Answer.{Answer}
 use Rattle.parser.specs.declared.answer.Answer.the-variants.{At, Bad}
 use Rattle.parser.specs.Tree.{Program}
 use Rattle.parser.specs.Stream.{startAt, tokenAt, noMore}
-use Rattle.parser.specs.Layout.{given}
+use Rattle.parser.specs.contracts.Layout.{given}
 use Rattle.parser.specs.Measure.{programNodes, programDeep}
 use Rattle.parser.specs.Parse.{ok, parse}
-use Rattle.parser.specs.Post.{TokensIn}
-use Rattle.parser.specs.DeclarationPost.{ProgramPost}
+use Rattle.parser.specs.contracts.Post.{TokensIn}
+use Rattle.parser.specs.contracts.DeclarationPost.{ProgramPost}
 use Rattle.parser.specs.Read.{Reading, positionOf, reading, readAnswer, read, tableAfter, Reads}
-use Rattle.grammar.specs.Agreement.{sound}
+use Rattle.grammar.specs.laws.Agreement.{sound}
 use Rattle.reader.specs.declared.read.Filled.{Filled}
 use Rattle.reader.specs.declared.read.Filled.the-variants.{Tree, Refused}
 use Rattle.reader.specs.declared.walk.Walked.{Walked}
-use Rattle.reader.specs.Holds.{HoldsProgram}
-use Rattle.reader.specs.Filled.{matches, holds as holds-stored}
-use Rattle.reader.specs.Order.{Rising, program-order}
-use Rattle.reader.specs.ReadingLaws.{too-long, not-lexed, not-parsed, not-shallow, read-well, proper, tokens-in, parsed-at, refused-at}
-use Rattle.reader.specs.ReadPost.{Filling, Fills, GrowPost, MeasurePost, placeIn}
-use Rattle.reader.specs.WalkPost.{Found, WalksProgram, nowhere}
+use Rattle.reader.specs.contracts.Holds.{HoldsProgram}
+use Rattle.reader.specs.contracts.FilledTable.{matches, holds as holds-stored}
+use Rattle.reader.specs.laws.Order.{TokensRise, program-order}
+use Rattle.reader.specs.laws.ReadingLaws.{too-long, not-lexed, not-parsed, not-shallow, read-well, proper, tokens-in, parsed-at, refused-at}
+use Rattle.reader.specs.contracts.ReadPost.{Filling, Fills, GrowPost, MeasurePost, placeIn}
+use Rattle.reader.specs.contracts.WalkPost.{FoundPlace, WalksProgram, nowhere}
 
 -- THE TABLE AFTER THE PARSER
 
@@ -57,7 +57,7 @@ rows-kept T T′ ts few e h i t g =
       literal = λ n. same-col T T′ 2 i e (omega arith) ∙ r .literal n;
     }
 
-rising : (s : List ℕ) (ts : List Token) → tokens s ≡ accepted ts → Rising ts
+rising : (s : List ℕ) (ts : List Token) → tokens s ≡ accepted ts → TokensRise ts
 rising s ts e i j le l = elim (decLt i j) [
   | yes lt ↦ omega (arith, starts-increase s ts e i j (tokenAt ts i) (tokenAt ts j) lt (get-getD ts i noMore (omega arith)) (get-getD ts j noMore l))
   | no ge ↦ let z : i ≡ j = omega arith in subst (λ (x : ℕ). startAt ts i ≤ startAt ts x) z (omega arith)
@@ -65,16 +65,16 @@ rising s ts e i j le l = elim (decLt i j) [
 
 -- THE WALK'S ANSWER
 module _ {tab : List ℕ} {n : ℕ} {w : Walked} (h : WalksProgram tab n w) where
-  answered : (p : Program) → Found (programDeep p) (w .place) × (programDeep p ≡ none → w .count ≡ programNodes p) → (a : Filled)
+  answered : (p : Program) → FoundPlace (programDeep p) (w .place) × (programDeep p ≡ none → w .count ≡ programNodes p) → (a : Filled)
       → (w .place < nowhere → a ≡ Refused tooDeep (w .place)) → (nowhere ≤ w .place → a ≡ Tree n (w .count))
       → a ≡ option (programDeep p) (Tree n (programNodes p)) (λ at. Refused tooDeep at)
   answered p r a deep well = go (programDeep p) refl (r .0)
     where
-      go : (o : Option ℕ) → programDeep p ≡ o → Found o (w .place) → a ≡ option o (Tree n (programNodes p)) (λ at. Refused tooDeep at)
+      go : (o : Option ℕ) → programDeep p ≡ o → FoundPlace o (w .place) → a ≡ option o (Tree n (programNodes p)) (λ at. Refused tooDeep at)
       go none d f = well (omega arith) ∙ ap (Tree n) (r .1 d)
       go (some at) d f = deep (omega (arith, f)) ∙ ap (Refused tooDeep) (f .0)
 
-  pub too-deep : w .place < 4294967296 → MeasurePost tab n (Refused 17 (w .place))
+  pub too-deep : w .place < 4294967296 → MeasurePost tab n (Refused tooDeep (w .place))
   too-deep l = record { says = λ ts t p holds matches ordered. answered p (h .says ts t p holds matches ordered) _ (λ _. refl) (λ g. absurd (omega arith)) }
 
   pub deep-enough : 4294967296 ≤ w .place → MeasurePost tab n (Tree n (w .count))
@@ -111,12 +111,12 @@ module _ {n size : ℕ} {T T₁ : List ℕ} {r₁ : Answer} (p : ProgramPost n T
     | no l ↦ simp (le-ltb k n (omega arith), le-ltb k (length ts) (omega arith)) (sym es)
   ]
 
-  pub grow-bad : {k v : ℕ} → r₁ ≡ Bad k → v ≡ placeIn T₁ n k size → GrowPost n size T (Refused 16 v) T₁
+  pub grow-bad : {k v : ℕ} → r₁ ≡ Bad k → v ≡ placeIn T₁ n k size → GrowPost n size T (Refused notInGrammar v) T₁
   grow-bad {k} {v} e ev =
       record {
         says = λ s ts es short lexed en h.
             let b = refused-at (at-tokens ts en h) (at-answer e p) in
-            subst (λ (o : Outcome Reading). Fills o (Refused 16 v) T₁) (sym (not-parsed s short ts lexed k b)) (ap (Refused 16) (place-of s ts k v es en h ev));
+            subst (λ (o : Outcome Reading). Fills o (Refused notInGrammar v) T₁) (sym (not-parsed s short ts lexed k b)) (ap (Refused notInGrammar) (place-of s ts k v es en h ev));
       }
 
   pub grow-at : {x j : ℕ} {a : Filled} → 16384 ≤ length T → r₁ ≡ At x j → MeasurePost T₁ n a → GrowPost n size T a T₁
@@ -135,8 +135,8 @@ module _ {n size : ℕ} {T T₁ : List ℕ} {r₁ : Answer} (p : ProgramPost n T
       }
 
 -- FROM BYTES
-pub fill-long : (s T : List ℕ) → 16384 < length s → Fills (reading s) (Refused 10 0) T
-fill-long s T l = subst (λ (o : Outcome Reading). Fills o (Refused 10 0) T) (sym (too-long s l)) refl
+pub fill-long : (s T : List ℕ) → 16384 < length s → Fills (reading s) (Refused sourceTooLong 0) T
+fill-long s T l = subst (λ (o : Outcome Reading). Fills o (Refused sourceTooLong 0) T) (sym (too-long s l)) refl
 
 module _ (s T : List ℕ) (l : Lexed) (short : length s ≤ 16384) (h : Lexes (tokens s) l T) where
   at-lexed : {l₂ : Lexed} → l ≡ l₂ → Lexes (tokens s) l₂ T

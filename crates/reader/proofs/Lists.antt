@@ -6,9 +6,9 @@ use mathlib.Core.Bool.{Bool, true, false}
 use native.Mathlib.Omega.{arith}
 use native.Mathlib.Decide.{decLt}
 use borrow.Author.Tests.{lt-ltb, le-ltb}
-use Rattle.base.specs.Table.{col}
-use Rattle.parser.specs.Layout.{absent}
-use Rattle.reader.specs.WalkPost.{nowhere, countMost, follower}
+use Rattle.base.specs.contracts.Table.{col}
+use Rattle.parser.specs.contracts.Layout.{absent}
+use Rattle.reader.specs.contracts.WalkPost.{nowhere, countMost, follower}
 use Rattle.reader.specs.declared.walk.Walked.{Walked}
 use Rattle.reader.proofs.Depths.{Joins}
 

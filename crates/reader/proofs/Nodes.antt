@@ -8,19 +8,19 @@ use mathlib.Core.Option.{none}
 use native.Mathlib.Omega.{arith}
 use lib.Dec.{eqb}
 use borrow.Author.Tests.{eqb-false}
-use Rattle.base.specs.Table.{col}
+use Rattle.base.specs.contracts.Table.{col}
 use Rattle.lexer.specs.Kinds.{kDot, kIf, kOpenBrace, isName}
 use Rattle.lexer.specs.Tokens.{Token}
 use Rattle.parser.specs.Tree.{Place, Operator, Operator.and, Operator.less, Operator.plus, Operator.minus, Operator.times, Sort, Sort.expression, Sort.arguments, Sort.statement, Part}
 use Rattle.parser.specs.Tree.{Part.literal, Part.truth, Part.variable, Part.this, Part.newArray, Part.newObject, Part.negation, Part.binary, Part.element, Part.arrayLength, Part.call, Part.noArguments, Part.argument}
 use Rattle.parser.specs.Tree.{Part.block, Part.conditional, Part.loop, Part.print, Part.assign, Part.assignElement, Part.noStatements, Part.sequence}
 use Rattle.parser.specs.Stream.{kindAt}
-use Rattle.parser.specs.Layout.{absent, rowOf}
+use Rattle.parser.specs.contracts.Layout.{absent, rowOf}
 use Rattle.parser.specs.Measure.{nodes, least, deepHere, deep}
-use Rattle.grammar.specs.Reads as Reads
-use Rattle.reader.specs.Holds.{NodeRow, Holds}
-use Rattle.reader.specs.Matches.{truthKind, operatorKind, Matches}
-use Rattle.reader.specs.WalkPost.{Ordered, listed, Sound}
+use Rattle.grammar.specs.laws.Passing as Passing
+use Rattle.reader.specs.contracts.Holds.{NodeRow, Holds}
+use Rattle.reader.specs.contracts.Matches.{truthKind, operatorKind, Matches}
+use Rattle.reader.specs.contracts.WalkPost.{Ordered, isList, Sound}
 use Rattle.reader.proofs.Depths.{least-assoc, least-absent}
 
 -- KINDS
@@ -31,7 +31,7 @@ known r e = sym (ap (λ (x : ℕ). eqb x r) e)
 
 name-kinds : (k : ℕ) → isName k ≡ true → (false ≡ eqb k kIf) × (false ≡ eqb k kOpenBrace) × (false ≡ eqb k kDot)
 unfolding isName
-name-kinds k e = (sym (Reads.apart isName k kIf e refl), sym (Reads.apart isName k kOpenBrace e refl), sym (Reads.apart isName k kDot e refl))
+name-kinds k e = (sym (Passing.kinds-apart isName k kIf e refl), sym (Passing.kinds-apart isName k kOpenBrace e refl), sym (Passing.kinds-apart isName k kDot e refl))
 
 operator-kinds : (o : Operator) → (false ≡ eqb (operatorKind o) kIf) × (false ≡ eqb (operatorKind o) kOpenBrace) × (false ≡ eqb (operatorKind o) kDot)
 operator-kinds and = (refl, refl, refl)
@@ -84,7 +84,7 @@ module _ {tab : List ℕ} {ts : List Token} where
   empty low chain = record { chained = λ h. absurd (omega arith); holds = tt; matches = tt; ordered = tt }
 
   -- a part of a known sort
-  pub sound : {s : Sort} {t : Part s} {low : ℕ} {chain : Bool} → listed s ≡ chain → Holds tab t → Matches ts t → Ordered low t → Sound tab ts low chain t
+  pub sound : {s : Sort} {t : Part s} {low : ℕ} {chain : Bool} → isList s ≡ chain → Holds tab t → Matches ts t → Ordered low t → Sound tab ts low chain t
   sound e h m o = record { chained = λ _. e; holds = h; matches = m; ordered = o }
 
   -- a node of two parts, of one, of none
@@ -131,7 +131,7 @@ module _ {tab : List ℕ} {ts : List Token} where
       (λ d. dp d ∙ least-absent (deepHere d p) (deep (d + 1) noArguments) (no-depth (d + 1)))
       (omega (arith, sz, no-nodes))
 
-  pub apart : {s : Sort} (t : Part s) (low : ℕ) → listed s ≡ false → Holds tab t → Matches ts t → Ordered low t → Apart tab ts t
+  pub apart : {s : Sort} (t : Part s) (low : ℕ) → isList s ≡ false → Holds tab t → Matches ts t → Ordered low t → Apart tab ts t
   unfolding Holds Matches Ordered deep nodes
   apart (literal p n) low e h m o = zero-parts (literal p n) p refl h (known kIf (m .0 .is)) (λ d. refl) refl
   apart (truth p b) low e h m o = zero-parts (truth p b) p refl h (truth-kinds b ∙ known kIf (m .is)) (λ d. refl) refl

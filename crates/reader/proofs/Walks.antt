@@ -9,7 +9,7 @@ use native.Mathlib.Omega.{arith}
 use native.Mathlib.Decide.{decLt}
 use lib.ListN.{length}
 use lib.Dec.{eqb}
-use Rattle.base.specs.Table.{col}
+use Rattle.base.specs.contracts.Table.{col}
 use Rattle.base.specs.Codes.{depthMost}
 use Rattle.lexer.specs.Kinds.{kDot, kIf, kOpenBrace}
 use Rattle.lexer.specs.Tokens.{Token}
@@ -17,12 +17,12 @@ use Rattle.parser.specs.Tree.{Sort, Sort.expression, Sort.arguments, Sort.state
 use Rattle.parser.specs.Tree.{Part.literal, Part.truth, Part.variable, Part.this, Part.newArray, Part.newObject, Part.negation, Part.binary, Part.element, Part.arrayLength, Part.call, Part.noArguments, Part.argument}
 use Rattle.parser.specs.Tree.{Part.block, Part.conditional, Part.loop, Part.print, Part.assign, Part.assignElement, Part.noStatements, Part.sequence}
 use Rattle.parser.specs.Stream.{kindAt}
-use Rattle.parser.specs.Layout.{absent, rowOf}
+use Rattle.parser.specs.contracts.Layout.{absent, rowOf}
 use Rattle.parser.specs.Measure.{nodes, least, deep}
-use Rattle.parser.specs.Post.{kindIn, TokensIn}
-use Rattle.reader.specs.Holds.{Holds}
-use Rattle.reader.specs.Matches.{Matches}
-use Rattle.reader.specs.WalkPost.{Ordered, nowhere, Answers, Walkable, follower, listed, Sound, Walks}
+use Rattle.parser.specs.contracts.Post.{kindInTable, TokensIn}
+use Rattle.reader.specs.contracts.Holds.{Holds}
+use Rattle.reader.specs.contracts.Matches.{Matches}
+use Rattle.reader.specs.contracts.WalkPost.{Ordered, nowhere, WalkAnswers, Walkable, follower, isList, Sound, Walks}
 use Rattle.reader.specs.declared.walk.Walked.{Walked}
 use Rattle.reader.proofs.Depths.{least-none, least-absent, NotBefore, both, fine-here, first-here, not-before, Joins, Encloses, nothing, joined, joined-nothing, enclosed, same-answer}
 use Rattle.reader.proofs.Lists.{follower-up, follower-none}
@@ -32,7 +32,7 @@ use Rattle.reader.proofs.Nodes.{true-false, Apart, sound, apart}
 
 -- a part has a token of its own, or it is an empty list
 row-or-empty : (ts : List Token) {s : Sort} (t : Part s) → Matches ts t
-    → (rowOf t < length ts) ⊎ ((listed s ≡ true) × (nodes t ≡ 0) × ((d : ℕ) → deep d t ≡ none))
+    → (rowOf t < length ts) ⊎ ((isList s ≡ true) × (nodes t ≡ 0) × ((d : ℕ) → deep d t ≡ none))
 unfolding Matches deep nodes
 row-or-empty ts (literal p n) m = inl (m .0 .there)
 row-or-empty ts (truth p b) m = inl (m .there)
@@ -70,7 +70,7 @@ record Split (tab : List ℕ) (ts : List Token) (low : ℕ) {s : Sort} (t : Part
   depth : (d : ℕ) → deep d t ≡ least (deep d head) (deep d tail)
   size : nodes t ≡ nodes head + nodes tail
 
-members : {tab : List ℕ} {ts : List Token} {low : ℕ} {s : Sort} (t : Part s) → rowOf t < absent → listed s ≡ true → Holds tab t → Matches ts t → Ordered low t → Split tab ts low t
+members : {tab : List ℕ} {ts : List Token} {low : ℕ} {s : Sort} (t : Part s) → rowOf t < absent → isList s ≡ true → Holds tab t → Matches ts t → Ordered low t → Split tab ts low t
 unfolding Holds Matches Ordered deep nodes
 members (literal p n) lt e h m o = absurd (true-false (sym e))
 members (truth p b) lt e h m o = absurd (true-false (sym e))
@@ -207,23 +207,23 @@ node-far {tab} {n} {row} {d} {w} near far p small =
           (at-start (v .place .start) (p ∙ ap (col tab 3) (sym e) ∙ v .begins));
     }
   where
-    at-start : {k : ℕ} (a : ℕ) → w .place ≡ a → Answers (some a) k w
+    at-start : {k : ℕ} (a : ℕ) → w .place ≡ a → WalkAnswers (some a) k w
     at-start a q = record { place = (q, omega arith); count = λ z. let y : _≡_ {A = ℕ} 0 1 = cc in absurd (omega arith) }
 
 -- a node that is not too deep, from what lies below it
 closed : {tab : List ℕ} {ts : List Token} (d : ℕ) {s : Sort} {t : Part s} (v : Apart tab ts t) {parts w : Walked} → d ≤ depthMost
-    → Answers (below d v) (nodes (v .t₁) + nodes (v .t₂) + nodes (v .t₃)) parts → Encloses parts w → Answers (deep d t) (nodes t) w
+    → WalkAnswers (below d v) (nodes (v .t₁) + nodes (v .t₂) + nodes (v .t₃)) parts → Encloses parts w → WalkAnswers (deep d t) (nodes t) w
 closed d v fine h c = same-answer (sym (v .depth d ∙ fine-here d (v .place) (below d v) fine)) (sym (v .size)) (enclosed h c)
 
-kind-here : {tab : List ℕ} {n k : ℕ} {ts : List Token} (row : ℕ) → k ≡ kindIn tab n row → TokensIn tab n ts → {s : Sort} (t : Part s) → rowOf t ≡ row → kindAt ts (rowOf t) ≡ k
+kind-here : {tab : List ℕ} {n k : ℕ} {ts : List Token} (row : ℕ) → k ≡ kindInTable tab n row → TokensIn tab n ts → {s : Sort} (t : Part s) → rowOf t ≡ row → kindAt ts (rowOf t) ≡ k
 kind-here {ts = ts} row kind tok t e = ap (kindAt ts) e ∙ sym (tok .kinds row) ∙ sym kind
 
 -- the first two parts, as the code walks them
-module _ {tab : List ℕ} {n : ℕ} (row d : ℕ) {k left right : ℕ} {a b two : Walked} (kind : k ≡ kindIn tab n row)
+module _ {tab : List ℕ} {n : ℕ} (row d : ℕ) {k left right : ℕ} {a b two : Walked} (kind : k ≡ kindInTable tab n row)
     (l : left ≡ col tab 4 row) (f : Walks tab n (eqb k kOpenBrace) left (d + 1) a)
     (r : right ≡ col tab 5 row) (g : Walks tab n (eqb k kDot) right (d + 1) b) (j : Joins a b two) where
   both-parts : {ts : List Token} → TokensIn tab n ts → {s : Sort} {t : Part s} → rowOf t ≡ row → (v : Apart tab ts t)
-      → Answers (least (deep (d + 1) (v .t₁)) (deep (d + 1) (v .t₂))) (nodes (v .t₁) + nodes (v .t₂)) two
+      → WalkAnswers (least (deep (d + 1) (v .t₁)) (deep (d + 1) (v .t₂))) (nodes (v .t₁) + nodes (v .t₂)) two
   both-parts {ts} tok {t = t} e v =
       joined
       (f .says ts tok (v .t₁) _ (sym (v .first) ∙ ap (col tab 4) e ∙ sym l) (sound-as (ap (λ (x : ℕ). eqb x kOpenBrace) (kind-here row kind tok t e)) (v .sound₁)))

@@ -1,5 +1,6 @@
 // The operation Read, and below it the function that leaves the table filled.
 use crate::walk;
+use base::codes;
 use base::fill::zero_words;
 use lexer::Lexed;
 use lexer::lex;
@@ -9,8 +10,8 @@ ghost use mathlib.Core.Path.{_≡_};
 ghost use Prim.Native.Nat.{_≤_};
 ghost use lib.ListN.{length};
 ghost use Rattle.parser.specs.Read.{reading, Reads};
-ghost use Rattle.reader.specs.WalkPost.{Walkable};
-ghost use Rattle.reader.specs.ReadPost.{Fills, GrowPost, MeasurePost, placeIn, answerOf};
+ghost use Rattle.reader.specs.contracts.WalkPost.{Walkable};
+ghost use Rattle.reader.specs.contracts.ReadPost.{Fills, GrowPost, MeasurePost, placeIn, readAnswerOf};
 
 // The tokens and the nodes of an accepted source; or a refusal and its position.
 pub enum Filled {
@@ -46,7 +47,7 @@ fn measure(table: &[u32], n: usize) -> Filled
     let place = walked.place;
     let count = walked.count;
     if place < 4294967296 {
-        return Filled::Refused(17, place);
+        return Filled::Refused(codes::TOO_DEEP, place);
     }
     Filled::Tree(n, count)
 }
@@ -59,7 +60,7 @@ fn grow(table: &mut [u32], n: usize, size: usize) -> Filled
     let a = decl::program(table, n);
     match a {
         Answer::At(_first, _next) => measure(table, n),
-        Answer::Bad(k) => Filled::Refused(16, place(table, n, k, size)),
+        Answer::Bad(k) => Filled::Refused(codes::NOT_IN_GRAMMAR, place(table, n, k, size)),
     }
 }
 
@@ -68,8 +69,8 @@ pub fn fill(source: &[u8], table: &mut [u32]) -> Filled
     requires { ⌜ 16384 ≤ length (now table) ⌝ }
     ensures { λ r. ⌜ Fills (reading (now (source .entry))) r (now (table .exit)) ⌝ }
 {
-    if 16384 < source.len() {
-        return Filled::Refused(10, 0);
+    if codes::SOURCE_MOST < source.len() {
+        return Filled::Refused(codes::SOURCE_TOO_LONG, 0);
     }
     let l = lex(source, table);
     match l {
@@ -80,11 +81,11 @@ pub fn fill(source: &[u8], table: &mut [u32]) -> Filled
 
 // The operation Read of document 01.
 pub fn read(source: &[u8], table: &mut [u32]) -> ReadAnswer
-    ensures { λ r. ⌜ Reads (now (source .entry)) (now (table .entry)) (answerOf r) (now (table .exit)) ⌝ }
+    ensures { λ r. ⌜ Reads (now (source .entry)) (now (table .entry)) (readAnswerOf r) (now (table .exit)) ⌝ }
 {
-    if table.len() < 16384 {
+    if table.len() < codes::TABLE_LEAST {
         return ReadAnswer {
-            number: 1,
+            number: codes::TABLE_TOO_SHORT,
             position: 0,
             tokens: 0,
             nodes: 0,
@@ -94,7 +95,7 @@ pub fn read(source: &[u8], table: &mut [u32]) -> ReadAnswer
     zero_words(table);
     match f {
         Filled::Tree(tokens, nodes) => ReadAnswer {
-            number: 0,
+            number: codes::SUCCESS,
             position: 0,
             tokens,
             nodes,

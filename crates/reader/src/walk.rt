@@ -5,13 +5,14 @@
 use lexer::kinds::DOT;
 use lexer::kinds::IF;
 use lexer::kinds::OPEN_BRACE;
+use parser::columns;
 use parser::table::kind;
 ghost use mathlib.Core.Path.{_≡_};
 ghost use mathlib.Core.Bool.{false};
 ghost use Prim.Native.Nat.{_+_, _<_, _≤_, min};
 ghost use lib.ListN.{length};
-ghost use Rattle.base.specs.Table as Table;
-ghost use Rattle.reader.specs.WalkPost.{Walkable, follower, Walks, WalksMethods, WalksClasses, WalksProgram};
+ghost use Rattle.base.specs.contracts.Table as Table;
+ghost use Rattle.reader.specs.contracts.WalkPost.{Walkable, follower, Walks, WalksMethods, WalksClasses, WalksProgram};
 
 // The number of nodes, 65,535 where there are more; and the smallest position of a node that is too deep, 4,294,967,296 where none is.
 pub struct Walked {
@@ -19,15 +20,16 @@ pub struct Walked {
     pub place: usize,
 }
 
+// The most that is counted.
 const COUNT_MOST: usize = 65535;
 
+// No position.
 const NOWHERE: usize = 4294967296;
 
+// The greatest depth that is allowed.
 const DEPTH_MOST: usize = 64;
 
-// No row, and the last of the rows.
-const ABSENT: usize = 2048;
-
+// The last row.
 const LAST: usize = 2047;
 
 // A sum, at most 65,535.
@@ -89,7 +91,7 @@ fn column(table: &[u32], k: usize, row: usize) -> usize
     requires { ⌜ (16384 ≤ length (now table)) × (k < 8) × (row < 2048) ⌝ }
     ensures { λ r. ⌜ (r ≡ Table.col (now (table .entry)) k row) × (r < 4294967296) ⌝ }
 {
-    table[2048 * k + row] as usize
+    table[columns::ROWS * k + row] as usize
 }
 
 // The row of the member after this one in a list, 2048 where there is none. In a tree each link goes up: one that does not ends the walk.
@@ -103,7 +105,7 @@ fn following(table: &[u32], chain: bool, row: usize) -> usize
             return next;
         }
     }
-    ABSENT
+    columns::ABSENT
 }
 
 // The part whose row this is, at depth d: a list if `chain`, and a node otherwise.
@@ -113,7 +115,7 @@ fn part(table: &[u32], n: usize, chain: bool, row: usize, d: usize) -> Walked
 {
     let mut all = nothing();
     let mut at = row;
-    while at < ABSENT {
+    while at < columns::ABSENT {
         let member = node(table, n, at, d);
         all = join(all, member);
         at = following(table, chain, at);
@@ -169,7 +171,7 @@ fn classes(table: &[u32], n: usize, row: usize) -> Walked
 {
     let mut all = nothing();
     let mut at = row;
-    while at < ABSENT {
+    while at < columns::ABSENT {
         let own = methods(table, n, column(table, 5, at));
         all = join(all, own);
         at = following(table, true, at);
@@ -182,7 +184,7 @@ pub fn program(table: &[u32], n: usize) -> Walked
     requires { ⌜ Walkable (now table) n ⌝ }
     ensures { λ r. ⌜ WalksProgram (now (table .entry)) n r ⌝ }
 {
-    let main = part(table, n, false, 14, 1);
+    let main = part(table, n, false, columns::MAIN_STATEMENT, 1);
     let rest = classes(table, n, column(table, 6, 0));
     join(main, rest)
 }

@@ -7,7 +7,7 @@ use lib.ListN.{replicate}
 use Rattle.base.specs.Bytes.{bytes}
 use Rattle.parser.specs.Measure.{nodes, methodsNodes, classesNodes, programNodes}
 use Rattle.parser.specs.Read.{ReadAnswer, read}
-use Rattle.checker.specs.Check.{CheckAnswer, check}
+use Rattle.typesystem.specs.Check.{CheckAnswer, check}
 use Rattle.semantics.specs.Ends.{endOf, printing}
 use Rattle.rows.specs.Further.{declaring}
 
@@ -17,25 +17,25 @@ pub record ReadRow : Type 0 where
   pub table : ℕ
   pub answer : ReadAnswer
 
-abbrev pub reads : List ℕ → (table number position tokens nodes : ℕ) → ReadRow
-reads s table n p tokens nodes =
+abbrev pub readRow : List ℕ → (table number position tokens nodes : ℕ) → ReadRow
+readRow s table n p tokens nodes =
     record { source = s; table = table; answer = record { number = n; position = p; tokens = tokens; nodes = nodes } }
 
 abbrev pub readRows : List ReadRow
 readRows =
     -- the statement, the sum, 1 and 2; parentheses make no node
-    reads (printing (bytes "1+2")) 16384 0 0 27 4 ∷
-    reads (printing (bytes "(1+(2))")) 16384 0 0 31 4 ∷
+    readRow (printing (bytes "1+2")) 16384 0 0 27 4 ∷
+    readRow (printing (bytes "(1+(2))")) 16384 0 0 31 4 ∷
     -- 1 comes before everything else
-    reads (printing (bytes "1+2")) 16383 1 0 0 0 ∷
-    reads (replicate 16385 32) 16383 1 0 0 0 ∷
-    reads (replicate 16385 32) 16384 10 0 0 0 ∷
+    readRow (printing (bytes "1+2")) 16383 1 0 0 0 ∷
+    readRow (replicate 16385 32) 16383 1 0 0 0 ∷
+    readRow (replicate 16385 32) 16384 10 0 0 0 ∷
     -- a lone `&`, and a byte that begins no token
-    reads (printing (bytes "1&2")) 16384 11 64 0 0 ∷
-    reads (printing (bytes "1 @")) 16384 11 65 0 0 ∷
+    readRow (printing (bytes "1&2")) 16384 11 64 0 0 ∷
+    readRow (printing (bytes "1 @")) 16384 11 65 0 0 ∷
     -- identifiers of 255 and of 256 bytes
-    reads (printing (replicate 255 97)) 16384 0 0 25 2 ∷
-    reads (printing (replicate 256 97)) 16384 13 63 0 0 ∷
+    readRow (printing (replicate 255 97)) 16384 0 0 25 2 ∷
+    readRow (printing (replicate 256 97)) 16384 13 63 0 0 ∷
     []
 
 pub readings : map (λ (r : ReadRow). read (r .source) (r .table)) readRows ≡ map (λ (r : ReadRow). r .answer) readRows

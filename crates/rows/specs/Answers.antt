@@ -13,11 +13,11 @@ use native.Mathlib.Omega.{arith}
 use borrow.Author.Tests.{ltb-true, leb-true, le-ltb, ne-eqb}
 use Rattle.base.specs.Choice.{option}
 use Rattle.base.specs.Codes.{tableLeast, callsMost, heapMost}
-use Rattle.base.specs.Lists.{All, all-nil, all-cons}
+use Rattle.base.specs.All.{All, all-nil, all-cons}
 use Rattle.base.specs.Outcome.{Outcome, accepted, refused}
-use Rattle.base.specs.Tests.{and-true}
+use Rattle.base.specs.laws.Tests.{and-true}
 use Rattle.parser.specs.Tree.{Program}
-use Rattle.checker.specs.Check.{checking}
+use Rattle.typesystem.specs.Check.{checking}
 use Rattle.semantics.specs.Run.{RunAnswer, Strips, limitsOf, unfit, stripsAfter, refusal, Reports, RunMeets, Runs}
 use Rattle.semantics.specs.Ends.{End, refusedAt, ran, ofOutcome, endOf, Row, found, expected}
 
@@ -38,7 +38,7 @@ pub record Lent (r : Row) (m : Strips) : Type 0 where
   pub output : length (m .output) ≡ r .limits .printed
 
 -- Run answers the row's end and nothing else; its printed numbers lead the output strip, and work table and heap strip are all 0 then
-pub record Holds (r : Row) : Type 0 where
+pub record RowHolds (r : Row) : Type 0 where
   pub says : (before : Strips) → Lent r before → (a : RunAnswer) (after : Strips)
       → Runs (r .source) (r .limits .budget) (r .limits .calls) before a after
       ↔ (Answered (r .end) a × (after ≡ stripsAfter (printedAt (r .end)) before))
@@ -100,7 +100,7 @@ module _ (r : Row) (ends : endOf (r .source) (r .limits) ≡ r .end) (ranges : i
       )
 
 -- A row holds of Run where the definitions end as it says.
-pub hold : (rows : List Row) → Computed rows → All Holds rows
+pub hold : (rows : List Row) → Computed rows → All RowHolds rows
 hold [] c = all-nil
 hold (r ∷ rows) c =
     let e = heads (c .ends) in

@@ -4,9 +4,9 @@ use mathlib.Core.Path.{refl}
 use mathlib.Core.List.{List, [], _∷_}
 use lib.IntN.{pos}
 use Rattle.base.specs.Bytes.{bytes}
-use Rattle.base.specs.Lists.{All}
+use Rattle.base.specs.All.{All}
 use Rattle.semantics.specs.Ends.{Row, row, endOf, refusedAt, ends, usual}
-use Rattle.rows.specs.Answers.{Holds, hold}
+use Rattle.rows.specs.Answers.{RowHolds, hold}
 use Rattle.rows.specs.Further.{declaring}
 
 abbrev pub endlessRows : List Row
@@ -34,6 +34,6 @@ endlessRows =
     row (declaring (bytes " class A extends B{} class B extends C{} class C{}")) usual (ends 0 0 2 0 (pos 1 ∷ [])) ∷
     []
 
-pub endless : All Holds endlessRows
+pub endless : All RowHolds endlessRows
 unfolding endOf
 endless = hold endlessRows (record { ends = refl; ranges = refl })

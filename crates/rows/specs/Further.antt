@@ -5,10 +5,10 @@ use mathlib.Core.List.{List, [], _∷_, _++_}
 use lib.IntN.{pos}
 use lib.ListN.{replicate}
 use Rattle.base.specs.Bytes.{bytes}
-use Rattle.base.specs.Lists.{All}
+use Rattle.base.specs.All.{All}
 use Rattle.semantics.specs.Limits.{Limits}
 use Rattle.semantics.specs.Ends.{Row, row, endOf, refusedAt, ends, limits, usual, printing}
-use Rattle.rows.specs.Answers.{Holds, hold}
+use Rattle.rows.specs.Answers.{RowHolds, hold}
 
 -- the frame with the expression 1, 68 bytes long, then classes
 abbrev pub declaring : List ℕ → List ℕ
@@ -19,8 +19,8 @@ abbrev pub doing : List ℕ → List ℕ
 doing s = bytes "class M{public static void main(String[] a){" ++ s ++ bytes "}}"
 
 -- a heap strip and an output strip of these lengths
-abbrev pub strips : (heap output : ℕ) → Limits
-strips heap output = record { budget = 100000; calls = 64; heap = heap; printed = output }
+abbrev pub stripLimits : (heap output : ℕ) → Limits
+stripLimits heap output = record { budget = 100000; calls = 64; heap = heap; printed = output }
 
 -- so many times
 abbrev pub times : ℕ → List ℕ → List ℕ
@@ -58,11 +58,11 @@ furtherRows =
     row (printing (bytes "new A().m(1,x)") ++ bytes " class A{public int m(int y){return y;}}") usual (refusedAt 33 71) ∷
     row (printing (bytes "new A().m()") ++ bytes " class A{public int m(){return this.m();}}") (limits 100000 2) (ends 52 109 7 1 []) ∷
     -- 51 where the heap strip is one word short, and not where it is just long enough; 42 comes first
-    row (printing (bytes "new int[3].length")) (strips 3 256) (ends 51 63 4 0 []) ∷
-    row (printing (bytes "new int[3].length")) (strips 4 256) (ends 0 0 4 4 (pos 3 ∷ [])) ∷
-    row (printing (bytes "new int[0-1].length")) (strips 0 256) (ends 42 63 6 0 []) ∷
+    row (printing (bytes "new int[3].length")) (stripLimits 3 256) (ends 51 63 4 0 []) ∷
+    row (printing (bytes "new int[3].length")) (stripLimits 4 256) (ends 0 0 4 4 (pos 3 ∷ [])) ∷
+    row (printing (bytes "new int[0-1].length")) (stripLimits 0 256) (ends 42 63 6 0 []) ∷
     -- 53 after the printed expression, at the statement
-    row (doing (bytes "{System.out.println(1);System.out.println(2);}")) (strips 4096 1) (ends 53 67 5 0 (pos 1 ∷ [])) ∷
+    row (doing (bytes "{System.out.println(1);System.out.println(2);}")) (stripLimits 4096 1) (ends 53 67 5 0 (pos 1 ∷ [])) ∷
     -- the right side of `&&` is begun only after true
     row (doing (bytes "if(1<0&&(new int[1])[1]<0)System.out.println(1);else System.out.println(2);")) usual (ends 0 0 7 0 (pos 2 ∷ [])) ∷
     row (doing (bytes "if(0<1&&(new int[1])[1]<0)System.out.println(1);else System.out.println(2);")) usual (ends 41 52 10 2 []) ∷
@@ -81,6 +81,6 @@ furtherRows =
     row (printing (bytes "new A().m(5,3)") ++ bytes " class A{public int m(int x,int y){return x-y;}}") usual (ends 0 0 8 1 (pos 2 ∷ [])) ∷
     []
 
-pub further : All Holds furtherRows
+pub further : All RowHolds furtherRows
 unfolding endOf
 further = hold furtherRows (record { ends = refl; ranges = refl })

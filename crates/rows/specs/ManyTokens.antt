@@ -14,7 +14,7 @@ use Rattle.base.specs.Outcome.{refused}
 use Rattle.lexer.specs.Kinds.{kSemicolon}
 use Rattle.lexer.specs.Tokens.{token, item, tokensFrom, tokens}
 use Rattle.parser.specs.Read.{readAnswer, read}
-use Rattle.reader.specs.ReadingLaws.{not-lexed}
+use Rattle.reader.specs.laws.ReadingLaws.{not-lexed}
 use Rattle.semantics.specs.Ends.{endOf}
 
 -- a `;` is a token, whatever follows

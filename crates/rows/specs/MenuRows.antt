@@ -4,7 +4,7 @@ use Prim.Native.Nat.{ℕ}
 use mathlib.Core.Path.{_≡_, refl}
 use mathlib.Core.List.{List, [], _∷_, map}
 use Rattle.base.specs.Bytes.{bytes}
-use Rattle.checker.specs.Check.{CheckAnswer}
+use Rattle.typesystem.specs.Check.{CheckAnswer}
 use Rattle.menu.specs.Menu.{mayStand, earliest, writing, menuOrder, positions, Listing, menu}
 use Rattle.semantics.specs.Ends.{endOf}
 use Rattle.rows.specs.Further.{declaring}
@@ -15,8 +15,8 @@ pub record MenuRow : Type 0 where
   pub before : List ℕ
   pub listing : Listing
 
-abbrev pub row : List ℕ → List ℕ → (number position classes : ℕ) → List ℕ → MenuRow
-row classes before n p k after =
+abbrev pub menuRow : List ℕ → List ℕ → (number position classes : ℕ) → List ℕ → MenuRow
+menuRow classes before n p k after =
     let answer : CheckAnswer = record { number = n; position = p; classes = k } in
     record { source = declaring classes; before = before; listing = record { answer = answer; strip = after } }
 
@@ -30,27 +30,27 @@ four = 9 ∷ three
 abbrev pub menuRows : List MenuRow
 menuRows =
     -- no class at all; the rest of the strip is unchanged
-    row [] [] 0 0 0 [] ∷
-    row [] three 0 0 0 three ∷
+    menuRow [] [] 0 0 0 [] ∷
+    menuRow [] three 0 0 0 three ∷
     -- several roots
-    row (bytes " class A{} class B{} class C{}") four 0 0 3 (75 ∷ 85 ∷ 95 ∷ 9 ∷ []) ∷
+    menuRow (bytes " class A{} class B{} class C{}") four 0 0 3 (75 ∷ 85 ∷ 95 ∷ 9 ∷ []) ∷
     -- a child before its parent: it comes directly after, before the next root
-    row (bytes " class B extends A{} class A{} class C{}") four 0 0 3 (95 ∷ 75 ∷ 105 ∷ 9 ∷ []) ∷
+    menuRow (bytes " class B extends A{} class A{} class C{}") four 0 0 3 (95 ∷ 75 ∷ 105 ∷ 9 ∷ []) ∷
     -- siblings before their parent
-    row (bytes " class B extends A{} class C extends A{} class A{}") three 0 0 3 (115 ∷ 75 ∷ 95 ∷ []) ∷
+    menuRow (bytes " class B extends A{} class C extends A{} class A{}") three 0 0 3 (115 ∷ 75 ∷ 95 ∷ []) ∷
     -- a chain backwards, then a root
-    row (bytes " class C extends B{} class B extends A{} class A{} class D{}") four 0 0 4 (115 ∷ 95 ∷ 75 ∷ 125 ∷ []) ∷
+    menuRow (bytes " class C extends B{} class B extends A{} class A{} class D{}") four 0 0 4 (115 ∷ 95 ∷ 75 ∷ 125 ∷ []) ∷
     -- a grandchild after the sibling of its parent, which stands earlier; with the root first, and with the root last
-    row (bytes " class R{} class A extends R{} class B extends R{} class X extends A{}") four 0 0 4 (75 ∷ 85 ∷ 105 ∷ 125 ∷ []) ∷
-    row (bytes " class A extends R{} class B extends R{} class X extends A{} class R{}") four 0 0 4 (135 ∷ 75 ∷ 95 ∷ 115 ∷ []) ∷
+    menuRow (bytes " class R{} class A extends R{} class B extends R{} class X extends A{}") four 0 0 4 (75 ∷ 85 ∷ 105 ∷ 125 ∷ []) ∷
+    menuRow (bytes " class A extends R{} class B extends R{} class X extends A{} class R{}") four 0 0 4 (135 ∷ 75 ∷ 95 ∷ 115 ∷ []) ∷
     -- a grandchild before the sibling of its parent, which stands later
-    row (bytes " class X extends A{} class A extends R{} class B extends R{} class R{}") four 0 0 4 (135 ∷ 95 ∷ 75 ∷ 115 ∷ []) ∷
+    menuRow (bytes " class X extends A{} class A extends R{} class B extends R{} class R{}") four 0 0 4 (135 ∷ 95 ∷ 75 ∷ 115 ∷ []) ∷
     -- two roots, each after a child of the other
-    row (bytes " class B extends A{} class C{} class D extends C{} class A{}") four 0 0 4 (95 ∷ 105 ∷ 125 ∷ 75 ∷ []) ∷
+    menuRow (bytes " class B extends A{} class C{} class D extends C{} class A{}") four 0 0 4 (95 ∷ 105 ∷ 125 ∷ 75 ∷ []) ∷
     -- refusals leave the strip
-    row (bytes " class A{} class B{} class C{} class D{}") three 4 0 0 three ∷
-    row (bytes " class A extends A{}") [] 22 75 0 [] ∷
-    row (bytes " class A{} class B{X x;}") three 24 87 0 three ∷
+    menuRow (bytes " class A{} class B{} class C{} class D{}") three 4 0 0 three ∷
+    menuRow (bytes " class A extends A{}") [] 22 75 0 [] ∷
+    menuRow (bytes " class A{} class B{X x;}") three 24 87 0 three ∷
     []
 
 pub menus : map (λ (r : MenuRow). menu (r .source) 16384 (r .before)) menuRows ≡ map (λ (r : MenuRow). r .listing) menuRows

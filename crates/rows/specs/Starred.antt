@@ -3,9 +3,9 @@ use mathlib.Core.Path.{refl}
 use mathlib.Core.List.{List, [], _∷_}
 use lib.IntN.{pos, negsuc}
 use Rattle.base.specs.Bytes.{bytes}
-use Rattle.base.specs.Lists.{All}
+use Rattle.base.specs.All.{All}
 use Rattle.semantics.specs.Ends.{Row, row, endOf, refusedAt, ends, limits, usual, printing}
-use Rattle.rows.specs.Answers.{Holds, hold}
+use Rattle.rows.specs.Answers.{RowHolds, hold}
 
 abbrev pub starredRows : List Row
 starredRows =
@@ -25,6 +25,6 @@ starredRows =
     []
 
 -- negsuc n is -(n + 1)
-pub starred : All Holds starredRows
+pub starred : All RowHolds starredRows
 unfolding endOf
 starred = hold starredRows (record { ends = refl; ranges = refl })

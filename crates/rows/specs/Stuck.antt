@@ -19,88 +19,88 @@ doing body = calling [] body []
 -- A VALUE OF ANOTHER KIND
 
 -- an expression and its type
-pub record Given : Type 0 where
+pub record Sample : Type 0 where
   pub type : List ℕ
   pub value : List ℕ
 
-abbrev pub integer : Given
+abbrev pub integer : Sample
 integer = record { type = bytes "int"; value = bytes "1" }
 
-abbrev pub truth : Given
+abbrev pub truth : Sample
 truth = record { type = bytes "boolean"; value = bytes "true" }
 
-abbrev pub nothing : Given
-nothing = record { type = bytes "int[]"; value = bytes "z" }
+abbrev pub nullArray : Sample
+nullArray = record { type = bytes "int[]"; value = bytes "z" }
 
-abbrev pub array : Given
+abbrev pub array : Sample
 array = record { type = bytes "int[]"; value = bytes "(new int[1])" }
 
-abbrev pub object : Given
+abbrev pub object : Sample
 object = record { type = bytes "A"; value = bytes "this" }
 
 -- given to a local, a field and a parameter of type t, and as the result of a method of type t; what it is in truth fits the local that takes the result
-abbrev pub toLocal : (t : List ℕ) → Given → List ℕ
+abbrev pub toLocal : (t : List ℕ) → Sample → List ℕ
 toLocal t g = doing (t ++ bytes " x;x=" ++ g .value ++ bytes ";")
 
-abbrev pub toField : (t : List ℕ) → Given → List ℕ
+abbrev pub toField : (t : List ℕ) → Sample → List ℕ
 toField t g = calling (t ++ bytes " f;") (bytes "f=" ++ g .value ++ bytes ";") []
 
-abbrev pub toParameter : (t : List ℕ) → Given → List ℕ
+abbrev pub toParameter : (t : List ℕ) → Sample → List ℕ
 toParameter t g = calling [] (bytes "System.out.println(this.k(" ++ g .value ++ bytes "));") (bytes "public int k(" ++ t ++ bytes " p){return 1;}")
 
-abbrev pub asResult : (t : List ℕ) → Given → List ℕ
+abbrev pub asResult : (t : List ℕ) → Sample → List ℕ
 asResult t g = calling [] (g .type ++ bytes " y;y=this.r();") (bytes "public " ++ t ++ bytes " r(){return " ++ g .value ++ bytes ";}")
 
-abbrev pub toType : (t : List ℕ) → Given → List Given → List (List ℕ)
+abbrev pub toType : (t : List ℕ) → Sample → List Sample → List (List ℕ)
 toType t g others = toLocal t g ∷ toField t g ∷ toParameter t g ∷ asResult t g ∷ map (toLocal t) others
 
-abbrev pub variables : List (List ℕ)
-variables =
-    toType (bytes "int") truth (nothing ∷ array ∷ object ∷ []) ++
-    toType (bytes "boolean") integer (nothing ∷ array ∷ object ∷ []) ++
+abbrev pub variableLessons : List (List ℕ)
+variableLessons =
+    toType (bytes "int") truth (nullArray ∷ array ∷ object ∷ []) ++
+    toType (bytes "boolean") integer (nullArray ∷ array ∷ object ∷ []) ++
     toType (bytes "int[]") object (integer ∷ truth ∷ []) ++
     toType (bytes "A") array (integer ∷ truth ∷ [])
 
 -- a node around an expression
-abbrev pub around : (front back : List ℕ) → Given → List ℕ
+abbrev pub around : (front back : List ℕ) → Sample → List ℕ
 around front back g = doing (front ++ g .value ++ back)
 
-abbrev pub printed : Given → List ℕ
-printed = around (bytes "System.out.println(") (bytes ");")
+abbrev pub toPrint : Sample → List ℕ
+toPrint = around (bytes "System.out.println(") (bytes ");")
 
-abbrev pub turnedRound : Given → List ℕ
+abbrev pub turnedRound : Sample → List ℕ
 turnedRound = around (bytes "if(!") (bytes "){}else{}")
 
-abbrev pub measured : Given → List ℕ
-measured = around (bytes "System.out.println(") (bytes ".length);")
+abbrev pub lengthOf : Sample → List ℕ
+lengthOf = around (bytes "System.out.println(") (bytes ".length);")
 
-abbrev pub asked : Given → List ℕ
+abbrev pub asked : Sample → List ℕ
 asked = around (bytes "System.out.println(") (bytes ".m());")
 
-abbrev pub nodes : List (List ℕ)
-nodes =
+abbrev pub nodeLessons : List (List ℕ)
+nodeLessons =
     -- a number: operands, println, a size, an index, the index of a target, a stored element
     around (bytes "System.out.println(") (bytes "+1);") truth ∷
     around (bytes "System.out.println(1+") (bytes ");") object ∷
     around (bytes "System.out.println(") (bytes "-1);") array ∷
-    around (bytes "System.out.println(1*") (bytes ");") nothing ∷
+    around (bytes "System.out.println(1*") (bytes ");") nullArray ∷
     around (bytes "if(") (bytes "<1){}else{}") object ∷
     around (bytes "if(1<") (bytes "){}else{}") truth ∷
     around (bytes "z=new int[") (bytes "];") truth ∷
     around (bytes "System.out.println((new int[1])[") (bytes "]);") object ∷
     around (bytes "z=new int[1];z[") (bytes "]=1;") truth ∷
     around (bytes "z=new int[1];z[0]=") (bytes ";") truth ∷
-    map printed (truth ∷ nothing ∷ array ∷ object ∷ []) ++
+    map toPrint (truth ∷ nullArray ∷ array ∷ object ∷ []) ++
     -- a truth value: operands, the tests of `if` and `while`
     around (bytes "if(") (bytes "&&true){}else{}") integer ∷
     around (bytes "if(true&&") (bytes "){}else{}") object ∷
     around (bytes "if(") (bytes "){}else{}") array ∷
     around (bytes "while(") (bytes "){}") integer ∷
-    map turnedRound (integer ∷ nothing ∷ array ∷ object ∷ []) ++
+    map turnedRound (integer ∷ nullArray ∷ array ∷ object ∷ []) ++
     -- an array: what is indexed, the target of a stored element, what has a length
     around (bytes "System.out.println(") (bytes "[0]);") object ∷
     doing (bytes "int x;x[0]=1;") ∷
-    map measured (integer ∷ truth ∷ object ∷ []) ++
+    map lengthOf (integer ∷ truth ∷ object ∷ []) ++
     -- an object: the receiver
     map asked (integer ∷ truth ∷ array ∷ [])
 
@@ -128,7 +128,7 @@ others =
     []
 
 abbrev pub stuckLessons : List (List ℕ)
-stuckLessons = variables ++ nodes ++ others
+stuckLessons = variableLessons ++ nodeLessons ++ others
 
 pub stuck : map (λ s. uncheckedOf s usual) stuckLessons ≡ map (λ _. some wentWrong) stuckLessons
 unfolding uncheckedOf

@@ -4,9 +4,9 @@ use mathlib.Core.Path.{refl}
 use mathlib.Core.List.{List, [], _∷_, _++_}
 use lib.IntN.{pos}
 use Rattle.base.specs.Bytes.{bytes}
-use Rattle.base.specs.Lists.{All}
+use Rattle.base.specs.All.{All}
 use Rattle.semantics.specs.Ends.{Row, row, endOf, refusedAt, ends, limits, usual, printing}
-use Rattle.rows.specs.Answers.{Holds, hold}
+use Rattle.rows.specs.Answers.{RowHolds, hold}
 
 abbrev pub refutingRows : List Row
 refutingRows =
@@ -20,6 +20,6 @@ refutingRows =
     row (bytes "class M{public static void main(String[] a){{System.out.println(1);System.out.println(2);}}}") usual (ends 0 0 5 0 (pos 1 ∷ pos 2 ∷ [])) ∷
     []
 
-pub worthless : All Holds refutingRows
+pub worthless : All RowHolds refutingRows
 unfolding endOf
 worthless = hold refutingRows (record { ends = refl; ranges = refl })

@@ -7,35 +7,35 @@ use mathlib.Core.List.{List}
 use lib.ListN.{length, drop, replicate, length-replicate}
 use lib.IntN.{ℤ, pos}
 use borrow.Author.Tests.{eq-eqb, ne-eqb, lt-ltb, le-ltb}
-use Rattle.base.specs.Lists.{drop-none}
+use Rattle.base.specs.laws.Lists.{drop-none}
 use Rattle.base.specs.Outcome.{Outcome, accepted, refused}
-use Rattle.base.specs.Tests.{apart}
+use Rattle.base.specs.laws.Tests.{apart}
 use Rattle.parser.specs.Tree.{Program, Statement}
 use Rattle.parser.specs.Tree.{Part.block, Part.conditional, Part.loop, Part.print, Part.assign, Part.assignElement}
 use Rattle.parser.specs.Measure.{nodes, programNodes}
-use Rattle.reader.specs.Counting.{program-nodes}
-use Rattle.checker.specs.Check.{checking}
-use Rattle.typecheck.specs.declared.check.Found.{Found}
-use Rattle.typecheck.specs.declared.check.Found.the-variants.{Program as found, Refused as unfit}
-use Rattle.writer.specs.Preparing.{Accepted, Prepares}
-use Rattle.typecheck.specs.CheckPost.{Checked, Finds, Leaves}
+use Rattle.reader.specs.laws.Counting.{program-nodes}
+use Rattle.typesystem.specs.Check.{checking}
+use Rattle.typecheck.specs.declared.check.Finding.{Finding}
+use Rattle.typecheck.specs.declared.check.Finding.the-variants.{Program as found, Refused as declined}
+use Rattle.writer.specs.contracts.Preparing.{CodeWritten, Prepares}
+use Rattle.typecheck.specs.contracts.CheckPost.{Checked, FindsProgram, Leaves}
 use Rattle.driver.specs.declared.calls.Sizes.{Sizes}
 use Rattle.semantics.specs.Run.{Strips, refusal, RunMeets, Runs}
 use Rattle.semantics.specs.Run as Run
-use Rattle.guarantees.specs.Literals.{small, literals-fit}
+use Rattle.guarantees.specs.laws.Literals.{small, literals-fit}
 use Rattle.interpreter.specs.declared.state.Bounds.{Bounds}
 use Rattle.interpreter.specs.declared.report.Ended.{Ended}
-use Rattle.interpreter.specs.Running.{Runnable, Roomy, answerOf, Executed}
+use Rattle.interpreter.specs.contracts.Running.{Runnable, Roomy, endAnswerOf, Executed}
 use Rattle.runner.specs.declared.run.RunAnswer.{RunAnswer}
-use Rattle.runner.specs.RunPost.{strips, Completes, Compiled, Performs, Known, Performed}
+use Rattle.runner.specs.contracts.RunPost.{strips, Completes, CompletesInRoom, Performs, LeftByCheck, Performed}
 
 -- CHECK'S PROMISE
 
 -- it is within its bounds: the table can be walked over
-pub accepted-few : {s : List ℕ} {z : Sizes} {tab : List ℕ} → Known s z tab → 0 < z .tokens → (z .tokens ≤ 2048) × (z .classes ≤ 2048)
+pub accepted-few : {s : List ℕ} {z : Sizes} {tab : List ℕ} → LeftByCheck s z tab → 0 < z .tokens → (z .tokens ≤ 2048) × (z .classes ≤ 2048)
 accepted-few {s} {z} {tab} k l = by (checking s) (k .says l .finds)
   where
-    by : (v : Outcome Program) → Finds s v (found (z .tokens) (z .classes)) tab → (z .tokens ≤ 2048) × (z .classes ≤ 2048)
+    by : (v : Outcome Program) → FindsProgram s v (found (z .tokens) (z .classes)) tab → (z .tokens ≤ 2048) × (z .classes ≤ 2048)
     by (accepted p) a =
         let e = a .answer in
         let t : length (a .stream) ≡ z .tokens = cc in
@@ -57,10 +57,10 @@ statement-nodes p = omega (arith, some-nodes (p .statement))
     some-nodes (assignElement q y i e) = omega arith
 
 -- it has a token
-pub accepted-some : (s tab : List ℕ) {tokens classes : ℕ} {f : Found} → Leaves s (checking s) f tab → f ≡ found tokens classes → 0 < tokens
+pub accepted-some : (s tab : List ℕ) {tokens classes : ℕ} {f : Finding} → Leaves s (checking s) f tab → f ≡ found tokens classes → 0 < tokens
 accepted-some s tab {tokens} {classes} {f} h q = by (checking s) (h .finds)
   where
-    by : (v : Outcome Program) → Finds s v f tab → 0 < tokens
+    by : (v : Outcome Program) → FindsProgram s v f tab → 0 < tokens
     by (accepted p) a =
         let e = a .answer in
         let t : length (a .stream) ≡ tokens = cc in
@@ -69,7 +69,7 @@ accepted-some s tab {tokens} {classes} {f} h q = by (checking s) (h .finds)
 
 -- an accepted lesson can be run
 runnable : (s : List ℕ) (p : Program) (tokens classes : ℕ) (tab code code′ entries entries′ : List ℕ) → Checked s p (found tokens classes) tab
-    → Accepted p (found tokens classes) tab code code′ entries entries′ → 16 * tokens ≤ length code → 2048 ≤ length entries
+    → CodeWritten p (found tokens classes) tab code code′ entries entries′ → 16 * tokens ≤ length code → 2048 ≤ length entries
     → Runnable tab code′ entries′ (record { tokens = tokens; classes = classes }) p
 runnable s p tokens classes tab code code′ entries entries′ h a long many =
     let z = a .answer in
@@ -93,11 +93,11 @@ runnable s p tokens classes tab code code′ entries entries′ h a long many =
 
 pub completed : (tab code fast values : List ℕ) (sz : Sizes) (b : Bounds) (heap output : List ℤ) {code′ entries′ : List ℕ} {x : Ended} {output′ : List ℤ}
     → Prepares (sz .tokens) (sz .classes) tab code code′ (replicate 2048 0) entries′ → Executed tab code′ entries′ fast values sz b heap output x output′
-    → Compiled tab code fast values sz b heap output (answerOf x) output′
+    → CompletesInRoom tab code fast values sz b heap output (endAnswerOf x) output′
 completed tab code fast values sz b heap output {code′} {entries′} {x} {output′} w E = record { says = λ long roomy. record { says = λ s h. by long roomy s (checking s) (h .finds) } }
   where
-    by : 16 * sz .tokens ≤ length code → Roomy (sz .tokens) (b .calls) fast values → (s : List ℕ) (v : Outcome Program) → Finds s v (found (sz .tokens) (sz .classes)) tab
-        → Performs v b heap output (answerOf x) output′
+    by : 16 * sz .tokens ≤ length code → Roomy (sz .tokens) (b .calls) fast values → (s : List ℕ) (v : Outcome Program) → FindsProgram s v (found (sz .tokens) (sz .classes)) tab
+        → Performs v b heap output (endAnswerOf x) output′
     by long roomy s (accepted p) h =
         let many : length (replicate {A = ℕ} 2048 0) ≡ 2048 = length-replicate {A = ℕ} 2048 0 in
         let r = E .says p (runnable s p (sz .tokens) (sz .classes) tab code code′ (replicate 2048 0) entries′ h (w .says (h .stream) p (record { answer = h .answer; ready = h .ready; derived = h .derived })) long (omega (arith, many))) roomy in
@@ -110,7 +110,7 @@ values-fit tokens calls k t c l = let m : (calls + 1) * ((tokens + 1) / 2) ≤ 6
 
 -- the room of a small lesson, and of any
 pub small-fits : {tab : List ℕ} {sz : Sizes} {b : Bounds} {heap output output′ : List ℤ} {a : Run.RunAnswer} → sz .tokens ≤ 125 → b .calls ≤ 64
-    → Compiled tab (replicate 2048 0) (replicate 512 0) (replicate 4096 0) sz b heap output a output′ → Completes tab sz b heap output a output′
+    → CompletesInRoom tab (replicate 2048 0) (replicate 512 0) (replicate 4096 0) sz b heap output a output′ → Completes tab sz b heap output a output′
 small-fits {sz = sz} {b = b} t c X =
     let l : length (replicate {A = ℕ} 2048 0) ≡ 2048 = length-replicate {A = ℕ} 2048 0 in
     let m : length (replicate {A = ℕ} 512 0) ≡ 512 = length-replicate {A = ℕ} 512 0 in
@@ -118,22 +118,22 @@ small-fits {sz = sz} {b = b} t c X =
     X .says (omega (arith, l)) (record { places = omega (arith, m); enough = values-fit (sz .tokens) (b .calls) 63 (omega arith) c (omega (arith, n)) })
 
 pub wide-fits : {tab : List ℕ} {sz : Sizes} {b : Bounds} {heap output output′ : List ℤ} {a : Run.RunAnswer} → sz .tokens ≤ 2048 → b .calls ≤ 64
-    → Compiled tab (replicate 32768 0) (replicate 8192 0) (replicate 66561 0) sz b heap output a output′ → Completes tab sz b heap output a output′
+    → CompletesInRoom tab (replicate 32768 0) (replicate 8192 0) (replicate 66561 0) sz b heap output a output′ → Completes tab sz b heap output a output′
 wide-fits {sz = sz} {b = b} t c X =
     let l : length (replicate {A = ℕ} 32768 0) ≡ 32768 = length-replicate {A = ℕ} 32768 0 in
     let m : length (replicate {A = ℕ} 8192 0) ≡ 8192 = length-replicate {A = ℕ} 8192 0 in
     let n : length (replicate {A = ℕ} 66561 0) ≡ 66561 = length-replicate {A = ℕ} 66561 0 in
     X .says (omega (arith, l)) (record { places = omega (arith, m); enough = values-fit (sz .tokens) (b .calls) 1024 (omega arith) c (omega (arith, n)) })
 
-pub performed : {s : List ℕ} {z : Sizes} {b : Bounds} {heap output : List ℤ} {tab table′ : List ℕ} {heap′ output′ : List ℤ} {a : Run.RunAnswer} → Known s z tab → 0 < z .tokens
+pub performed : {s : List ℕ} {z : Sizes} {b : Bounds} {heap output : List ℤ} {tab table′ : List ℕ} {heap′ output′ : List ℤ} {a : Run.RunAnswer} → LeftByCheck s z tab → 0 < z .tokens
     → Completes tab z b heap output a output′ → Performed s z b tab heap output a table′ heap′ output′
 performed {s} k l C = record { performs = C .says s (k .says l); clears = λ e. absurd (omega (arith, l, e)) }
 
-refuses-so : (s : List ℕ) (b : Bounds) (heap output : List ℤ) (tab : List ℕ) {n p : ℕ} {f : Found} {a : Run.RunAnswer}
-    → Leaves s (checking s) f tab → f ≡ unfit n p → a ≡ refusal n p → Performs (checking s) b heap output a output
+refuses-so : (s : List ℕ) (b : Bounds) (heap output : List ℤ) (tab : List ℕ) {n p : ℕ} {f : Finding} {a : Run.RunAnswer}
+    → Leaves s (checking s) f tab → f ≡ declined n p → a ≡ refusal n p → Performs (checking s) b heap output a output
 refuses-so s b heap output tab {n} {p} {f} {a} h q e = by (checking s) (h .finds)
   where
-    by : (v : Outcome Program) → Finds s v f tab → Performs v b heap output a output
+    by : (v : Outcome Program) → FindsProgram s v f tab → Performs v b heap output a output
     by (accepted p) c = let z = c .answer in apart (cc)
     by (refused k i) c = let z = c in let x : n ≡ k = cc in let y : p ≡ i = cc in (e ∙ rw (x, y), refl)
 
@@ -142,8 +142,8 @@ cleared : (table table₁ : List ℕ) (heap heap₁ : List ℤ) {table₂ : List
     → table₂ ≡ replicate (length table₁) 0 → heap₂ ≡ replicate (length heap₁) (pos 0) → (table₂ ≡ replicate (length table) 0) × (heap₂ ≡ replicate (length heap) (pos 0))
 cleared table table₁ heap heap₁ lt lh et eh = (et ∙ ap (λ (n : ℕ). replicate n 0) lt, eh ∙ ap (λ (n : ℕ). replicate n (pos 0)) lh)
 
-pub unperformed : (s : List ℕ) (z : Sizes) (b : Bounds) (table table₁ : List ℕ) (heap output : List ℤ) {table₂ : List ℕ} {heap₂ : List ℤ} {n p : ℕ} {f : Found} {a : Run.RunAnswer}
-    → Leaves s (checking s) f table₁ → f ≡ unfit n p → length table₁ ≡ length table → table₂ ≡ replicate (length table₁) 0 → heap₂ ≡ replicate (length heap) (pos 0) → a ≡ refusal n p
+pub unperformed : (s : List ℕ) (z : Sizes) (b : Bounds) (table table₁ : List ℕ) (heap output : List ℤ) {table₂ : List ℕ} {heap₂ : List ℤ} {n p : ℕ} {f : Finding} {a : Run.RunAnswer}
+    → Leaves s (checking s) f table₁ → f ≡ declined n p → length table₁ ≡ length table → table₂ ≡ replicate (length table₁) 0 → heap₂ ≡ replicate (length heap) (pos 0) → a ≡ refusal n p
     → Performed s z b table heap output a table₂ heap₂ output
 unperformed s z b table table₁ heap output h q lt et eh e =
     record { performs = refuses-so s b heap output table₁ h q e; clears = λ _. cleared table table₁ heap heap lt refl et eh }
@@ -154,11 +154,11 @@ pub checked : {s : List ℕ} {z y : Sizes} {b : Bounds} (table table₁ table₂
 checked table table₁ table₂ {heap} {heap₁} h lt lh et eh = record { performs = h .performs; clears = λ _. cleared table table₂ heap heap₁ lt lh et eh }
 
 -- what Check found is known of the lesson
-pub now-known : (s tab : List ℕ) {tokens classes : ℕ} {f : Found} → Leaves s (checking s) f tab → f ≡ found tokens classes → Known s (record { tokens = tokens; classes = classes }) tab
-now-known s tab h q = record { says = λ _. subst (λ (y : Found). Leaves s (checking s) y tab) q h }
+pub now-known : (s tab : List ℕ) {tokens classes : ℕ} {f : Finding} → Leaves s (checking s) f tab → f ≡ found tokens classes → LeftByCheck s (record { tokens = tokens; classes = classes }) tab
+now-known s tab h q = record { says = λ _. subst (λ (y : Finding). Leaves s (checking s) y tab) q h }
 
 -- of no tokens nothing is known
-pub nothing-known : (s tab : List ℕ) (classes : ℕ) → Known s (record { tokens = 0; classes = classes }) tab
+pub nothing-known : (s tab : List ℕ) (classes : ℕ) → LeftByCheck s (record { tokens = 0; classes = classes }) tab
 nothing-known s tab classes = record { says = λ l. absurd (omega (arith, l)) }
 
 -- RUN

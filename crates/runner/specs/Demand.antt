@@ -10,17 +10,16 @@ use lib.ListN.{take}
 use lib.IntN.{ℤ}
 use Rattle.base.specs.Outcome.{accepted}
 use Rattle.parser.specs.Tree.{Program}
-use Rattle.checker.specs.Check.{checking}
+use Rattle.typesystem.specs.Check.{checking}
 use Rattle.semantics.specs.Limits.{Limits, Report, run}
 use Rattle.semantics.specs.Run.{RunAnswer, Strips, limitsOf, unfit, RunMeets, Runs}
-use Rattle.soundness.specs.Results.{Finish, ByLimit}
-use Rattle.soundness.specs.LargerLimits.{_⊑_, Begins}
-use Rattle.acceptance.specs.Accepted.{Allowed, accepts}
+use Rattle.soundness.specs.Results.{Finish, ByLimit, _⊑_, Begins}
+use Rattle.acceptance.specs.Accepted.{Allowed, allowed-accepted}
 use Rattle.guarantees.specs.Demand as Machine
-use Rattle.runner.specs.DemandLaws.{one-answer, ends-as, meets, shown-is}
+use Rattle.runner.specs.laws.DemandLaws.{one-answer, ends-as, meets, shown-is}
 
 -- a call of Run for the lesson s, by its contract: fit arguments (no refusal 1, 2 or 3), what was lent, the answer, and what is there then
-pub record Call (s : List ℕ) : Type 0 where
+pub record RunCall (s : List ℕ) : Type 0 where
   pub budget : ℕ
   pub calls : ℕ
   pub before : Strips
@@ -31,26 +30,26 @@ pub record Call (s : List ℕ) : Type 0 where
 
 module _ {s : List ℕ} where
   -- "Its limits are the budget, the call limit and the lengths of the heap strip and the output strip"
-  abbrev pub limits : Call s → Limits
+  abbrev pub limits : RunCall s → Limits
   limits c = limitsOf (c .budget) (c .calls) (c .before)
 
   -- the printed numbers, which lead the output strip
-  abbrev pub printed : Call s → List ℤ
+  abbrev pub printed : RunCall s → List ℤ
   printed c = take (c .answer .printed) (c .after .output)
 
   -- how the first of two calls ends, and what that says of the second
-  pub data Agree (c c′ : Call s) : Type 0 where
+  pub data Agree (c c′ : RunCall s) : Type 0 where
     -- by itself, in 0, 40, 41 or 42: the second has the same answer (result, position, steps, heap words, printed count) and numbers
     by-itself : Finish (c .answer .number) → c′ .answer ≡ c .answer → printed c′ ≡ printed c → Agree c c′
     -- a limit stops it, with 50, 51, 52 or 53: its printed numbers begin those of the second
     by-a-limit : ByLimit (c .answer .number) → Begins (printed c) (printed c′) → Agree c c′
 
 -- Two calls of Run for an allowed lesson, the second under limits that are no smaller; what was lent may have held anything before.
-pub demand-3 : (s : List ℕ) (p : Program) → Allowed s p → (c c′ : Call s) → limits c ⊑ limits c′ → Agree c c′
+pub demand-3 : (s : List ℕ) (p : Program) → Allowed s p → (c c′ : RunCall s) → limits c ⊑ limits c′ → Agree c c′
 demand-3 s p h c c′ larger = by (ends-as (Machine.ends-well s p found L) (meets-run c .0))
   where
     found : checking s ≡ accepted p
-    found = accepts s p h
+    found = allowed-accepted s p h
 
     L : Limits
     L = limits c
@@ -58,16 +57,16 @@ demand-3 s p h c c′ larger = by (ends-as (Machine.ends-well s p found L) (meet
     M : Limits
     M = limits c′
 
-    meets-run : (c : Call s) → RunMeets (accepted p) (c .budget) (c .calls) (c .before) (c .answer) (c .after)
+    meets-run : (c : RunCall s) → RunMeets (accepted p) (c .budget) (c .calls) (c .before) (c .answer) (c .after)
     meets-run c = meets p (c .budget) (c .calls) (c .before) (c .answer) (c .after) s found (c .fit) (c .runs)
 
-    printed-is : (c : Call s) → printed c ≡ run p (limits c) .printed
+    printed-is : (c : RunCall s) → printed c ≡ run p (limits c) .printed
     printed-is c = shown-is p (c .budget) (c .calls) (c .before) (c .answer) (c .after) (meets-run c)
 
     by : Finish (c .answer .number) ⊎ ByLimit (c .answer .number) → Agree c c′
     by (inl f) =
         let e : run p M ≡ run p L =
-        Machine.same-end s p found L M (c .answer .number) (c .answer .position) larger f (meets-run c .0 .ending) in
+        Machine.same-end p L M (c .answer .number) (c .answer .position) larger f (meets-run c .0 .ending) in
         by-itself f (one-answer e (meets-run c .0) (meets-run c′ .0))
         (printed-is c′ ∙ ap (λ (r : Report). r .printed) e ∙ sym (printed-is c))
-    by (inr l) = by-a-limit l (rw (printed-is c, printed-is c′) (Machine.printed-begins s p found L M larger))
+    by (inr l) = by-a-limit l (rw (printed-is c, printed-is c′) (Machine.printed-begins p L M larger))

@@ -1,18 +1,19 @@
 // The operation Run of document 01: a lesson is checked, and an accepted one is run within its limits.
+use base::codes;
 use base::fill::zero_numbers;
 use base::fill::zero_words;
 use driver::calls::Sizes;
 use interpreter::execute::execute;
 use interpreter::state::Bounds;
-use typecheck::check::Found;
+use typecheck::check::Finding;
 use typecheck::check::find;
 use writer::prepare::prepare;
 ghost use Prim.Native.Nat.{_≤_, _<_};
 ghost use mathlib.Core.Path.{_≡_};
 ghost use lib.ListN.{length};
-ghost use Rattle.reader.specs.WalkPost.{Walkable};
+ghost use Rattle.reader.specs.contracts.WalkPost.{Walkable};
 ghost use Rattle.semantics.specs.Run.{Runs, refusal};
-ghost use Rattle.runner.specs.RunPost.{answerOf, strips, Known, Compiled, Completes, Performed};
+ghost use Rattle.runner.specs.contracts.RunPost.{runAnswerOf, strips, LeftByCheck, CompletesInRoom, Completes, Performed};
 
 // What Run answers: a result number and a position, the steps, the heap words and how many numbers were printed.
 pub struct RunAnswer {
@@ -25,7 +26,7 @@ pub struct RunAnswer {
 
 // A refusal gives zero counts.
 fn refusal(number: u32, position: usize) -> RunAnswer
-    ensures { λ r. ⌜ answerOf r ≡ refusal number position ⌝ }
+    ensures { λ r. ⌜ runAnswerOf r ≡ refusal number position ⌝ }
 {
     RunAnswer {
         number,
@@ -50,7 +51,7 @@ fn compiled(
 ) -> RunAnswer
     requires { ⌜ Walkable (now table) (s .tokens) × (s .classes ≤ 2048) × (length (now heap) ≤ 16384) × (b .budget < 4294967296) × (b .calls ≤ 64)
         × (length (now fast) ≤ 8192) × (length (now values) ≤ 200000) ⌝ }
-    ensures { λ r. ⌜ Compiled (now (table .entry)) (now (code .entry)) (now (fast .entry)) (now (values .entry)) s b (now (heap .entry)) (now (output .entry)) (answerOf r) (now (output .exit)) ⌝ }
+    ensures { λ r. ⌜ CompletesInRoom (now (table .entry)) (now (code .entry)) (now (fast .entry)) (now (values .entry)) s b (now (heap .entry)) (now (output .entry)) (runAnswerOf r) (now (output .exit)) ⌝ }
 {
     let mut entries = [0u32; 2048];
     prepare(table, code, &mut entries, s.tokens, s.classes);
@@ -70,7 +71,7 @@ const SMALL: usize = 125;
 // A small lesson, in room that is enough for one: what is cleared for a run depends on the lesson.
 fn small(table: &[u32], s: Sizes, b: Bounds, heap: &mut [i32], output: &mut [i32]) -> RunAnswer
     requires { ⌜ Walkable (now table) (s .tokens) × (s .classes ≤ 2048) × (length (now heap) ≤ 16384) × (b .budget < 4294967296) × (b .calls ≤ 64) × (s .tokens ≤ 125) ⌝ }
-    ensures { λ r. ⌜ Completes (now (table .entry)) s b (now (heap .entry)) (now (output .entry)) (answerOf r) (now (output .exit)) ⌝ }
+    ensures { λ r. ⌜ Completes (now (table .entry)) s b (now (heap .entry)) (now (output .entry)) (runAnswerOf r) (now (output .exit)) ⌝ }
 {
     let mut code = [0u32; 2048];
     let mut fast = [0u64; 512];
@@ -81,7 +82,7 @@ fn small(table: &[u32], s: Sizes, b: Bounds, heap: &mut [i32], output: &mut [i32
 // Any lesson.
 fn wide(table: &[u32], s: Sizes, b: Bounds, heap: &mut [i32], output: &mut [i32]) -> RunAnswer
     requires { ⌜ Walkable (now table) (s .tokens) × (s .classes ≤ 2048) × (length (now heap) ≤ 16384) × (b .budget < 4294967296) × (b .calls ≤ 64) ⌝ }
-    ensures { λ r. ⌜ Completes (now (table .entry)) s b (now (heap .entry)) (now (output .entry)) (answerOf r) (now (output .exit)) ⌝ }
+    ensures { λ r. ⌜ Completes (now (table .entry)) s b (now (heap .entry)) (now (output .entry)) (runAnswerOf r) (now (output .exit)) ⌝ }
 {
     let mut code = [0u32; 32768];
     let mut fast = [0u64; 8192];
@@ -92,7 +93,7 @@ fn wide(table: &[u32], s: Sizes, b: Bounds, heap: &mut [i32], output: &mut [i32]
 // Runs the accepted lesson that the table holds.
 fn accepted(table: &[u32], s: Sizes, b: Bounds, heap: &mut [i32], output: &mut [i32]) -> RunAnswer
     requires { ⌜ Walkable (now table) (s .tokens) × (s .classes ≤ 2048) × (length (now heap) ≤ 16384) × (b .budget < 4294967296) × (b .calls ≤ 64) ⌝ }
-    ensures { λ r. ⌜ Completes (now (table .entry)) s b (now (heap .entry)) (now (output .entry)) (answerOf r) (now (output .exit)) ⌝ }
+    ensures { λ r. ⌜ Completes (now (table .entry)) s b (now (heap .entry)) (now (output .entry)) (runAnswerOf r) (now (output .exit)) ⌝ }
 {
     if s.tokens <= SMALL {
         return small(table, s, b, heap, output);
@@ -111,8 +112,8 @@ fn perform(
     output: &mut [i32],
     s: Sizes,
 ) -> RunAnswer
-    requires { ⌜ (16384 ≤ length (now table)) × (length (now heap) ≤ 16384) × (b .budget < 4294967296) × (b .calls ≤ 64) × Known (now source) s (now table) ⌝ }
-    ensures { λ r. ⌜ Performed (now (source .entry)) s b (now (table .entry)) (now (heap .entry)) (now (output .entry)) (answerOf r)
+    requires { ⌜ (16384 ≤ length (now table)) × (length (now heap) ≤ 16384) × (b .budget < 4294967296) × (b .calls ≤ 64) × LeftByCheck (now source) s (now table) ⌝ }
+    ensures { λ r. ⌜ Performed (now (source .entry)) s b (now (table .entry)) (now (heap .entry)) (now (output .entry)) (runAnswerOf r)
         (now (table .exit)) (now (heap .exit)) (now (output .exit)) ⌝ }
 {
     if 0 < s.tokens {
@@ -120,13 +121,13 @@ fn perform(
     }
     let f = find(source, table);
     match f {
-        Found::Program(tokens, classes) => {
+        Finding::Program(tokens, classes) => {
             let r = perform(source, table, b, heap, output, Sizes { tokens, classes });
             zero_words(table);
             zero_numbers(heap);
             r
         }
-        Found::Refused(number, at) => {
+        Finding::Refused(number, at) => {
             zero_words(table);
             zero_numbers(heap);
             refusal(number, at)
@@ -143,20 +144,20 @@ pub fn run(
     heap: &mut [i32],
     output: &mut [i32],
 ) -> RunAnswer
-    ensures { λ r. ⌜ Runs (now (source .entry)) budget calls (strips (now (table .entry)) (now (heap .entry)) (now (output .entry))) (answerOf r)
+    ensures { λ r. ⌜ Runs (now (source .entry)) budget calls (strips (now (table .entry)) (now (heap .entry)) (now (output .entry))) (runAnswerOf r)
         (strips (now (table .exit)) (now (heap .exit)) (now (output .exit))) ⌝ }
 {
-    if table.len() < 16384 {
-        return refusal(1, 0);
+    if table.len() < codes::TABLE_LEAST {
+        return refusal(codes::TABLE_TOO_SHORT, 0);
     }
     if calls == 0 {
-        return refusal(2, 0);
+        return refusal(codes::CALL_LIMIT_OUT_OF_RANGE, 0);
     }
-    if 64 < calls {
-        return refusal(2, 0);
+    if codes::CALLS_MOST < calls {
+        return refusal(codes::CALL_LIMIT_OUT_OF_RANGE, 0);
     }
-    if 16384 < heap.len() {
-        return refusal(3, 0);
+    if codes::HEAP_MOST < heap.len() {
+        return refusal(codes::HEAP_TOO_LONG, 0);
     }
     let b = Bounds {
         budget: budget as usize,

@@ -13,10 +13,10 @@ use Rattle.parser.specs.Parse as Parse
 use Rattle.parser.specs.Read as Read
 use Rattle.parser.specs.Stream as Stream
 use Rattle.parser.specs.Tree.{Program}
-use Rattle.checker.specs.Check as Check
-use Rattle.checker.specs.ClassTable as ClassTable
-use Rattle.checker.specs.Declarations as Declarations
-use Rattle.checker.specs.Judge as Judge
+use Rattle.typesystem.specs.Check as Check
+use Rattle.typesystem.specs.ClassTable as ClassTable
+use Rattle.typesystem.specs.Declarations as Declarations
+use Rattle.typesystem.specs.Judge as Judge
 use Rattle.semantics.specs.Limits as Limits
 use Rattle.semantics.specs.Machine as Machine
 
@@ -31,9 +31,9 @@ ofOutcome L (refused n p) = refusedAt n p
 
 -- what the end of a source depends on unfolds with it
 unfoldable pub endOf : List ℕ → Limits.Limits → End
-unfolding Bytes.isBlank Bytes.isLetter Bytes.isDigit Bytes.isNamePart Kinds.isName Kinds.words Kinds.wordKind Kinds.markKind Tokens.run Tokens.closing
+unfolding Bytes.isBlank Bytes.isLetter Bytes.isDigit Bytes.isNamePart Kinds.isName Kinds.words Kinds.wordKind Kinds.markKind Tokens.longestRun Tokens.closing
     Tokens.decimal Tokens.item Tokens.turn Tokens.tokensFrom Tokens.tokens Measure.deep Measure.methodsDeep Measure.classesDeep Measure.programDeep
-    Parse.beginsStatement Parse.step Parse.run Parse.typeFrom Parse.variableFrom Parse.beginsVariable Parse.variablesFrom Parse.someParameters
+    Parse.beginsStatement Parse.step Parse.parseAs Parse.typeFrom Parse.variableFrom Parse.beginsVariable Parse.variablesFrom Parse.someParameters
     Parse.parametersFrom Parse.methodFrom Parse.methodsFrom Parse.parentFrom Parse.classFrom Parse.classesFrom Parse.programFrom Parse.parse Read.reading
     Stream.operatorOf Check.bodies Check.classBodies Check.allBodies Check.judged Check.checking ClassTable.classNamed ClassTable.methodNamed
     ClassTable.variableNamed ClassTable.chainWithin ClassTable.chain ClassTable.endsWithin ClassTable.sameType ClassTable.known ClassTable.among

@@ -11,7 +11,7 @@ use Rattle.base.specs.Choice.{if_then_else_, option}
 use Rattle.base.specs.Outcome.{Outcome, accepted, refused}
 use Rattle.base.specs.Codes.{tableTooShort, tableLeast, callLimitOutOfRange, callsMost, heapTooLong, heapMost}
 use Rattle.parser.specs.Tree.{Program}
-use Rattle.checker.specs.Check.{checking}
+use Rattle.typesystem.specs.Check.{checking}
 use Rattle.semantics.specs.Limits.{Limits, ended, Report, run}
 
 pub record RunAnswer : Type 0 where

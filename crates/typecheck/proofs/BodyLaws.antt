@@ -7,30 +7,30 @@ use lib.ListN.{length}
 use Rattle.base.specs.Outcome.{_>>=_}
 use Rattle.lexer.specs.Tokens.{Token}
 use Rattle.parser.specs.Tree.{Method, Class, Program}
-use Rattle.parser.specs.Layout.{rowVariables, rowMethods, rowClasses}
-use Rattle.checker.specs.ClassTable.{Context, mainContext, contextOf}
-use Rattle.checker.specs.Judge.{judge, must}
-use Rattle.checker.specs.Declarations.{textOf, variables}
-use Rattle.checker.specs.Check.{body, bodies, classBodies, allBodies}
+use Rattle.parser.specs.contracts.Layout.{absent, rowVariables, rowMethods, rowClasses}
+use Rattle.typesystem.specs.ClassTable.{Context, mainContext, contextOf, textOf}
+use Rattle.typesystem.specs.Judge.{judge, must}
+use Rattle.typesystem.specs.Declarations.{variables}
+use Rattle.typesystem.specs.Check.{body, bodies, classBodies, allBodies}
 use Rattle.lookup.specs.declared.answer.Judged.{Judged}
 use Rattle.lookup.specs.declared.answer.Judged.the-variants.{Fine, Refused}
-use Rattle.lookup.specs.Standing.{absent, wordAt, Lexemes, Spells, no-name, a-name, no-variables, MethodStands, MethodsStand, more-methods, ClassStands, ClassesStand, more-classes, World, ListedAt}
-use Rattle.lookup.specs.StandingLaws.{word-in, row-there, name-word, none-left}
-use Rattle.lookup.specs.Lookups.{TypeOf, Many, Counts}
-use Rattle.lookup.specs.VariableLaws.{variables-many}
-use Rattle.lookup.specs.Answers.{settled, goes-on, stops}
-use Rattle.declarations.specs.Judgements.{VariablesJudged}
-use Rattle.declarations.specs.Indexing.{Ready}
+use Rattle.lookup.specs.contracts.HeldClasses.{wordAt, Lexemes, NameNumber, no-name, a-name, no-variables, MethodHeld, MethodsHeld, more-methods, ClassHeld, ClassesHeld, more-classes, ClassTableHeld, ListedAt}
+use Rattle.lookup.specs.laws.HeldLaws.{word-in, row-there, name-word, none-left}
+use Rattle.lookup.specs.contracts.Lookups.{TypeOf, Many, Counts}
+use Rattle.lookup.specs.laws.VariableLaws.{variables-many}
+use Rattle.lookup.specs.contracts.Answers.{asJudged, goes-on, stops}
+use Rattle.declarations.specs.contracts.Judgements.{VariablesJudged}
+use Rattle.declarations.specs.contracts.Indexing.{Ready}
 use Rattle.bodies.specs.declared.scope.Scope.{Scope}
-use Rattle.bodies.specs.Scoping.{InScope}
-use Rattle.bodies.specs.ExpressionPost.{OperandPost}
-use Rattle.bodies.specs.StatementPost.{StatementPost, ListPost}
-use Rattle.typecheck.specs.MethodPost.{CarriedJudged, BodyJudged, MethodsJudged, ClassJudged, ClassesJudged, BodiesJudged}
+use Rattle.bodies.specs.contracts.Scoping.{InScope}
+use Rattle.bodies.specs.contracts.ExpressionPost.{OperandPost}
+use Rattle.bodies.specs.contracts.StatementPost.{StatementPost, ListPost}
+use Rattle.typecheck.specs.contracts.MethodPost.{CarriedJudged, BodyJudged, MethodsJudged, ClassJudged, ClassesJudged, BodiesJudged}
 
 -- STATEMENTS AND RETURN EXPRESSION
 
 module _ {tab : List ℕ} {s : Scope} {row first : ℕ} (e₄ : first ≡ wordAt tab 4 (row + 1)) {v : Judged} (f : ListPost tab s (s .tokens) first v) where
-  statements : (ts : List Token) (G : List Class) (Γ : Context) → InScope tab ts G Γ s → (m : Method) → m .name .row ≡ row → MethodStands tab (s .tokens) ts m → v ≡ settled (judge G Γ (m .body))
+  statements : (ts : List Token) (G : List Class) (Γ : Context) → InScope tab ts G Γ s → (m : Method) → m .name .row ≡ row → MethodHeld tab (s .tokens) ts m → v ≡ asJudged (judge G Γ (m .body))
   statements ts G Γ sc m at st =
       f .says ts G Γ sc (m .body)
       (record {
@@ -68,19 +68,19 @@ module _ {tab : List ℕ} {s : Scope} {row first : ℕ} (e₄ : first ≡ wordAt
 -- BODIES
 
 -- where a method's parameters and locals begin
-given-at : {tab : List ℕ} {n : ℕ} (row parameters : ℕ) → parameters ≡ wordAt tab 4 row → (ts : List Token) → Lexemes tab n ts → (m : Method) → m .name .row ≡ row → MethodStands tab n ts m
+given-at : {tab : List ℕ} {n : ℕ} (row parameters : ℕ) → parameters ≡ wordAt tab 4 row → (ts : List Token) → Lexemes tab n ts → (m : Method) → m .name .row ≡ row → MethodHeld tab n ts m
     → rowVariables (m .parameters) ≡ parameters
 given-at {tab} row parameters e₄ ts lx m at st =
     sym (word-in tab 4 (m .name .row) (row-there lx (m .name .row) (st .head .name .token .there)) (st .first)) ∙ ap (wordAt tab 4) at ∙ sym e₄
 
-own-at : {tab : List ℕ} {n : ℕ} (row locals : ℕ) → locals ≡ wordAt tab 5 row → (ts : List Token) → Lexemes tab n ts → (m : Method) → m .name .row ≡ row → MethodStands tab n ts m
+own-at : {tab : List ℕ} {n : ℕ} (row locals : ℕ) → locals ≡ wordAt tab 5 row → (ts : List Token) → Lexemes tab n ts → (m : Method) → m .name .row ≡ row → MethodHeld tab n ts m
     → rowVariables (m .locals) ≡ locals
 own-at {tab} row locals e₅ ts lx m at st =
     sym (word-in tab 5 (m .name .row) (row-there lx (m .name .row) (st .head .name .token .there)) (st .second)) ∙ ap (wordAt tab 5) at ∙ sym e₅
 
 declared : {tab : List ℕ} {n : ℕ} (row parameters locals before : ℕ) → parameters ≡ wordAt tab 4 row → locals ≡ wordAt tab 5 row → Counts tab n parameters before → {v : Judged}
-    → VariablesJudged tab n n parameters before locals 0 locals v → (ts : List Token) (G : List Class) → World tab n ts G → (m : Method) → m .name .row ≡ row → MethodStands tab n ts m
-    → v ≡ settled (variables G (map textOf (m .parameters)) (m .locals))
+    → VariablesJudged tab n n parameters before locals 0 locals v → (ts : List Token) (G : List Class) → ClassTableHeld tab n ts G → (m : Method) → m .name .row ≡ row → MethodHeld tab n ts m
+    → v ≡ asJudged (variables G (map textOf (m .parameters)) (m .locals))
 declared {tab} row parameters locals before e₄ e₅ many f ts G w m at st =
     let count : length (m .parameters) ≡ before
     = sym (many .says (length (m .parameters))
@@ -124,7 +124,7 @@ module _ {tab : List ℕ} {n classes left owner row : ℕ} where
   unfolding bodies
   methods-end far = record { says = λ ts G w l c sp ms at st few. go ts G w c ms at st }
     where
-      go : (ts : List Token) (G : List Class) → World tab n ts G → (c : List ℕ) (ms : List Method) → rowMethods ms ≡ row → MethodsStand tab n ts ms → Fine 0 ≡ settled (bodies G c ms)
+      go : (ts : List Token) (G : List Class) → ClassTableHeld tab n ts G → (c : List ℕ) (ms : List Method) → rowMethods ms ≡ row → MethodsHeld tab n ts ms → Fine 0 ≡ asJudged (bodies G c ms)
       go ts G w c [] at st = refl
       go ts G w c (m ∷ ms) at (more-methods s c₆ st) = absurd (omega (arith, at, row-there (w .tokens) (m .name .row) (s .head .name .token .there)))
 
@@ -133,8 +133,8 @@ module _ {tab : List ℕ} {n classes left owner row : ℕ} where
     unfolding bodies
     methods-refused {k} {p} is = record { says = λ ts G w l c sp ms at st few. go ts G w l c sp ms at st }
       where
-        go : (ts : List Token) (G : List Class) → World tab n ts G → length G ≡ classes → (c : List ℕ) → Spells ts c owner → (ms : List Method) → rowMethods ms ≡ row → MethodsStand tab n ts ms
-            → Refused k p ≡ settled (bodies G c ms)
+        go : (ts : List Token) (G : List Class) → ClassTableHeld tab n ts G → length G ≡ classes → (c : List ℕ) → NameNumber ts c owner → (ms : List Method) → rowMethods ms ≡ row → MethodsHeld tab n ts ms
+            → Refused k p ≡ asJudged (bodies G c ms)
         go ts G w l c sp [] at st = absurd (omega (arith, at))
         go ts G w l c sp (m ∷ ms) at (more-methods s c₆ st) = rw (stops (body G c m) (λ _. bodies G c ms) (f .says ts G w l c sp m at s) is)
 
@@ -142,8 +142,8 @@ module _ {tab : List ℕ} {n classes left owner row : ℕ} where
     unfolding bodies
     methods-next is {next} e₆ {r} g = record { says = λ ts G w l c sp ms at st few. go ts G w l c sp ms at st few }
       where
-        go : (ts : List Token) (G : List Class) → World tab n ts G → length G ≡ classes → (c : List ℕ) → Spells ts c owner → (ms : List Method) → rowMethods ms ≡ row → MethodsStand tab n ts ms
-            → length ms ≤ left → r ≡ settled (bodies G c ms)
+        go : (ts : List Token) (G : List Class) → ClassTableHeld tab n ts G → length G ≡ classes → (c : List ℕ) → NameNumber ts c owner → (ms : List Method) → rowMethods ms ≡ row → MethodsHeld tab n ts ms
+            → length ms ≤ left → r ≡ asJudged (bodies G c ms)
         go ts G w l c sp [] at st few = absurd (omega (arith, at))
         go ts G w l c sp (m ∷ ms) at (more-methods s c₆ st) few =
             rw (goes-on (body G c m) (λ _. bodies G c ms) (f .says ts G w l c sp m at s) is)
@@ -155,12 +155,12 @@ module _ {tab : List ℕ} {n classes row first : ℕ} (e₅ : first ≡ wordAt t
   pub class-judged : {owner : ℕ} → owner ≡ wordAt tab 2 row → {r : Judged} → MethodsJudged tab n classes n owner first r → ClassJudged tab n classes row r
   class-judged {owner} e₂ {r} f = record { says = go }
     where
-      go : (ts : List Token) (G : List Class) → World tab n ts G → length G ≡ classes → (k : Class) → k .name .row ≡ row → ClassStands tab n ts k
-          → r ≡ settled (bodies G (k .name .text) (k .methods))
+      go : (ts : List Token) (G : List Class) → ClassTableHeld tab n ts G → length G ≡ classes → (k : Class) → k .name .row ≡ row → ClassHeld tab n ts k
+          → r ≡ asJudged (bodies G (k .name .text) (k .methods))
       go ts G w l k at s =
           let there = row-there (w .tokens) (k .name .row) (s .named .token .there) in
           f .says ts G w l (k .name .text)
-          (subst (Spells ts (k .name .text)) (ap (wordAt tab 2) at ∙ sym e₂) (name-word (w .tokens) (k .name .row) (s .named .token)))
+          (subst (NameNumber ts (k .name .text)) (ap (wordAt tab 2) at ∙ sym e₂) (name-word (w .tokens) (k .name .row) (s .named .token)))
           (k .methods) (sym (word-in tab 5 (k .name .row) there (s .second)) ∙ ap (wordAt tab 5) at ∙ sym e₅) (s .methods) (s .few-methods)
 
   pub class-empty : absent ≤ first → ClassJudged tab n classes row (Fine 0)
@@ -174,7 +174,7 @@ module _ {tab : List ℕ} {n classes left row : ℕ} where
   unfolding classBodies
   classes-end far = record { says = λ ts G w l ks h. go ts G w ks (h .here) (h .stand) }
     where
-      go : (ts : List Token) (G : List Class) → World tab n ts G → (ks : List Class) → rowClasses ks ≡ row → ClassesStand tab n ts ks → Fine 0 ≡ settled (classBodies G ks)
+      go : (ts : List Token) (G : List Class) → ClassTableHeld tab n ts G → (ks : List Class) → rowClasses ks ≡ row → ClassesHeld tab n ts ks → Fine 0 ≡ asJudged (classBodies G ks)
       go ts G w [] at st = refl
       go ts G w (k ∷ ks) at (more-classes s c₆ st) = absurd (omega (arith, at, row-there (w .tokens) (k .name .row) (s .named .token .there)))
 
@@ -183,7 +183,7 @@ module _ {tab : List ℕ} {n classes left row : ℕ} where
     unfolding classBodies
     classes-refused {k} {p} is = record { says = λ ts G w l ks h. go ts G w l ks (h .here) (h .stand) }
       where
-        go : (ts : List Token) (G : List Class) → World tab n ts G → length G ≡ classes → (ks : List Class) → rowClasses ks ≡ row → ClassesStand tab n ts ks → Refused k p ≡ settled (classBodies G ks)
+        go : (ts : List Token) (G : List Class) → ClassTableHeld tab n ts G → length G ≡ classes → (ks : List Class) → rowClasses ks ≡ row → ClassesHeld tab n ts ks → Refused k p ≡ asJudged (classBodies G ks)
         go ts G w l [] at st = absurd (omega (arith, at))
         go ts G w l (c ∷ ks) at (more-classes s c₆ st) = rw (stops (bodies G (c .name .text) (c .methods)) (λ _. classBodies G ks) (f .says ts G w l c at s) is)
 
@@ -191,7 +191,7 @@ module _ {tab : List ℕ} {n classes left row : ℕ} where
     unfolding classBodies
     classes-next is {next} e₆ {r} g = record { says = λ ts G w l ks h. go ts G w l ks (h .here) (h .stand) (h .few) }
       where
-        go : (ts : List Token) (G : List Class) → World tab n ts G → length G ≡ classes → (ks : List Class) → rowClasses ks ≡ row → ClassesStand tab n ts ks → length ks ≤ left → r ≡ settled (classBodies G ks)
+        go : (ts : List Token) (G : List Class) → ClassTableHeld tab n ts G → length G ≡ classes → (ks : List Class) → rowClasses ks ≡ row → ClassesHeld tab n ts ks → length ks ≤ left → r ≡ asJudged (classBodies G ks)
         go ts G w l [] at st few = absurd (omega (arith, at))
         go ts G w l (c ∷ ks) at (more-classes s c₆ st) few =
             rw (goes-on (bodies G (c .name .text) (c .methods)) (λ _. classBodies G ks) (f .says ts G w l c at s) is)
@@ -207,7 +207,7 @@ none-listed : (tab : List ℕ) (n : ℕ) (ts : List Token) → ListedAt tab n ts
 none-listed tab n ts = record { at = refl; stand = no-variables; few = omega arith }
 
 module _ {tab : List ℕ} {n classes : ℕ} {v : Judged} (f : StatementPost tab (mainScope n classes) n 14 v) where
-  main-settled : (ts : List Token) (p : Program) → Ready tab n ts p → length (p .classes) ≡ classes → v ≡ settled (judge (p .classes) mainContext (p .statement))
+  main-settled : (ts : List Token) (p : Program) → Ready tab n ts p → length (p .classes) ≡ classes → v ≡ asJudged (judge (p .classes) mainContext (p .statement))
   main-settled ts p h l =
       f .says ts (p .classes) mainContext
       (record {

@@ -6,41 +6,41 @@ use mathlib.Core.List.{List, [], _∷_}
 use lib.ListN.{length, replicate}
 use borrow.Author.Tests.{lt-ltb, le-ltb}
 use Rattle.base.specs.Codes.{tableLeast}
-use Rattle.base.specs.Lists.{getD-replicate-same}
+use Rattle.base.specs.laws.Lists.{getD-replicate-same}
 use Rattle.base.specs.Outcome.{Outcome, accepted, refused, _>>=_}
-use Rattle.base.specs.Tests.{apart}
+use Rattle.base.specs.laws.Tests.{apart}
 use Rattle.lexer.specs.Tokens.{Token}
-use Rattle.lexer.specs.RowLaws.{token-of}
+use Rattle.lexer.specs.laws.RowLaws.{token-of}
 use Rattle.parser.specs.Tree.{Class, Program}
 use Rattle.parser.specs.Stream.{nameAt}
 use Rattle.parser.specs.Grammar.{DerivesProgram, a-program}
-use Rattle.parser.specs.Layout.{rowClasses}
+use Rattle.parser.specs.contracts.Layout.{absent, rowClasses}
 use Rattle.parser.specs.Read.{Reading, reading, tableAfter}
 use Rattle.reader.specs.declared.read.Filled.{Filled}
 use Rattle.reader.specs.declared.read.Filled.the-variants.{Tree, Refused as notRead}
-use Rattle.reader.specs.ReadPost.{Fills}
-use Rattle.checker.specs.Declarations.{distinctClasses, knownParents, endingChains, declarations}
-use Rattle.checker.specs.Check.{allBodies, judged, checking, checkAnswer, check, Checks}
-use Rattle.typing.specs.Agreement.{program-acyclic}
+use Rattle.reader.specs.contracts.ReadPost.{Fills}
+use Rattle.typesystem.specs.Declarations.{distinctClasses, knownParents, endingChains, declarations}
+use Rattle.typesystem.specs.Check.{allBodies, judged, checking, checkAnswer, check, Checks}
+use Rattle.typing.specs.laws.Agreement.{program-acyclic}
 use Rattle.acceptance.specs.Read.{readable-exactly}
 use Rattle.acceptance.specs.Accepted.{allowed}
 use Rattle.lookup.specs.declared.answer.Judged.{Judged}
 use Rattle.lookup.specs.declared.answer.Judged.the-variants.{Fine, Refused}
-use Rattle.lookup.specs.Standing.{absent, wordAt, Lexemes, ClassesStand, no-classes, more-classes}
-use Rattle.lookup.specs.StandingLaws.{word-in, row-there}
-use Rattle.lookup.specs.Lookups.{Many, many-none, many-more, Counts}
-use Rattle.lookup.specs.Answers.{settled, settled-fine, settled-refused, goes-on, stops}
-use Rattle.declarations.specs.Marking.{Below}
-use Rattle.declarations.specs.Judgements.{ClassesAt, ParentsJudged, ChainsJudged, DeclarationsJudged}
-use Rattle.declarations.specs.Indexing.{Ready, IndexMade}
-use Rattle.typecheck.specs.declared.check.Found.{Found}
-use Rattle.typecheck.specs.declared.check.Found.the-variants.{Program as found, Refused as unfit}
+use Rattle.lookup.specs.contracts.HeldClasses.{wordAt, Lexemes, ClassesHeld, no-classes, more-classes}
+use Rattle.lookup.specs.laws.HeldLaws.{word-in, row-there}
+use Rattle.lookup.specs.contracts.Lookups.{Many, many-none, many-more, Counts}
+use Rattle.lookup.specs.contracts.Answers.{asJudged, asJudged-fine, asJudged-refused, goes-on, stops}
+use Rattle.declarations.specs.contracts.Marking.{StampsBelow}
+use Rattle.declarations.specs.contracts.Judgements.{ClassesAt, ParentsJudged, ChainsJudged, DeclarationsJudged}
+use Rattle.declarations.specs.contracts.Indexing.{Ready, IndexMade}
+use Rattle.typecheck.specs.declared.check.Finding.{Finding}
+use Rattle.typecheck.specs.declared.check.Finding.the-variants.{Program as found, Refused as declined}
 use Rattle.typecheck.specs.declared.check.CheckAnswer.{CheckAnswer}
-use Rattle.typecheck.specs.MethodPost.{BodiesJudged}
-use Rattle.typecheck.specs.CheckPost.{told, Holding, Settles, Checked, Finds, Leaves, contentsOf, ContentsJudged, chainsOn, ChainedJudged, parentsOn, IndexedJudged, TreeJudged, answerOf}
+use Rattle.typecheck.specs.contracts.MethodPost.{BodiesJudged}
+use Rattle.typecheck.specs.contracts.CheckPost.{told, Holding, Decides, Checked, FindsProgram, Leaves, contentsOf, ContentsJudged, chainsOn, ChainedJudged, parentsOn, IndexedJudged, TreeJudged, checkAnswerOf}
 
 -- before the first list of members no name has a stamp
-pub zeros-below : (m : ℕ) → Below 1 (replicate m 0)
+pub zeros-below : (m : ℕ) → StampsBelow 1 (replicate m 0)
 zeros-below m = record { words = λ i. omega (arith, getD-replicate-same {A = ℕ} m i 0) }
 
 -- the classes of a ready table, from the first on
@@ -50,7 +50,7 @@ classes-at h e = record { here = e; stand = h .world .classes; few = h .world .f
 -- CONTENTS
 
 module _ {tab : List ℕ} {n classes first : ℕ} {v : Judged} (f : DeclarationsJudged tab n classes n first v) where
-  declared : (ts : List Token) (p : Program) → Ready tab n ts p → length (p .classes) ≡ classes → rowClasses (p .classes) ≡ first → v ≡ settled (declarations (p .classes) (p .classes))
+  declared : (ts : List Token) (p : Program) → Ready tab n ts p → length (p .classes) ≡ classes → rowClasses (p .classes) ≡ first → v ≡ asJudged (declarations (p .classes) (p .classes))
   declared ts p h l e = f .says ts (p .classes) (h .world) l (p .classes) (classes-at h e) (h .own)
 
   pub contents-refused : {k q : ℕ} → v ≡ Refused k q → ContentsJudged tab n classes first (Refused k q)
@@ -64,7 +64,7 @@ module _ {tab : List ℕ} {n classes first : ℕ} {v : Judged} (f : Declarations
 -- CHAINS
 
 module _ {tab : List ℕ} {n classes first : ℕ} {v : Judged} (f : ChainsJudged tab classes n first v) where
-  chains-told : (ts : List Token) (p : Program) → Ready tab n ts p → length (p .classes) ≡ classes → rowClasses (p .classes) ≡ first → v ≡ settled (endingChains (p .classes) (p .classes))
+  chains-told : (ts : List Token) (p : Program) → Ready tab n ts p → length (p .classes) ≡ classes → rowClasses (p .classes) ≡ first → v ≡ asJudged (endingChains (p .classes) (p .classes))
   chains-told ts p h l e = f .says n ts (p .classes) (h .world) l (p .classes) (classes-at h e)
 
   pub chained-refused : {k q : ℕ} → v ≡ Refused k q → ChainedJudged tab n classes first (Refused k q)
@@ -77,7 +77,7 @@ module _ {tab : List ℕ} {n classes first : ℕ} {v : Judged} (f : ChainsJudged
 
 -- PARENTS
 
-many-classes : {tab : List ℕ} {n : ℕ} {ts : List Token} {ks : List Class} → Lexemes tab n ts → ClassesStand tab n ts ks → Many tab (rowClasses ks) (length ks)
+many-classes : {tab : List ℕ} {n : ℕ} {ts : List Token} {ks : List Class} → Lexemes tab n ts → ClassesHeld tab n ts ks → Many tab (rowClasses ks) (length ks)
 many-classes lx no-classes = many-none {row = absent} (omega arith)
 many-classes lx (more-classes {k = k} s c₆ h) = many-more (row-there lx (k .name .row) (s .named .token .there)) c₆ (many-classes lx h)
 
@@ -85,12 +85,12 @@ first-row : (tab : List ℕ) {n : ℕ} {ts : List Token} {p : Program} → Ready
 first-row tab h e = sym (e ∙ word-in tab 6 0 (omega arith) (h .first))
 
 module _ {tab : List ℕ} {n first : ℕ} (e₆ : first ≡ wordAt tab 6 0) {v : Judged} (f : ParentsJudged tab n first v) where
-  parents-told : (ts : List Token) (p : Program) → Ready tab n ts p → v ≡ settled (knownParents (p .classes) (p .classes))
+  parents-told : (ts : List Token) (p : Program) → Ready tab n ts p → v ≡ asJudged (knownParents (p .classes) (p .classes))
   parents-told ts p h = f .says n ts (p .classes) (h .world) (p .classes) (classes-at h (first-row tab h e₆))
 
-  pub indexed-refused : {k q : ℕ} → v ≡ Refused k q → IndexedJudged tab n (unfit k q)
+  pub indexed-refused : {k q : ℕ} → v ≡ Refused k q → IndexedJudged tab n (declined k q)
   indexed-refused is =
-      record { says = λ ts p h d. rw (settled-refused (knownParents (p .classes) (p .classes)) (parents-told ts p h) is) }
+      record { says = λ ts p h d. rw (asJudged-refused (knownParents (p .classes) (p .classes)) (parents-told ts p h) is) }
 
   module _ {u : ℕ} (is : v ≡ Fine u) {classes : ℕ} (many : Counts tab n first classes) {c : Judged} (g : ChainedJudged tab n classes first c) where
     counted : (ts : List Token) (p : Program) → Ready tab n ts p → length (p .classes) ≡ classes
@@ -98,13 +98,13 @@ module _ {tab : List ℕ} {n first : ℕ} (e₆ : first ≡ wordAt tab 6 0) {v :
         sym (many .says (length (p .classes))
         (subst (λ (i : ℕ). Many tab i (length (p .classes))) (first-row tab h e₆) (many-classes (h .world .tokens) (h .world .classes))) (h .world .few))
 
-    later-told : (ts : List Token) (p : Program) → Ready tab n ts p → c ≡ settled (chainsOn p)
+    later-told : (ts : List Token) (p : Program) → Ready tab n ts p → c ≡ asJudged (chainsOn p)
     later-told ts p h = g .says ts p h (counted ts p h) (first-row tab h e₆)
 
     known-told : (ts : List Token) (p : Program) → Ready tab n ts p → parentsOn p ≡ (chainsOn p >>= λ _. accepted p)
     known-told ts p h = goes-on (knownParents (p .classes) (p .classes)) (λ _. chainsOn p >>= λ _. accepted p) (parents-told ts p h) is
 
-    pub indexed-later : {k q : ℕ} → c ≡ Refused k q → IndexedJudged tab n (unfit k q)
+    pub indexed-later : {k q : ℕ} → c ≡ Refused k q → IndexedJudged tab n (declined k q)
     indexed-later is′ =
         record { says = λ ts p h d. rw (known-told ts p h, stops (chainsOn p) (λ _. accepted p) (later-told ts p h) is′) }
 
@@ -136,27 +136,27 @@ stages p = ap (λ (o : Outcome Program). knownParents (p .classes) (p .classes) 
     go (refused n q) b = refl
 
 module _ {n : ℕ} {before middle : List ℕ} {v : Judged} (f : IndexMade n before v middle) where
-  pub tree-refused : {k q : ℕ} → v ≡ Refused k q → TreeJudged n before (unfit k q) middle
+  pub tree-refused : {k q : ℕ} → v ≡ Refused k q → TreeJudged n before (declined k q) middle
   unfolding judged
   tree-refused is =
       record {
         says = λ rd h l.
-            rw (settled-refused (distinctClasses (rd .tree .main .text ∷ []) (rd .tree .classes)) (f .says rd h l .0) is);
+            rw (asJudged-refused (distinctClasses (rd .tree .main .text ∷ []) (rd .tree .classes)) (f .says rd h l .0) is);
       }
 
-  pub tree-indexed : {u : ℕ} → v ≡ Fine u → {r : Found} → IndexedJudged middle n r → TreeJudged n before r middle
+  pub tree-indexed : {u : ℕ} → v ≡ Fine u → {r : Finding} → IndexedJudged middle n r → TreeJudged n before r middle
   unfolding judged
   tree-indexed is g =
       record {
         says = λ rd h l.
-            let d = settled-fine (distinctClasses (rd .tree .main .text ∷ []) (rd .tree .classes)) (f .says rd h l .0) is in
+            let d = asJudged-fine (distinctClasses (rd .tree .main .text ∷ []) (rd .tree .classes)) (f .says rd h l .0) is in
             rw (d, stages (rd .tree)) (g .says (rd .stream) (rd .tree) (f .says rd h l .1 d) (h .derived));
       }
 
 -- THE SOURCE
 
 -- what is told of a finding that is right is what Check answers
-told-right : (s : List ℕ) (v : Outcome Program) (f : Found) (tab : List ℕ) → Finds s v f tab → told f ≡ checkAnswer v
+told-right : (s : List ℕ) (v : Outcome Program) (f : Finding) (tab : List ℕ) → FindsProgram s v f tab → told f ≡ checkAnswer v
 told-right s (accepted p) f tab h = ap told (h .answer)
 told-right s (refused n q) f tab h = ap told h
 
@@ -164,7 +164,7 @@ told-right s (refused n q) f tab h = ap told h
 main-names : {ts : List Token} {p : Program} → DerivesProgram ts p → (p .main ≡ nameAt ts 1) × (p .parameter ≡ nameAt ts 11)
 main-names (a-program h d e₁ e₂ ks) = (refl, refl)
 
-promised : (s : List ℕ) (d : Reading) (p : Program) {r : Found} (after : List ℕ) → reading s ≡ accepted d → judged (d .tree) ≡ accepted p → Holding (d .stream) p r after
+promised : (s : List ℕ) (d : Reading) (p : Program) {r : Finding} (after : List ℕ) → reading s ≡ accepted d → judged (d .tree) ≡ accepted p → Holding (d .stream) p r after
     → Checked s p r after
 unfolding checking
 promised s d p after e q h =
@@ -185,32 +185,32 @@ promised s d p after e q h =
     }
 
 module _ (s : List ℕ) (a : Filled) (middle : List ℕ) (f : Fills (reading s) a middle) where
-  finds-refused : (after : List ℕ) {n q : ℕ} → a ≡ notRead n q → Finds s (checking s) (unfit n q) after
+  finds-refused : (after : List ℕ) {n q : ℕ} → a ≡ notRead n q → FindsProgram s (checking s) (declined n q) after
   unfolding checking
   finds-refused after {n} {q} is = go (reading s) f
     where
-      go : (o : Outcome Reading) → Fills o a middle → Finds s (o >>= λ r. judged (r .tree)) (unfit n q) after
+      go : (o : Outcome Reading) → Fills o a middle → FindsProgram s (o >>= λ r. judged (r .tree)) (declined n q) after
       go (accepted r) h = let z = h .0 in apart (cc)
       go (refused k p) h = let z = h in cc
 
-  finds-tree : {after : List ℕ} {n m : ℕ} → a ≡ Tree n m → {r : Found} → TreeJudged n middle r after → Finds s (checking s) r after
+  finds-tree : {after : List ℕ} {n m : ℕ} → a ≡ Tree n m → {r : Finding} → TreeJudged n middle r after → FindsProgram s (checking s) r after
   unfolding checking
   finds-tree {after} {n} {m} is {r} g = go (reading s) refl f
     where
-      go : (o : Outcome Reading) → reading s ≡ o → Fills o a middle → Finds s (o >>= λ d. judged (d .tree)) r after
+      go : (o : Outcome Reading) → reading s ≡ o → Fills o a middle → FindsProgram s (o >>= λ d. judged (d .tree)) r after
       go (accepted d) e h = let z = h .0 in let l : length (d .stream) ≡ n = cc in by (judged (d .tree)) refl (g .says d (h .1) l)
         where
-          by : (v : Outcome Program) → judged (d .tree) ≡ v → Settles (d .stream) v r after → Finds s v r after
+          by : (v : Outcome Program) → judged (d .tree) ≡ v → Decides (d .stream) v r after → FindsProgram s v r after
           by (accepted p) q x = promised s d p after e q x
           by (refused k p) q x = x
       go (refused k p) e h = let z = h in apart (cc)
 
-  pub find-refused : (after : List ℕ) {n q : ℕ} → a ≡ notRead n q → Leaves s (checking s) (unfit n q) after
+  pub find-refused : (after : List ℕ) {n q : ℕ} → a ≡ notRead n q → Leaves s (checking s) (declined n q) after
   find-refused after {n} {q} is =
       let x = finds-refused after is in
-      record { answers = told-right s (checking s) (unfit n q) after x; finds = x }
+      record { answers = told-right s (checking s) (declined n q) after x; finds = x }
 
-  pub find-tree : {after : List ℕ} {n m : ℕ} → a ≡ Tree n m → {r : Found} → TreeJudged n middle r after → Leaves s (checking s) r after
+  pub find-tree : {after : List ℕ} {n m : ℕ} → a ≡ Tree n m → {r : Finding} → TreeJudged n middle r after → Leaves s (checking s) r after
   find-tree {after} is {r} g =
       let x = finds-tree is g in
       record { answers = told-right s (checking s) r after x; finds = x }
@@ -224,29 +224,29 @@ module _ (s : List ℕ) (a : Filled) (middle : List ℕ) (f : Fills (reading s) 
       go (refused k p) h = let z = h in apart (cc)
 
   -- what is told of it
-  pub answer-refused : {n q : ℕ} → a ≡ notRead n q → {x : CheckAnswer} → answerOf x ≡ told (unfit n q) → answerOf x ≡ checkAnswer (checking s)
+  pub answer-refused : {n q : ℕ} → a ≡ notRead n q → {x : CheckAnswer} → checkAnswerOf x ≡ told (declined n q) → checkAnswerOf x ≡ checkAnswer (checking s)
   answer-refused is t = t ∙ find-refused [] is .answers
 
-  pub answer-tree : {after : List ℕ} {n m : ℕ} → a ≡ Tree n m → {r : Found} → TreeJudged n middle r after → {x : CheckAnswer} → answerOf x ≡ told r → answerOf x ≡ checkAnswer (checking s)
+  pub answer-tree : {after : List ℕ} {n m : ℕ} → a ≡ Tree n m → {r : Finding} → TreeJudged n middle r after → {x : CheckAnswer} → checkAnswerOf x ≡ told r → checkAnswerOf x ≡ checkAnswer (checking s)
   answer-tree is g t = t ∙ find-tree is g .answers
 
 -- THE OPERATION
 
 module _ (s table : List ℕ) where
-  pub check-short : {r : CheckAnswer} → length table < 16384 → r .number ≡ 1 → r .position ≡ 0 → r .classes ≡ 0 → Checks s table (answerOf r) table
+  pub check-short : {r : CheckAnswer} → length table < 16384 → r .number ≡ 1 → r .position ≡ 0 → r .classes ≡ 0 → Checks s table (checkAnswerOf r) table
   unfolding check tableAfter
   check-short h e₁ e₂ e₃ = record { answer = rw (lt-ltb (length table) tableLeast h, e₁, e₂, e₃); table = rw (lt-ltb (length table) tableLeast h) }
 
   pub check-done : (r : CheckAnswer) (middle : List ℕ) {after : List ℕ} → 16384 ≤ length table → length middle ≡ length table → after ≡ replicate (length middle) 0
-      → answerOf r ≡ checkAnswer (checking s) → Checks s table (answerOf r) after
+      → checkAnswerOf r ≡ checkAnswer (checking s) → Checks s table (checkAnswerOf r) after
   unfolding check tableAfter
   check-done r middle long same zero m =
       record { answer = rw (le-ltb (length table) tableLeast long) m; table = rw (le-ltb (length table) tableLeast long) (zero ∙ ap (λ (k : ℕ). replicate k 0) same) }
 
 -- THE ANSWER
 
-pub told-found : {f : Found} {n k : ℕ} → f ≡ found n k → {r : CheckAnswer} → r .number ≡ 0 → r .position ≡ 0 → r .classes ≡ k → answerOf r ≡ told f
+pub told-found : {f : Finding} {n k : ℕ} → f ≡ found n k → {r : CheckAnswer} → r .number ≡ 0 → r .position ≡ 0 → r .classes ≡ k → checkAnswerOf r ≡ told f
 told-found is e₁ e₂ e₃ = rw (is, e₁, e₂, e₃)
 
-pub told-unfit : {f : Found} {n q : ℕ} → f ≡ unfit n q → {r : CheckAnswer} → r .number ≡ n → r .position ≡ q → r .classes ≡ 0 → answerOf r ≡ told f
+pub told-unfit : {f : Finding} {n q : ℕ} → f ≡ declined n q → {r : CheckAnswer} → r .number ≡ n → r .position ≡ q → r .classes ≡ 0 → checkAnswerOf r ≡ told f
 told-unfit is e₁ e₂ e₃ = rw (is, e₁, e₂, e₃)

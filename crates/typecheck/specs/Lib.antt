@@ -1,3 +1,2 @@
 -- What the functions of Check ensure.
-pub mod MethodPost
-pub mod CheckPost
+pub mod contracts

@@ -1,5 +1,6 @@
 // The operation Check, and below it the function that leaves the table filled.
 use crate::method::bodies;
+use base::codes;
 use base::fill::zero_words;
 use declarations::classes::chains;
 use declarations::classes::declarations;
@@ -8,18 +9,19 @@ use declarations::index::index;
 use lookup::answer::Judged;
 use lookup::member::count;
 use lookup::rows::word;
+use parser::columns;
 use reader::read::Filled;
 use reader::read::fill;
 ghost use mathlib.Core.Path.{_≡_};
 ghost use Prim.Native.Nat.{_≤_, _<_};
 ghost use lib.ListN.{length};
-ghost use Rattle.reader.specs.WalkPost.{Walkable};
-ghost use Rattle.checker.specs.Check.{checking, checkAnswer, Checks};
-ghost use Rattle.typecheck.specs.CheckPost as CheckPost;
-ghost use Rattle.typecheck.specs.CheckPost.{ContentsJudged, ChainedJudged, IndexedJudged, TreeJudged, Leaves, answerOf};
+ghost use Rattle.reader.specs.contracts.WalkPost.{Walkable};
+ghost use Rattle.typesystem.specs.Check.{checking, checkAnswer, Checks};
+ghost use Rattle.typecheck.specs.contracts.CheckPost as CheckPost;
+ghost use Rattle.typecheck.specs.contracts.CheckPost.{ContentsJudged, ChainedJudged, IndexedJudged, TreeJudged, Leaves, checkAnswerOf};
 
 // The tokens and the classes of an accepted source; or a refusal and its position.
-pub enum Found {
+pub enum Finding {
     Program(usize, usize),
     Refused(u32, usize),
 }
@@ -58,60 +60,60 @@ fn chained(table: &[u32], n: usize, classes: usize, first: usize) -> Judged
 }
 
 // Parents, then all the rest.
-fn indexed(table: &[u32], n: usize) -> Found
+fn indexed(table: &[u32], n: usize) -> Finding
     requires { ⌜ Walkable (now table) n ⌝ }
     ensures { λ r. ⌜ IndexedJudged (now (table .entry)) n r ⌝ }
 {
-    let first = word(table, 6, 0);
+    let first = word(table, columns::NEXT, columns::CLASS_LIST);
     let p = parents(table, n, first);
     match p {
         Judged::Fine(_) => {
             let classes = count(table, n, first);
             let c = chained(table, n, classes, first);
             match c {
-                Judged::Fine(_) => Found::Program(n, classes),
-                Judged::Refused(number, at) => Found::Refused(number, at),
+                Judged::Fine(_) => Finding::Program(n, classes),
+                Judged::Refused(number, at) => Finding::Refused(number, at),
             }
         }
-        Judged::Refused(number, at) => Found::Refused(number, at),
+        Judged::Refused(number, at) => Finding::Refused(number, at),
     }
 }
 
 // A tree of n tokens.
-fn tree(table: &mut [u32], n: usize) -> Found
+fn tree(table: &mut [u32], n: usize) -> Finding
     requires { ⌜ Walkable (now table) n ⌝ }
     ensures { λ r. ⌜ TreeJudged n (now (table .entry)) r (now (table .exit)) ⌝ }
 {
     let i = index(table, n);
     match i {
         Judged::Fine(_) => indexed(table, n),
-        Judged::Refused(number, at) => Found::Refused(number, at),
+        Judged::Refused(number, at) => Finding::Refused(number, at),
     }
 }
 
 // Check, with the table left filled.
-pub fn find(source: &[u8], table: &mut [u32]) -> Found
+pub fn find(source: &[u8], table: &mut [u32]) -> Finding
     requires { ⌜ 16384 ≤ length (now table) ⌝ }
     ensures { λ r. ⌜ Leaves (now (source .entry)) (checking (now (source .entry))) r (now (table .exit)) ⌝ }
 {
     let f = fill(source, table);
     match f {
         Filled::Tree(tokens, _nodes) => tree(table, tokens),
-        Filled::Refused(number, at) => Found::Refused(number, at),
+        Filled::Refused(number, at) => Finding::Refused(number, at),
     }
 }
 
 // What Check answers of what was found.
-fn told(f: Found) -> CheckAnswer
-    ensures { λ r. ⌜ answerOf r ≡ CheckPost.told f ⌝ }
+fn told(f: Finding) -> CheckAnswer
+    ensures { λ r. ⌜ checkAnswerOf r ≡ CheckPost.told f ⌝ }
 {
     match f {
-        Found::Program(_tokens, classes) => CheckAnswer {
-            number: 0,
+        Finding::Program(_tokens, classes) => CheckAnswer {
+            number: codes::SUCCESS,
             position: 0,
             classes,
         },
-        Found::Refused(number, position) => CheckAnswer {
+        Finding::Refused(number, position) => CheckAnswer {
             number,
             position,
             classes: 0,
@@ -122,22 +124,22 @@ fn told(f: Found) -> CheckAnswer
 // What Check answers, with the table left filled. It calls `tree` itself, as `find` does: the compiler leaves a function that is called in two places as it is, so the arrays of `tree` do not lie below the parser's calls.
 fn answer(source: &[u8], table: &mut [u32]) -> CheckAnswer
     requires { ⌜ 16384 ≤ length (now table) ⌝ }
-    ensures { λ r. ⌜ answerOf r ≡ checkAnswer (checking (now (source .entry))) ⌝ }
+    ensures { λ r. ⌜ checkAnswerOf r ≡ checkAnswer (checking (now (source .entry))) ⌝ }
 {
     let f = fill(source, table);
     match f {
         Filled::Tree(tokens, _nodes) => told(tree(table, tokens)),
-        Filled::Refused(number, at) => told(Found::Refused(number, at)),
+        Filled::Refused(number, at) => told(Finding::Refused(number, at)),
     }
 }
 
 // The operation Check of document 01.
 pub fn check(source: &[u8], table: &mut [u32]) -> CheckAnswer
-    ensures { λ r. ⌜ Checks (now (source .entry)) (now (table .entry)) (answerOf r) (now (table .exit)) ⌝ }
+    ensures { λ r. ⌜ Checks (now (source .entry)) (now (table .entry)) (checkAnswerOf r) (now (table .exit)) ⌝ }
 {
-    if table.len() < 16384 {
+    if table.len() < codes::TABLE_LEAST {
         return CheckAnswer {
-            number: 1,
+            number: codes::TABLE_TOO_SHORT,
             position: 0,
             classes: 0,
         };

@@ -1,32 +1,46 @@
 // The bodies of all methods: locals, statements, the return expression. While those of a class are judged, `fields` holds what its fields mean to them.
+use base::codes::BROKEN;
 use bodies::expr::operand;
 use bodies::scope::Scope;
 use bodies::stmt;
 use declarations::variables::variables;
-use lookup::answer::BROKEN;
 use lookup::answer::Judged;
 use lookup::fields::fill;
 use lookup::member::count;
-use lookup::rows::ABSENT;
 use lookup::rows::word;
 use lookup::types::type_of;
+use parser::columns;
+use parser::columns::ABSENT;
 ghost use Prim.Native.Nat.{_≤_, _<_};
 ghost use lib.ListN.{length};
-ghost use Rattle.reader.specs.WalkPost.{Walkable};
-ghost use Rattle.lookup.specs.Fields.{FieldsHeld};
-ghost use Rattle.bodies.specs.Scoping.{Judgeable};
-ghost use Rattle.typecheck.specs.MethodPost.{CarriedJudged, BodyJudged, MethodsJudged, ClassJudged, ClassesJudged, BodiesJudged};
+ghost use Rattle.reader.specs.contracts.WalkPost.{Walkable};
+ghost use Rattle.lookup.specs.contracts.Fields.{FieldsHeld};
+ghost use Rattle.bodies.specs.contracts.Scoping.{Judgeable};
+ghost use Rattle.typecheck.specs.contracts.MethodPost.{CarriedJudged, BodyJudged, MethodsJudged, ClassJudged, ClassesJudged, BodiesJudged};
 
 // Statements and return expression of a method. They stand in the row after its name.
 fn carried(table: &[u32], fields: &[u32], s: Scope, row: usize) -> Judged
     requires { ⌜ Judgeable (now table) (now fields) s × (row < 4294967296) ⌝ }
     ensures { λ r. ⌜ CarriedJudged (now (table .entry)) s row r ⌝ }
 {
-    let b = stmt::list(table, fields, s, s.tokens, word(table, 4, row + 1));
+    let b = stmt::list(
+        table,
+        fields,
+        s,
+        s.tokens,
+        word(table, columns::BODY, row + 1),
+    );
     match b {
         Judged::Fine(_) => {
-            let want = type_of(table, s.tokens, word(table, 3, row));
-            operand(table, fields, s, s.tokens, word(table, 5, row + 1), want)
+            let want = type_of(table, s.tokens, word(table, columns::TYPE, row));
+            operand(
+                table,
+                fields,
+                s,
+                s.tokens,
+                word(table, columns::VALUE, row + 1),
+                want,
+            )
         }
         Judged::Refused(number, at) => Judged::Refused(number, at),
     }
@@ -37,8 +51,8 @@ fn body(table: &[u32], fields: &[u32], n: usize, classes: usize, owner: usize, r
     requires { ⌜ Walkable (now table) n × (4096 ≤ length (now fields)) × FieldsHeld (now table) n classes owner (now fields) × (row < 4294967296) ⌝ }
     ensures { λ r. ⌜ BodyJudged (now (table .entry)) n classes owner row r ⌝ }
 {
-    let parameters = word(table, 4, row);
-    let locals = word(table, 5, row);
+    let parameters = word(table, columns::PARAMETERS, row);
+    let locals = word(table, columns::LOCALS, row);
     let before = count(table, n, parameters);
     let v = variables(table, n, n, parameters, before, locals, 0, locals);
     match v {
@@ -84,7 +98,7 @@ fn methods(
             classes,
             left - 1,
             owner,
-            word(table, 6, row),
+            word(table, columns::NEXT, row),
         ),
         Judged::Refused(number, at) => Judged::Refused(number, at),
     }
@@ -95,11 +109,11 @@ fn of_class(table: &[u32], fields: &mut [u32], n: usize, classes: usize, row: us
     requires { ⌜ Walkable (now table) n × (4096 ≤ length (now fields)) × (classes ≤ 2048) ⌝ }
     ensures { λ r. ⌜ ClassJudged (now (table .entry)) n classes row r ⌝ }
 {
-    let first = word(table, 5, row);
+    let first = word(table, columns::METHODS, row);
     if ABSENT <= first {
         return Judged::Fine(0);
     }
-    let owner = word(table, 2, row);
+    let owner = word(table, columns::NUMBER, row);
     fill(table, fields, n, classes, owner);
     methods(table, fields, n, classes, n, owner, first)
 }
@@ -124,7 +138,14 @@ fn all(
     }
     let c = of_class(table, fields, n, classes, row);
     match c {
-        Judged::Fine(_) => all(table, fields, n, classes, left - 1, word(table, 6, row)),
+        Judged::Fine(_) => all(
+            table,
+            fields,
+            n,
+            classes,
+            left - 1,
+            word(table, columns::NEXT, row),
+        ),
         Judged::Refused(number, at) => Judged::Refused(number, at),
     }
 }
@@ -143,9 +164,16 @@ pub fn bodies(table: &[u32], n: usize, classes: usize) -> Judged
         parameters: ABSENT,
         locals: ABSENT,
     };
-    let m = stmt::single(table, &fields, s, n, 14);
+    let m = stmt::single(table, &fields, s, n, columns::MAIN_STATEMENT);
     match m {
-        Judged::Fine(_) => all(table, &mut fields, n, classes, n, word(table, 6, 0)),
+        Judged::Fine(_) => all(
+            table,
+            &mut fields,
+            n,
+            classes,
+            n,
+            word(table, columns::NEXT, columns::CLASS_LIST),
+        ),
         Judged::Refused(number, at) => Judged::Refused(number, at),
     }
 }

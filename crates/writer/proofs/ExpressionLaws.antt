@@ -7,29 +7,29 @@ use mathlib.Core.Bool.{Bool, true, false}
 use lib.ListN.{length, getD, length-map}
 use borrow.Author.Tests.{ne-eqb}
 use Rattle.lexer.specs.Tokens.{Token}
-use Rattle.lexer.specs.Rows.{firstNamed}
+use Rattle.lexer.specs.contracts.Rows.{firstNamed}
 use Rattle.parser.specs.Tree.{Sort.expression, Sort.arguments, Part, Expression, Class}
 use Rattle.parser.specs.Tree.{Part.literal, Part.truth, Part.variable, Part.this, Part.newArray, Part.newObject, Part.negation, Part.binary, Part.element, Part.arrayLength, Part.call, Part.noArguments, Part.argument}
-use Rattle.parser.specs.Layout.{rowOf}
+use Rattle.parser.specs.contracts.Layout.{absent, rowOf}
 use Rattle.parser.specs.Measure.{nodes}
-use Rattle.parser.specs.Post.{kindIn, isAtom}
-use Rattle.reader.specs.Holds.{Holds}
-use Rattle.reader.specs.Matches.{Matches}
-use Rattle.checker.specs.ClassTable.{Context, meaning, fieldsOf}
-use Rattle.checker.specs.Judge.{arity}
-use Rattle.lookup.specs.Standing.{absent, wordAt, Spells, Lexemes}
+use Rattle.parser.specs.contracts.Post.{kindInTable, isAtom}
+use Rattle.reader.specs.contracts.Holds.{Holds}
+use Rattle.reader.specs.contracts.Matches.{Matches}
+use Rattle.typesystem.specs.ClassTable.{Context, meaning, fieldsOf}
+use Rattle.typesystem.specs.Judge.{arity}
+use Rattle.lookup.specs.contracts.HeldClasses.{wordAt, NameNumber, Lexemes}
 use Rattle.semantics.specs.Machine.{number, flag, isAnd, slot, initial}
 use Rattle.writer.specs.declared.scope.Scope.{Scope}
-use Rattle.writer.specs.Scoping.{SlotPost}
-use Rattle.codegen.specs.Code as Code
-use Rattle.codegen.specs.Code.{mark, push, load, self, negate, operate, keep, fetch, measure, makeArray, makeObject}
-use Rattle.codegen.specs.Compile.{endBinary, emitBinary, end, emit, cellsOf}
-use Rattle.writer.specs.Words.{words, encode}
-use Rattle.writer.specs.Emits.{nothing}
-use Rattle.writer.specs.Lengths.{grows}
-use Rattle.writer.specs.Shows.{PartAt, Sees, Form, aLiteral, aTruth, aVariable, aThis, aNewArray, aNewObject, aNegation, aConjunction, anOperation, anElement, aLength, aCall, formAtom, formCompound, formE}
-use Rattle.writer.specs.Shows.{Shows, shows-literal, shows-truth, shows-variable, shows-this, shows-new-array, shows-new-object, shows-negation, shows-conjunction, shows-operation, shows-element, shows-length, shows-call}
-use Rattle.writer.specs.Posts.{room, PutPost, NextPost, Wrote, WritePost, innerE, endE, ExpressionPost, SinglePost, PairPost, CountPost}
+use Rattle.writer.specs.contracts.Scoping.{SlotPost}
+use Rattle.codegen.specs.contracts.Code as Code
+use Rattle.codegen.specs.contracts.Code.{mark, push, load, self, negate, operate, keep, fetch, measure, makeArray, makeObject}
+use Rattle.codegen.specs.contracts.Compile.{endBinary, emitBinary, end, emit, cellsOf}
+use Rattle.writer.specs.contracts.Words.{words, encode}
+use Rattle.writer.specs.laws.Emits.{no-code}
+use Rattle.writer.specs.laws.Lengths.{grows}
+use Rattle.writer.specs.contracts.Shows.{NodesAt, Sees, Form, aLiteral, aTruth, aVariable, aThis, aNewArray, aNewObject, aNegation, aConjunction, anOperation, anElement, aLength, aCall, formAtom, formCompound, formE}
+use Rattle.writer.specs.contracts.Shows.{Shows, shows-literal, shows-truth, shows-variable, shows-this, shows-new-array, shows-new-object, shows-negation, shows-conjunction, shows-operation, shows-element, shows-length, shows-call}
+use Rattle.writer.specs.contracts.Posts.{room, PutPost, NextPost, Wrote, WritePost, innerE, endE, ExpressionPost, SinglePost, PairPost, CountPost}
 use Rattle.writer.proofs.RowLaws.{positive, there, shown, follows}
 use Rattle.writer.proofs.PieceLaws.{put-one, next-to, over}
 
@@ -40,7 +40,7 @@ pub lexemes : {tab names : List ℕ} {ts : List Token} {G : List Class} {Γ : Co
 lexemes w = w .scope .world .tokens
 
 -- the number of a name that a word spells
-pub spelt : {ts : List Token} {x : List ℕ} {w v : ℕ} → v ≡ w → Spells ts x w → v ≡ firstNamed ts x
+pub spelt : {ts : List Token} {x : List ℕ} {w v : ℕ} → v ≡ w → NameNumber ts x w → v ≡ firstNamed ts x
 spelt e h = e ∙ sym (h .first)
 
 -- ONE OR TWO PARTS AND AN INSTRUCTION
@@ -173,7 +173,7 @@ call-wrote {tab} {names} {s} {left} {row} {at} {first} {a} {given} {b} {start} {
 -- FORMS OF MORE THAN ONE TOKEN
 
 module _ {tab names : List ℕ} {s : Scope} {left row at r : ℕ} {c c′ : List ℕ} where
-  pub operation-wrote : {k : ℕ} → k ≡ kindIn tab (s .tokens) row → PairPost tab names s 8 k left row at c c′ r → ExpressionPost tab names s anOperation left row at c c′ r
+  pub operation-wrote : {k : ℕ} → k ≡ kindInTable tab (s .tokens) row → PairPost tab names s 8 k left row at c c′ r → ExpressionPost tab names s anOperation left row at c c′ r
   operation-wrote {k} kind f = record { within = f .within; says = go }
     where
       go : (ts : List Token) (G : List Class) (Γ : Context) → Sees tab names ts G Γ s → (e : Expression) → Shows tab ts (s .tokens) row left anOperation e → endE e at ≤ room
@@ -314,13 +314,13 @@ module _ {tab names : List ℕ} {s : Scope} {left row at : ℕ} {c : List ℕ} w
   pub expression-none : left ≡ 0 → at ≤ room → WritePost tab names s expression left row at c c at
   expression-none z low = record { within = low; says = λ ts G Γ w e h. absurd (omega (arith, positive e, h .few)) }
 
-  module _ (more : left ≡ 0 → ⊥) {k start i : ℕ} {c₁ : List ℕ} (kind : k ≡ kindIn tab (s .tokens) row) (e₃ : start ≡ wordAt tab 3 row) (p : PutPost at 0 start 0 0 c c₁ i) where
-    marked : {F : Form} → formE k (kindIn tab (s .tokens) (row + 1)) ≡ F → {r : ℕ} {c₂ : List ℕ} → ExpressionPost tab names s F (left - 1) row i c₁ c₂ r
+  module _ (more : left ≡ 0 → ⊥) {k start i : ℕ} {c₁ : List ℕ} (kind : k ≡ kindInTable tab (s .tokens) row) (e₃ : start ≡ wordAt tab 3 row) (p : PutPost at 0 start 0 0 c c₁ i) where
+    marked : {F : Form} → formE k (kindInTable tab (s .tokens) (row + 1)) ≡ F → {r : ℕ} {c₂ : List ℕ} → ExpressionPost tab names s F (left - 1) row i c₁ c₂ r
         → WritePost tab names s expression left row at c c₂ r
     marked {F} form {r} {c₂} f =
         record {
           within = f .within;
-          says = λ ts G Γ w e h l. go ts G Γ w e (shown (lexemes w) more (ap (λ (j : ℕ). formE j (kindIn tab (s .tokens) (row + 1))) (sym kind) ∙ form) e h) l;
+          says = λ ts G Γ w e h l. go ts G Γ w e (shown (lexemes w) more (ap (λ (j : ℕ). formE j (kindInTable tab (s .tokens) (row + 1))) (sym kind) ∙ form) e h) l;
         }
       where
         go : (ts : List Token) (G : List Class) (Γ : Context) → Sees tab names ts G Γ s → (e : Expression) → Shows tab ts (s .tokens) row (left - 1) F e → end e at ≤ room
@@ -335,7 +335,7 @@ module _ {tab names : List ℕ} {s : Scope} {left row at : ℕ} {c : List ℕ} w
       unfolding formE
       expression-atom is f = marked (rw (sym test ∙ is)) f
 
-      pub expression-compound : b ≡ false → {after : ℕ} → after ≡ kindIn tab (s .tokens) (row + 1) → ExpressionPost tab names s (formCompound k after) (left - 1) row i c₁ c₂ r
+      pub expression-compound : b ≡ false → {after : ℕ} → after ≡ kindInTable tab (s .tokens) (row + 1) → ExpressionPost tab names s (formCompound k after) (left - 1) row i c₁ c₂ r
           → WritePost tab names s expression left row at c c₂ r
       unfolding formE
       expression-compound is next f = marked (rw (sym test ∙ is, sym next)) f
@@ -348,7 +348,7 @@ module _ {tab names : List ℕ} {s : Scope} {left row at : ℕ} {c : List ℕ} w
   arguments-none z low = record { within = low; says = λ ts G Γ w es h l. go ts G Γ es (h .few) }
     where
       go : (ts : List Token) (G : List Class) (Γ : Context) (es : Part arguments) → nodes es ≤ left → Wrote (firstNamed ts) (emit G Γ es at) (end es at) at c c at
-      go ts G Γ noArguments few = record { ends = refl; code = nothing }
+      go ts G Γ noArguments few = record { ends = refl; code = no-code }
       go ts G Γ (argument e es) few = absurd (omega (arith, positive e))
 
   pub arguments-end : absent ≤ row → at ≤ room → WritePost tab names s arguments left row at c c at
@@ -356,7 +356,7 @@ module _ {tab names : List ℕ} {s : Scope} {left row at : ℕ} {c : List ℕ} w
   arguments-end far low = record { within = low; says = λ ts G Γ w es h l. go ts G Γ (few-tokens w) es (h .at) (h .matches) }
     where
       go : (ts : List Token) (G : List Class) (Γ : Context) → length ts ≤ 2048 → (es : Part arguments) → rowOf es ≡ row → Matches ts es → Wrote (firstNamed ts) (emit G Γ es at) (end es at) at c c at
-      go ts G Γ few noArguments is m = record { ends = refl; code = nothing }
+      go ts G Γ few noArguments is m = record { ends = refl; code = no-code }
       go ts G Γ few (argument e es) is m = absurd (omega (arith, there ts e (m .0), is))
 
   pub arguments-more : (left ≡ 0 → ⊥) → row < absent → {a next r : ℕ} {c₁ c₂ : List ℕ} → WritePost tab names s expression left row at c c₁ a → next ≡ wordAt tab 6 row
@@ -369,5 +369,5 @@ module _ {tab names : List ℕ} {s : Scope} {left row at : ℕ} {c : List ℕ} w
       go ts G Γ w noArguments is h m few l = absurd (omega (arith, is))
       go ts G Γ w (argument e es) is h m few l =
           let u = f .says ts G Γ w e (record { at = is; holds = h .0; matches = m .0; few = omega arith }) (omega (arith, grows es (end e at))) in
-          let y : PartAt tab ts (wordAt tab 6 row) (left - 1) es = follows is (omega (arith, is)) (h .1) (h .2) (m .1) (omega (arith, positive e)) in
+          let y : NodesAt tab ts (wordAt tab 6 row) (left - 1) es = follows is (omega (arith, is)) (h .1) (h .2) (m .1) (omega (arith, positive e)) in
           next-to (emit G Γ es) (end es) u (g .says ts G Γ w es (rw e₆ y) (rw (u .ends) l))

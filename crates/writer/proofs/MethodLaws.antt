@@ -1,25 +1,25 @@
 -- What writing methods returns meets its contract: the parameters and locals of a method make the scope in which its body and its value are written.
 use Prim.Native.Nat.{ℕ, suc, _+_, _-_, _≤_, _<_}
 use native.Mathlib.Omega.{arith}
-use Rattle.reader.specs.Counting.{nodes-covered}
+use Rattle.reader.specs.laws.Counting.{nodes-covered}
 use mathlib.Core.Path.{_≡_, refl, sym, ap, _∙_}
 use mathlib.Core.List.{List, [], _∷_}
 use lib.ListN.{length, set}
 use Rattle.lexer.specs.Tokens.{Token}
-use Rattle.lexer.specs.Rows.{firstNamed}
+use Rattle.lexer.specs.contracts.Rows.{firstNamed}
 use Rattle.parser.specs.Tree.{Sort.expression, Sort.statements, Method, Class}
-use Rattle.parser.specs.Layout.{rowMethods}
-use Rattle.base.specs.Table.{col}
-use Rattle.checker.specs.ClassTable.{contextOf}
-use Rattle.lookup.specs.Standing.{absent, wordAt, MethodStands, MethodsStand, more-methods}
-use Rattle.lookup.specs.StandingLaws.{word-in, row-there}
-use Rattle.codegen.specs.Code.{return}
-use Rattle.codegen.specs.Compile.{end, emit, middle, last, endMethods, emitMethods}
-use Rattle.writer.specs.Emits.{nothing}
-use Rattle.writer.specs.Lengths.{grows}
-use Rattle.writer.specs.Shows.{PartAt, Sees}
-use Rattle.writer.specs.Posts.{room, PutPost, Wrote, WritePost}
-use Rattle.writer.specs.Methods.{SeesClass, entered, MethodPost, MethodsPost}
+use Rattle.parser.specs.contracts.Layout.{absent, rowMethods}
+use Rattle.base.specs.contracts.Table.{col}
+use Rattle.typesystem.specs.ClassTable.{contextOf}
+use Rattle.lookup.specs.contracts.HeldClasses.{wordAt, MethodHeld, MethodsHeld, more-methods}
+use Rattle.lookup.specs.laws.HeldLaws.{word-in, row-there}
+use Rattle.codegen.specs.contracts.Code.{return}
+use Rattle.codegen.specs.contracts.Compile.{end, emit, middle, valueEnd, endMethods, emitMethods}
+use Rattle.writer.specs.laws.Emits.{no-code}
+use Rattle.writer.specs.laws.Lengths.{grows}
+use Rattle.writer.specs.contracts.Shows.{NodesAt, Sees}
+use Rattle.writer.specs.contracts.Posts.{room, PutPost, Wrote, WritePost}
+use Rattle.writer.specs.contracts.Methods.{SeesClass, entered, MethodPost, MethodsPost}
 use Rattle.writer.proofs.PieceLaws.{put-one, next-to}
 
 -- a word of a row of a declaration
@@ -31,8 +31,8 @@ pub method-wrote : {tab names : List ℕ} {n row at p l first a second b r : ℕ
     → WritePost tab names (record { tokens = n; parameters = p; locals = l }) expression n second a c₁ c₂ b → PutPost b 6 0 0 0 c₂ c₃ r → MethodPost tab names n row at c c₃ r
 method-wrote {tab} {names} {n} {row} {at} {p} {l} {first} {a} {second} {b} {r} {c} {c₁} {c₂} {c₃} e₄ e₅ e₄′ f e₅′ g o = record { within = o .within; says = go }
   where
-    go : (ts : List Token) (G : List Class) (d : List ℕ) → SeesClass tab names n ts G d → (F : Method) → F .name .row ≡ row → MethodStands tab n ts F → suc (last F at) ≤ room
-        → Wrote (firstNamed ts) (λ k. emit G (contextOf d F) (F .body) at (emit G (contextOf d F) (F .value) (middle F at) (return ∷ k))) (suc (last F at)) at c c₃ r
+    go : (ts : List Token) (G : List Class) (d : List ℕ) → SeesClass tab names n ts G d → (F : Method) → F .name .row ≡ row → MethodHeld tab n ts F → suc (valueEnd F at) ≤ room
+        → Wrote (firstNamed ts) (λ k. emit G (contextOf d F) (F .body) at (emit G (contextOf d F) (F .value) (middle F at) (return ∷ k))) (suc (valueEnd F at)) at c c₃ r
     go ts G d w F is h low =
         let lx = w .world .tokens in
         let near = row-there lx (F .name .row) (h .head .name .token .there) in
@@ -52,8 +52,8 @@ method-wrote {tab} {names} {n} {row} {at} {p} {l} {first} {a} {second} {b} {r} {
               };
           sizes = w .sizes;
         } in
-        let x : PartAt tab ts first n (F .body) = record { at = sym (word tab 4 e₄′ is′ near′ (h .start)); holds = h .body; matches = h .body-matches; few = omega (arith, h .body-covers, nodes-covered (F .body)) } in
-        let y : PartAt tab ts second n (F .value) = record { at = sym (word tab 5 e₅′ is′ near′ (h .return)); holds = h .value; matches = h .value-matches; few = omega (arith, h .value-covers, nodes-covered (F .value)) } in
+        let x : NodesAt tab ts first n (F .body) = record { at = sym (word tab 4 e₄′ is′ near′ (h .start)); holds = h .body; matches = h .body-matches; few = omega (arith, h .body-covers, nodes-covered (F .body)) } in
+        let y : NodesAt tab ts second n (F .value) = record { at = sym (word tab 5 e₅′ is′ near′ (h .return)); holds = h .value; matches = h .value-matches; few = omega (arith, h .value-covers, nodes-covered (F .value)) } in
         let u = f .says ts G (contextOf d F) sees (F .body) x (omega (arith, grows (F .value) (middle F at))) in
         let v = g .says ts G (contextOf d F) sees (F .value) y (rw (u .ends) (omega arith)) in
         next-to (λ j k. emit G (contextOf d F) (F .value) j (return ∷ k)) (λ j. suc (end (F .value) j)) u
@@ -62,7 +62,7 @@ method-wrote {tab} {names} {n} {row} {at} {p} {l} {first} {a} {second} {b} {r} {
 pub grows-methods : (M : List Method) (i : ℕ) → i ≤ endMethods M i
 unfolding endMethods
 grows-methods [] i = omega arith
-grows-methods (F ∷ M) i = omega (arith, grows (F .body) i, grows (F .value) (middle F i), grows-methods M (suc (last F i)))
+grows-methods (F ∷ M) i = omega (arith, grows (F .body) i, grows (F .value) (middle F i), grows-methods M (suc (valueEnd F i)))
 
 module _ {tab names : List ℕ} {n left row at : ℕ} {c E : List ℕ} where
   pub methods-none : left ≡ 0 → at ≤ room → MethodsPost tab names n left row at c c E E at
@@ -70,16 +70,16 @@ module _ {tab names : List ℕ} {n left row at : ℕ} {c E : List ℕ} where
   methods-none z low = record { within = low; says = λ ts G d w M is h few l. go ts G d M few }
     where
       go : (ts : List Token) (G : List Class) (d : List ℕ) (M : List Method) → length M ≤ left → Wrote (firstNamed ts) (emitMethods G d M at) (endMethods M at) at c c at × (E ≡ entered M at E)
-      go ts G d [] few = (record { ends = refl; code = nothing }, refl)
+      go ts G d [] few = (record { ends = refl; code = no-code }, refl)
       go ts G d (F ∷ M) few = absurd (omega arith)
 
   pub methods-end : absent ≤ row → at ≤ room → MethodsPost tab names n left row at c c E E at
   unfolding emitMethods endMethods entered
   methods-end far low = record { within = low; says = λ ts G d w M is h few l. go ts G d w M is h }
     where
-      go : (ts : List Token) (G : List Class) (d : List ℕ) → SeesClass tab names n ts G d → (M : List Method) → rowMethods M ≡ row → MethodsStand tab n ts M
+      go : (ts : List Token) (G : List Class) (d : List ℕ) → SeesClass tab names n ts G d → (M : List Method) → rowMethods M ≡ row → MethodsHeld tab n ts M
           → Wrote (firstNamed ts) (emitMethods G d M at) (endMethods M at) at c c at × (E ≡ entered M at E)
-      go ts G d w [] is h = (record { ends = refl; code = nothing }, refl)
+      go ts G d w [] is h = (record { ends = refl; code = no-code }, refl)
       go ts G d w (F ∷ M) is (more-methods h e hs) = absurd (omega (arith, is, row-there (w .world .tokens) (F .name .row) (h .head .name .token .there)))
 
   pub methods-more : (left ≡ 0 → ⊥) → row < absent → {a next r : ℕ} {c₁ c₂ E₁ E₂ : List ℕ} → E₁ ≡ set E row at → MethodPost tab names n row at c c₁ a → next ≡ wordAt tab 6 row
@@ -87,10 +87,10 @@ module _ {tab names : List ℕ} {n left row at : ℕ} {c E : List ℕ} where
   unfolding emitMethods endMethods entered
   methods-more more near {a} {next} {r} {c₁} {c₂} {E₁} {E₂} new f e₆ g = record { within = g .within; says = go }
     where
-      go : (ts : List Token) (G : List Class) (d : List ℕ) → SeesClass tab names n ts G d → (M : List Method) → rowMethods M ≡ row → MethodsStand tab n ts M → length M ≤ left
+      go : (ts : List Token) (G : List Class) (d : List ℕ) → SeesClass tab names n ts G d → (M : List Method) → rowMethods M ≡ row → MethodsHeld tab n ts M → length M ≤ left
           → endMethods M at ≤ room → Wrote (firstNamed ts) (emitMethods G d M at) (endMethods M at) at c c₂ r × (E₂ ≡ entered M at E)
       go ts G d w [] is h few l = absurd (omega (arith, is))
       go ts G d w (F ∷ M) is (more-methods h e hs) few l =
-          let u = f .says ts G d w F is h (omega (arith, grows-methods M (suc (last F at)))) in
+          let u = f .says ts G d w F is h (omega (arith, grows-methods M (suc (valueEnd F at)))) in
           let v = g .says ts G d w M (sym (word tab 6 e₆ is (omega (arith, is)) e)) hs (omega arith) (rw (u .ends) l) in
           (next-to (emitMethods G d M) (endMethods M) u (v .0), v .1 ∙ rw (u .ends, new, is))

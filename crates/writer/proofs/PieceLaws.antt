@@ -4,10 +4,10 @@ use native.Mathlib.Omega.{arith}
 use mathlib.Core.Path.{_≡_, refl, subst, _∙_}
 use mathlib.Core.List.{List, _∷_}
 use lib.ListN.{set}
-use Rattle.codegen.specs.Code.{Instruction}
-use Rattle.writer.specs.Words.{words, encode, putAt}
-use Rattle.writer.specs.Emits.{behind, before, one}
-use Rattle.writer.specs.Posts.{room, PutPost, NextPost, Wrote}
+use Rattle.codegen.specs.contracts.Code.{Instruction}
+use Rattle.writer.specs.contracts.Words.{words, encode, putAt}
+use Rattle.writer.specs.laws.Emits.{behind, before, one}
+use Rattle.writer.specs.contracts.Posts.{room, PutPost, NextPost, Wrote}
 
 abbrev pub Piece : Type 0
 Piece = List Instruction → List Instruction

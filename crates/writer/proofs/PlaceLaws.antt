@@ -10,12 +10,12 @@ use Rattle.base.specs.Choice.{if_then_else_, option}
 use Rattle.base.specs.Bytes.{same}
 use Rattle.lexer.specs.Tokens.{Token}
 use Rattle.parser.specs.Tree.{Variable}
-use Rattle.parser.specs.Layout.{rowVariables}
-use Rattle.checker.specs.ClassTable.{Slot, moved, variableNamed}
-use Rattle.typing.specs.Choices.{none-some}
-use Rattle.lookup.specs.Standing.{absent, wordAt, Lexemes, Spells, VariablesStand, more-variables}
-use Rattle.lookup.specs.StandingLaws.{word-in, name-word, row-there, same-names, other-names}
-use Rattle.writer.specs.Places.{placeFrom, PlacePost}
+use Rattle.parser.specs.contracts.Layout.{absent, rowVariables}
+use Rattle.typesystem.specs.ClassTable.{Slot, moved, variableNamed}
+use Rattle.typing.specs.laws.Choices.{none-some}
+use Rattle.lookup.specs.contracts.HeldClasses.{wordAt, Lexemes, NameNumber, VariablesHeld, more-variables}
+use Rattle.lookup.specs.laws.HeldLaws.{word-in, name-word, row-there, same-names, other-names}
+use Rattle.writer.specs.contracts.Places.{placeFrom, PlacePost}
 
 place-next-one : (at : ℕ) (o : Option Slot) → placeFrom (at + 1) o ≡ placeFrom at (option o none λ s. some (moved 1 s))
 place-next-one at none = refl
@@ -34,7 +34,7 @@ module _ {tab : List ℕ} {left row x at : ℕ} where
   unfolding variableNamed
   place-absent far = record { most = omega arith; says = λ n ts lx vs d s few text sp. go n ts lx vs d s text }
     where
-      go : (n : ℕ) (ts : List Token) → Lexemes tab n ts → (vs : List Variable) → rowVariables vs ≡ row → VariablesStand tab ts vs → (text : List ℕ)
+      go : (n : ℕ) (ts : List Token) → Lexemes tab n ts → (vs : List Variable) → rowVariables vs ≡ row → VariablesHeld tab ts vs → (text : List ℕ)
           → absent ≡ placeFrom at (variableNamed vs text)
       go n ts lx [] d s text = refl
       go n ts lx (v ∷ vs) d (more-variables m e₃ e₆ s) text = absurd (omega (arith, d, row-there lx (v .name .row) (m .name .token .there)))
@@ -44,21 +44,21 @@ module _ {tab : List ℕ} {left row x at : ℕ} where
     unfolding variableNamed
     place-here is low = record { most = omega arith; says = λ n ts lx vs d s few text sp. go n ts lx vs d s text sp }
       where
-        go : (n : ℕ) (ts : List Token) → Lexemes tab n ts → (vs : List Variable) → rowVariables vs ≡ row → VariablesStand tab ts vs → (text : List ℕ) → Spells ts text x
+        go : (n : ℕ) (ts : List Token) → Lexemes tab n ts → (vs : List Variable) → rowVariables vs ≡ row → VariablesHeld tab ts vs → (text : List ℕ) → NameNumber ts text x
             → at ≡ placeFrom at (variableNamed vs text)
         go n ts lx [] d s text sp = absurd (omega (arith, d))
         go n ts lx (v ∷ vs) d (more-variables m c₃ c₆ s) text sp =
-            rw (same-names (subst (Spells ts (v .name .text)) (ap (wordAt tab 2) d ∙ sym word) (name-word lx (v .name .row) (m .name .token))) sp is) (omega arith)
+            rw (same-names (subst (NameNumber ts (v .name .text)) (ap (wordAt tab 2) d ∙ sym word) (name-word lx (v .name .row) (m .name .token))) sp is) (omega arith)
 
     pub place-next : (w ≡ x → ⊥) → {next r : ℕ} → next ≡ wordAt tab 6 row → PlacePost tab (left - 1) next x (at + 1) r → PlacePost tab left row x at r
     unfolding variableNamed
     place-next other {next} {r} e₆ h = record { most = h .most; says = λ n ts lx vs d s few text sp. go n ts lx vs d s few text sp }
       where
-        go : (n : ℕ) (ts : List Token) → Lexemes tab n ts → (vs : List Variable) → rowVariables vs ≡ row → VariablesStand tab ts vs → length vs ≤ left → (text : List ℕ)
-            → Spells ts text x → r ≡ placeFrom at (variableNamed vs text)
+        go : (n : ℕ) (ts : List Token) → Lexemes tab n ts → (vs : List Variable) → rowVariables vs ≡ row → VariablesHeld tab ts vs → length vs ≤ left → (text : List ℕ)
+            → NameNumber ts text x → r ≡ placeFrom at (variableNamed vs text)
         go n ts lx [] d s few text sp = absurd (omega (arith, d))
         go n ts lx (v ∷ vs) d (more-variables m c₃ c₆ s) few text sp =
-            rw (other-names (subst (Spells ts (v .name .text)) (ap (wordAt tab 2) d ∙ sym word) (name-word lx (v .name .row) (m .name .token))) sp other)
+            rw (other-names (subst (NameNumber ts (v .name .text)) (ap (wordAt tab 2) d ∙ sym word) (name-word lx (v .name .row) (m .name .token))) sp other)
             (h .says n ts lx vs (sym (word-in tab 6 (v .name .row) (omega (arith, d, near)) c₆) ∙ ap (wordAt tab 6) d ∙ sym e₆) s (omega arith) text sp
             ∙ place-next-one at (variableNamed vs text))
 

@@ -4,11 +4,11 @@ use mathlib.Core.Path.{_≡_, sym, subst}
 use mathlib.Core.List.{List}
 use lib.ListN.{length}
 use Rattle.parser.specs.Tree.{Program}
-use Rattle.typecheck.specs.declared.check.Found.{Found}
-use Rattle.typecheck.specs.declared.check.Found.the-variants.{Program as found}
-use Rattle.writer.specs.Room.{compile-fits}
-use Rattle.writer.specs.Writing.{Writes}
-use Rattle.writer.specs.Preparing.{Prepares}
+use Rattle.typecheck.specs.declared.check.Finding.{Finding}
+use Rattle.typecheck.specs.declared.check.Finding.the-variants.{Program as found}
+use Rattle.writer.specs.laws.Room.{compile-fits}
+use Rattle.writer.specs.contracts.Writing.{Writes}
+use Rattle.writer.specs.contracts.Preparing.{Prepares}
 
 pub prepared : {n k : ℕ} {tab code code′ entries entries′ : List ℕ} → Writes tab n k code code′ entries entries′ → Prepares n k tab code code′ entries entries′
 prepared {n} {k} {tab} {code} {code′} {entries} {entries′} g =

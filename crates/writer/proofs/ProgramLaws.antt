@@ -1,31 +1,31 @@
 -- What writing a program returns meets its contract: no field is in the array while main's statement is written, and all of it fits.
 use Prim.Native.Nat.{ℕ, suc, _≤_}
 use native.Mathlib.Omega.{arith}
-use Rattle.reader.specs.Counting.{nodes-covered}
+use Rattle.reader.specs.laws.Counting.{nodes-covered}
 use mathlib.Core.Path.{_≡_, refl, sym, ap, _∙_, subst}
 use mathlib.Core.List.{List, [], _∷_}
 use mathlib.Core.Option.{none}
 use lib.ListN.{length, getD, replicate}
-use Rattle.base.specs.Lists.{getD-replicate-same}
+use Rattle.base.specs.laws.Lists.{getD-replicate-same}
 use Rattle.lexer.specs.Tokens.{Token}
-use Rattle.lexer.specs.Rows.{firstNamed}
+use Rattle.lexer.specs.contracts.Rows.{firstNamed}
 use Rattle.parser.specs.Tree.{Sort.statement, Program}
-use Rattle.parser.specs.Layout.{rowClasses}
+use Rattle.parser.specs.contracts.Layout.{absent, rowClasses}
 use Rattle.parser.specs.Grammar.{DerivesProgram}
-use Rattle.checker.specs.ClassTable.{mainContext}
-use Rattle.lookup.specs.Standing.{absent, wordAt, no-name, no-variables}
-use Rattle.lookup.specs.StandingLaws.{word-in}
-use Rattle.lookup.specs.Fields.{FieldsOf, Filled}
-use Rattle.declarations.specs.Indexing.{Ready}
-use Rattle.codegen.specs.Code.{halt}
-use Rattle.codegen.specs.Compile.{end, emit, emitClasses, compile}
-use Rattle.writer.specs.Words.{store}
-use Rattle.writer.specs.Sizing.{SizesHeld, SizesPost}
-use Rattle.writer.specs.Shows.{PartAt, Sees}
-use Rattle.writer.specs.Posts.{room, PutPost, Wrote, WritePost}
-use Rattle.writer.specs.Classes.{enteredClasses, ClassesPost}
-use Rattle.writer.specs.Room.{program-room}
-use Rattle.writer.specs.Writing.{BeginPost, MainPost, Writes}
+use Rattle.typesystem.specs.ClassTable.{mainContext}
+use Rattle.lookup.specs.contracts.HeldClasses.{wordAt, no-name, no-variables}
+use Rattle.lookup.specs.laws.HeldLaws.{word-in}
+use Rattle.lookup.specs.contracts.Fields.{FieldsOf, FieldsFilled}
+use Rattle.declarations.specs.contracts.Indexing.{Ready}
+use Rattle.codegen.specs.contracts.Code.{halt}
+use Rattle.codegen.specs.contracts.Compile.{end, emit, emitClasses, compile}
+use Rattle.writer.specs.contracts.Words.{store}
+use Rattle.writer.specs.contracts.Sizing.{SizesHeld, SizesPost}
+use Rattle.writer.specs.contracts.Shows.{NodesAt, Sees}
+use Rattle.writer.specs.contracts.Posts.{room, PutPost, Wrote, WritePost}
+use Rattle.writer.specs.contracts.Classes.{enteredClasses, ClassesPost}
+use Rattle.writer.specs.laws.Room.{program-room}
+use Rattle.writer.specs.contracts.Writing.{BeginPost, MainPost, Writes}
 use Rattle.writer.proofs.PieceLaws.{put-one, next-to}
 use Rattle.writer.proofs.SizeLaws.{all-sizes}
 use Rattle.writer.proofs.ClassLaws.{sizes-kept, grows-classes}
@@ -33,7 +33,7 @@ use Rattle.writer.proofs.ClassLaws.{sizes-kept, grows-classes}
 -- WHAT MAIN SEES
 
 pub begun : (size : ℕ) {tab names₁ names₂ names₃ : List ℕ} {n classes first : ℕ} → names₁ ≡ replicate size 0 → SizesPost tab n classes n first names₁ names₂
-    → Filled tab n classes absent names₂ names₃ → BeginPost tab n classes first names₃
+    → FieldsFilled tab n classes absent names₂ names₃ → BeginPost tab n classes first names₃
 begun size {names₁ = names₁} {names₃ = names₃} zero s f =
     record {
       fields = λ ts G w l. subst (λ (i : ℕ). FieldsOf ts G i none names₃) (sym l) (f .held .says ts G w none (no-name {c = absent} (omega arith)));
@@ -66,7 +66,7 @@ main-wrote {tab} {names} {n} {a} {r} {c} {c₁} {c₂} f o = record { within = o
               };
           sizes = sizes;
         } in
-        let x : PartAt tab ts 14 n (p .statement) = record { at = w .row; holds = w .statement; matches = w .matches; few = omega (arith, w .statement-covers, nodes-covered (p .statement)) } in
+        let x : NodesAt tab ts 14 n (p .statement) = record { at = w .row; holds = w .statement; matches = w .matches; few = omega (arith, w .statement-covers, nodes-covered (p .statement)) } in
         let u = f .says ts (p .classes) mainContext sees (p .statement) x (omega arith) in
         next-to (λ j k. halt ∷ k) suc u (put-one halt refl o (rw (u .ends) lim))
 

@@ -10,17 +10,18 @@ use Rattle.base.specs.Choice.{if_then_else_, option}
 use Rattle.base.specs.Bytes.{same}
 use Rattle.lexer.specs.Tokens.{Token}
 use Rattle.parser.specs.Tree.{Variable, Class}
-use Rattle.checker.specs.ClassTable.{Slot, moved, Context, ofRow, ofObject, meaning, variableNamed, nearestField, chain}
-use Rattle.typing.specs.Choices.{none-some}
-use Rattle.lookup.specs.Standing.{absent, Spells, nothing, World, chainFrom, ListedAt}
-use Rattle.lookup.specs.StandingLaws.{codes-below}
-use Rattle.lookup.specs.Lookups.{Many, Counts}
-use Rattle.lookup.specs.Fields.{TellsAt, no-field, a-field}
-use Rattle.lookup.specs.VariableLaws.{variable-left, variables-many}
+use Rattle.typesystem.specs.ClassTable.{Slot, moved, Context, ofRow, ofObject, meaning, variableNamed, nearestField, chain}
+use Rattle.typing.specs.laws.Choices.{none-some}
+use Rattle.parser.specs.contracts.Layout.{absent}
+use Rattle.lookup.specs.contracts.HeldClasses.{NameNumber, noType, ClassTableHeld, chainFrom, ListedAt}
+use Rattle.lookup.specs.laws.HeldLaws.{codes-below}
+use Rattle.lookup.specs.contracts.Lookups.{Many, Counts}
+use Rattle.lookup.specs.contracts.Fields.{TellsAt, no-field, a-field}
+use Rattle.lookup.specs.laws.VariableLaws.{variable-left, variables-many}
 use Rattle.writer.specs.declared.scope.Scope.{Scope}
-use Rattle.writer.specs.Words.{slotOf}
-use Rattle.writer.specs.Places.{placeFrom, PlacePost}
-use Rattle.writer.specs.Scoping.{InScope, SlotPost}
+use Rattle.writer.specs.contracts.Words.{slotOf}
+use Rattle.writer.specs.contracts.Places.{placeFrom, PlacePost}
+use Rattle.writer.specs.contracts.Scoping.{CodeScope, SlotPost}
 use Rattle.writer.proofs.PlaceLaws.{place-below}
 
 -- THE MEANING OF A NAME
@@ -87,27 +88,27 @@ missing i vs x high few e = go (variableNamed vs x) (λ s q. place-below vs x q)
     go (some s) f e = absurd (omega (arith, f s refl, e))
 
 -- the place of a variable in one of the lists
-place-in : {tab : List ℕ} {n x : ℕ} {ts : List Token} {G : List Class} {i row : ℕ} {vs : List Variable} → World tab n ts G → ListedAt tab n ts row vs → PlacePost tab n row x 0 i
-    → (text : List ℕ) → Spells ts text x → i ≡ placeFrom 0 (variableNamed vs text)
+place-in : {tab : List ℕ} {n x : ℕ} {ts : List Token} {G : List Class} {i row : ℕ} {vs : List Variable} → ClassTableHeld tab n ts G → ListedAt tab n ts row vs → PlacePost tab n row x 0 i
+    → (text : List ℕ) → NameNumber ts text x → i ≡ placeFrom 0 (variableNamed vs text)
 place-in {n = n} {ts = ts} {vs = vs} w l h text sp = h .says n ts (w .tokens) vs (l .at) (l .stand) (l .few) text sp
 
 module _ {tab names : List ℕ} {s : Scope} {x : ℕ} where
   pub slot-parameter : {i : ℕ} → PlacePost tab (s .tokens) (s .parameters) x 0 i → i < absent → SlotPost tab names s x i
   slot-parameter {i} h low = record { most = omega arith; says = go }
     where
-      go : (ts : List Token) (G : List Class) (Γ : Context) → InScope tab names ts G Γ s → (text : List ℕ) → Spells ts text x → i ≡ slotOf (meaning G Γ text)
+      go : (ts : List Token) (G : List Class) (Γ : Context) → CodeScope tab names ts G Γ s → (text : List ℕ) → NameNumber ts text x → i ≡ slotOf (meaning G Γ text)
       go ts G Γ w text sp =
           let f = found i (variableNamed (w .given) text) low (place-in (w .world) (w .given-listed) h text sp) in
           rw (meaning-row G Γ text (ap (λ (vs : List Variable). variableNamed vs text) (w .seen) ∙ variable-left (w .given) (w .own) text (f .1))) (f .2)
 
   module _ (few : s .tokens ≤ 2048) {i : ℕ} (h : PlacePost tab (s .tokens) (s .parameters) x 0 i) (high : absent ≤ i) where
-    not-given : {ts : List Token} {G : List Class} {Γ : Context} (w : InScope tab names ts G Γ s) (text : List ℕ) → Spells ts text x → variableNamed (w .given) text ≡ none
+    not-given : {ts : List Token} {G : List Class} {Γ : Context} (w : CodeScope tab names ts G Γ s) (text : List ℕ) → NameNumber ts text x → variableNamed (w .given) text ≡ none
     not-given w text sp = missing i (w .given) text high (omega (arith, w .given-listed .few)) (place-in (w .world) (w .given-listed) h text sp)
 
     pub slot-local : {j : ℕ} → PlacePost tab (s .tokens) (s .locals) x 0 j → j < absent → {n : ℕ} → Counts tab (s .tokens) (s .parameters) n → SlotPost tab names s x (n + j)
     slot-local {j} h′ low {n} c = record { most = omega (arith, c .most); says = go }
       where
-        go : (ts : List Token) (G : List Class) (Γ : Context) → InScope tab names ts G Γ s → (text : List ℕ) → Spells ts text x → n + j ≡ slotOf (meaning G Γ text)
+        go : (ts : List Token) (G : List Class) (Γ : Context) → CodeScope tab names ts G Γ s → (text : List ℕ) → NameNumber ts text x → n + j ≡ slotOf (meaning G Γ text)
         go ts G Γ w text sp =
             let f = found j (variableNamed (w .own) text) low (place-in (w .world) (w .own-listed) h′ text sp) in
             let many = subst (λ (i : ℕ). Many tab i (length (w .given))) (w .given-listed .at) (variables-many (w .world .tokens) (w .given-listed .stand)) in
@@ -118,7 +119,7 @@ module _ {tab names : List ℕ} {s : Scope} {x : ℕ} where
 
     module _ {j : ℕ} (h′ : PlacePost tab (s .tokens) (s .locals) x 0 j) (high′ : absent ≤ j) where
       -- what a name that is no parameter or local means
-      object : {ts : List Token} {G : List Class} {Γ : Context} (w : InScope tab names ts G Γ s) (text : List ℕ) → Spells ts text x
+      object : {ts : List Token} {G : List Class} {Γ : Context} (w : CodeScope tab names ts G Γ s) (text : List ℕ) → NameNumber ts text x
           → slotOf (meaning G Γ text) ≡ objectSlot (nearestField (chainFrom (length G) G (Γ .owner)) text)
       object {G = G} {Γ} w text sp =
           let own = missing j (w .own) text high′ (omega (arith, w .own-listed .few)) (place-in (w .world) (w .own-listed) h′ text sp) in
@@ -126,7 +127,7 @@ module _ {tab names : List ℕ} {s : Scope} {x : ℕ} where
           let named : variableNamed (Γ .variables) text ≡ none = ap (λ (vs : List Variable). variableNamed vs text) (w .seen) ∙ second ∙ ap (λ (o : Option Slot). option o none λ s. some (moved (length (w .given)) s)) own in
           meaning-field G Γ text named
 
-      pub slot-held : getD names x 0 < nothing → getD names (2048 + x) 0 < 4294967296 → SlotPost tab names s x (getD names (2048 + x) 0)
+      pub slot-held : getD names x 0 < noType → getD names (2048 + x) 0 < 4294967296 → SlotPost tab names s x (getD names (2048 + x) 0)
       slot-held known fits =
           record { most = fits; says = λ ts G Γ w text sp. go (nearestField (chainFrom (length G) G (Γ .owner)) text) (w .fields .says text x sp) ∙ sym (object w text sp) }
         where
@@ -134,7 +135,7 @@ module _ {tab names : List ℕ} {s : Scope} {x : ℕ} where
           go none (no-field z) = absurd (omega (arith, z))
           go (some t) (a-field c z) = z
 
-      pub slot-none : nothing ≤ getD names x 0 → SlotPost tab names s x absent
+      pub slot-none : noType ≤ getD names x 0 → SlotPost tab names s x absent
       slot-none unknown =
           record {
             most = omega arith;

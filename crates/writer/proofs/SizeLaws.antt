@@ -10,13 +10,13 @@ use lib.ListN.{length, getD, set}
 use lib.Seq.{getD-set-same, getD-set-other}
 use Rattle.lexer.specs.Tokens.{Token}
 use Rattle.parser.specs.Tree.{Class}
-use Rattle.parser.specs.Layout.{rowClasses}
-use Rattle.checker.specs.ClassTable.{classNamed, chain, layout, fieldsOf}
-use Rattle.lookup.specs.Standing.{absent, wordAt, Spells, a-name, ClassesStand, more-classes, World, chainFrom}
-use Rattle.lookup.specs.StandingLaws.{word-in, name-word, row-there, same-names, other-names}
-use Rattle.lookup.specs.ChainLaws.{chain-none}
-use Rattle.lookup.specs.Fields.{ObjectSize}
-use Rattle.writer.specs.Sizing.{SizesHeld, SizePost, counted, SizesPost}
+use Rattle.parser.specs.contracts.Layout.{absent, rowClasses}
+use Rattle.typesystem.specs.ClassTable.{classNamed, chain, layout, fieldsOf}
+use Rattle.lookup.specs.contracts.HeldClasses.{wordAt, NameNumber, a-name, ClassesHeld, more-classes, ClassTableHeld, chainFrom}
+use Rattle.lookup.specs.laws.HeldLaws.{word-in, name-word, row-there, same-names, other-names}
+use Rattle.lookup.specs.laws.ChainLaws.{chain-none}
+use Rattle.lookup.specs.contracts.Fields.{ObjectSize}
+use Rattle.writer.specs.contracts.Sizing.{SizesHeld, SizePost, counted, SizesPost}
 
 -- ONE CLASS
 
@@ -30,7 +30,7 @@ module _ {tab : List ℕ} {n classes x : ℕ} {before : List ℕ} where
   size-written low large {v} h {after} e =
       record { others = λ j other. ap (λ (l : List ℕ). getD l j 0) e ∙ getD-set-other before (4096 + x) j v 0 (λ z. other (sym z)); says = go }
     where
-      go : (ts : List Token) (G : List Class) → World tab n ts G → length G ≡ classes → (c : List ℕ) → Spells ts c x → getD after (4096 + x) 0 ≡ length (fieldsOf G c)
+      go : (ts : List Token) (G : List Class) → ClassTableHeld tab n ts G → length G ≡ classes → (c : List ℕ) → NameNumber ts c x → getD after (4096 + x) 0 ≡ length (fieldsOf G c)
       go ts G w l c sp =
           ap (λ (m : List ℕ). getD m (4096 + x) 0) e ∙ getD-set-same before (4096 + x) v 0 (omega arith)
           ∙ h .says ts G w (some c) (a-name sp) ∙ ap (λ (i : ℕ). length (layout (chainFrom i G (some c)))) (sym l) ∙ size-of G c
@@ -54,7 +54,7 @@ module _ {tab : List ℕ} {n classes left row : ℕ} {before : List ℕ} where
   unfolding classNamed
   sizes-end far = record { says = λ ts G w l ks h c x sp. go ts G w ks (h .here) (h .stand) c x }
     where
-      go : (ts : List Token) (G : List Class) → World tab n ts G → (ks : List Class) → rowClasses ks ≡ row → ClassesStand tab n ts ks → (c : List ℕ) (x : ℕ)
+      go : (ts : List Token) (G : List Class) → ClassTableHeld tab n ts G → (ks : List Class) → rowClasses ks ≡ row → ClassesHeld tab n ts ks → (c : List ℕ) (x : ℕ)
           → getD before (4096 + x) 0 ≡ counted (getD before (4096 + x) 0) (length (fieldsOf G c)) (classNamed ks c)
       go ts G w [] is h c x = refl
       go ts G w (k ∷ ks) is (more-classes s e h) c x = absurd (omega (arith, is, row-there (w .tokens) (k .name .row) (s .named .token .there)))
@@ -69,17 +69,17 @@ module _ {tab : List ℕ} {n classes left row : ℕ} {before : List ℕ} where
       twice new none = refl
       twice new (some k) = refl
 
-      go : (ts : List Token) (G : List Class) → World tab n ts G → length G ≡ classes → (ks : List Class) → rowClasses ks ≡ row → ClassesStand tab n ts ks → length ks ≤ left
-          → (c : List ℕ) (y : ℕ) → Spells ts c y → getD after (4096 + y) 0 ≡ counted (getD before (4096 + y) 0) (length (fieldsOf G c)) (classNamed ks c)
+      go : (ts : List Token) (G : List Class) → ClassTableHeld tab n ts G → length G ≡ classes → (ks : List Class) → rowClasses ks ≡ row → ClassesHeld tab n ts ks → length ks ≤ left
+          → (c : List ℕ) (y : ℕ) → NameNumber ts c y → getD after (4096 + y) 0 ≡ counted (getD before (4096 + y) 0) (length (fieldsOf G c)) (classNamed ks c)
       go ts G w l [] is st few c y sp = absurd (omega (arith, is))
       go ts G w l (k ∷ ks) is (more-classes s e st) few c y sp =
-          let own : Spells ts (k .name .text) x = subst (Spells ts (k .name .text)) (ap (wordAt tab 2) is ∙ sym e₂) (name-word (w .tokens) (k .name .row) (s .named .token)) in
+          let own : NameNumber ts (k .name .text) x = subst (NameNumber ts (k .name .text)) (ap (wordAt tab 2) is ∙ sym e₂) (name-word (w .tokens) (k .name .row) (s .named .token)) in
           let here : rowClasses ks ≡ next = sym (word-in tab 6 (k .name .row) (omega (arith, is)) e) ∙ ap (wordAt tab 6) is ∙ sym e₆ in
           let rest = h .says ts G w l ks (record { here = here; stand = st; few = omega arith }) c y sp in
           elim (ℕ-discrete x y) [
             | yes same ↦
                 let new : getD mid (4096 + y) 0 ≡ length (fieldsOf G c) =
-                ap (λ (i : ℕ). getD mid (4096 + i) 0) (sym same) ∙ p .says ts G w l c (subst (Spells ts c) (sym same) sp) in
+                ap (λ (i : ℕ). getD mid (4096 + i) 0) (sym same) ∙ p .says ts G w l c (subst (NameNumber ts c) (sym same) sp) in
                 rw (same-names own sp same)
                 (rest ∙ ap (λ (v : ℕ). counted v (length (fieldsOf G c)) (classNamed ks c)) new ∙ twice (length (fieldsOf G c)) (classNamed ks c))
             | no other ↦
@@ -94,7 +94,7 @@ unfolding layout
 no-fields G c e = ap (λ (ks : List Class). length (layout ks)) (sym (chain-none (length G) G (some c) e)) ∙ size-of G c
 
 pub all-sizes : {tab : List ℕ} {n classes row : ℕ} {before after : List ℕ} → SizesPost tab n classes n row before after → ((j : ℕ) → getD before j 0 ≡ 0)
-    → {ts : List Token} {G : List Class} → World tab n ts G → length G ≡ classes → rowClasses G ≡ row → SizesHeld ts G after
+    → {ts : List Token} {G : List Class} → ClassTableHeld tab n ts G → length G ≡ classes → rowClasses G ≡ row → SizesHeld ts G after
 all-sizes {before = before} h zeros {ts} {G} w l is =
     record {
       says = λ c x sp. h .says ts G w l G (record { here = is; stand = w .classes; few = w .few }) c x sp ∙ go c (getD before (4096 + x) 0) (zeros (4096 + x)) (classNamed G c) refl;

@@ -6,27 +6,27 @@ use mathlib.Core.List.{List, _∷_}
 use lib.ListN.{length}
 use borrow.Author.Tests.{ne-eqb}
 use Rattle.lexer.specs.Tokens.{Token}
-use Rattle.lexer.specs.Rows.{firstNamed}
+use Rattle.lexer.specs.contracts.Rows.{firstNamed}
 use Rattle.parser.specs.Tree.{Sort.expression, Sort.statement, Sort.statements, Part, Statement, Class}
 use Rattle.parser.specs.Tree.{Part.block, Part.conditional, Part.loop, Part.print, Part.assign, Part.assignElement, Part.noStatements, Part.sequence}
-use Rattle.parser.specs.Layout.{rowOf}
+use Rattle.parser.specs.contracts.Layout.{absent, rowOf}
 use Rattle.parser.specs.Measure.{nodes}
-use Rattle.parser.specs.Post.{kindIn}
-use Rattle.reader.specs.Holds.{Holds}
-use Rattle.reader.specs.Matches.{Matches}
-use Rattle.checker.specs.ClassTable.{Context, meaning}
-use Rattle.lookup.specs.Standing.{absent, wordAt}
+use Rattle.parser.specs.contracts.Post.{kindInTable}
+use Rattle.reader.specs.contracts.Holds.{Holds}
+use Rattle.reader.specs.contracts.Matches.{Matches}
+use Rattle.typesystem.specs.ClassTable.{Context, meaning}
+use Rattle.lookup.specs.contracts.HeldClasses.{wordAt}
 use Rattle.writer.specs.declared.scope.Scope.{Scope}
-use Rattle.writer.specs.Scoping.{SlotPost}
-use Rattle.codegen.specs.Code as Code
-use Rattle.codegen.specs.Code.{mark, load, save, jump, unless, storeElement}
-use Rattle.codegen.specs.Compile.{end, emit}
-use Rattle.writer.specs.Words.{words}
-use Rattle.writer.specs.Emits.{nothing}
-use Rattle.writer.specs.Lengths.{grows}
-use Rattle.writer.specs.Shows.{PartAt, Sees, Form, aBlock, aConditional, aLoop, aPrint, anAssignment, anElementStore, formS}
-use Rattle.writer.specs.Shows.{ShowsS, shows-block, shows-conditional, shows-loop, shows-print, shows-assignment, shows-element-store}
-use Rattle.writer.specs.Posts.{room, PutPost, NextPost, Wrote, WritePost, innerS, endS, StatementPost, SinglePost, PairPost, BranchesPost, OtherwisePost, BodyPost}
+use Rattle.writer.specs.contracts.Scoping.{SlotPost}
+use Rattle.codegen.specs.contracts.Code as Code
+use Rattle.codegen.specs.contracts.Code.{mark, load, save, jump, unless, storeElement}
+use Rattle.codegen.specs.contracts.Compile.{end, emit}
+use Rattle.writer.specs.contracts.Words.{words}
+use Rattle.writer.specs.laws.Emits.{no-code}
+use Rattle.writer.specs.laws.Lengths.{grows}
+use Rattle.writer.specs.contracts.Shows.{NodesAt, Sees, Form, aBlock, aConditional, aLoop, aPrint, anAssignment, anElementStore, formS}
+use Rattle.writer.specs.contracts.Shows.{ShowsS, shows-block, shows-conditional, shows-loop, shows-print, shows-assignment, shows-element-store}
+use Rattle.writer.specs.contracts.Posts.{room, PutPost, NextPost, Wrote, WritePost, innerS, endS, StatementPost, SinglePost, PairPost, BranchesPost, OtherwisePost, BodyPost}
 use Rattle.writer.proofs.RowLaws.{positive-statement, there-statement, shownS, follows}
 use Rattle.writer.proofs.PieceLaws.{put-one, next-to, over}
 use Rattle.writer.proofs.ExpressionLaws.{few-tokens, lexemes}
@@ -184,13 +184,13 @@ module _ {tab names : List ℕ} {s : Scope} {left row at : ℕ} {c : List ℕ} w
   pub statement-none : left ≡ 0 → at ≤ room → WritePost tab names s statement left row at c c at
   statement-none z low = record { within = low; says = λ ts G Γ w t h. absurd (omega (arith, positive-statement t, h .few)) }
 
-  module _ (more : left ≡ 0 → ⊥) {k start i : ℕ} {c₁ : List ℕ} (kind : k ≡ kindIn tab (s .tokens) row) (e₃ : start ≡ wordAt tab 3 row) (p : PutPost at 0 start 0 0 c c₁ i) where
-    marked : {F : Form} → formS k (kindIn tab (s .tokens) (row + 1)) ≡ F → {r : ℕ} {c₂ : List ℕ} → StatementPost tab names s F (left - 1) row i c₁ c₂ r
+  module _ (more : left ≡ 0 → ⊥) {k start i : ℕ} {c₁ : List ℕ} (kind : k ≡ kindInTable tab (s .tokens) row) (e₃ : start ≡ wordAt tab 3 row) (p : PutPost at 0 start 0 0 c c₁ i) where
+    marked : {F : Form} → formS k (kindInTable tab (s .tokens) (row + 1)) ≡ F → {r : ℕ} {c₂ : List ℕ} → StatementPost tab names s F (left - 1) row i c₁ c₂ r
         → WritePost tab names s statement left row at c c₂ r
     marked {F} form {r} {c₂} f =
         record {
           within = f .within;
-          says = λ ts G Γ w t h l. go ts G Γ w t (shownS (lexemes w) more (ap (λ (j : ℕ). formS j (kindIn tab (s .tokens) (row + 1))) (sym kind) ∙ form) t h) l;
+          says = λ ts G Γ w t h l. go ts G Γ w t (shownS (lexemes w) more (ap (λ (j : ℕ). formS j (kindInTable tab (s .tokens) (row + 1))) (sym kind) ∙ form) t h) l;
         }
       where
         go : (ts : List Token) (G : List Class) (Γ : Context) → Sees tab names ts G Γ s → (t : Statement) → ShowsS tab ts (s .tokens) row (left - 1) F t → end t at ≤ room
@@ -217,7 +217,7 @@ module _ {tab names : List ℕ} {s : Scope} {left row at : ℕ} {c : List ℕ} w
       unfolding formS
       statement-print is f = marked (rw is) f
 
-      module _ (n₁ : k ≡ 38 → ⊥) (n₂ : k ≡ 10 → ⊥) (n₃ : k ≡ 23 → ⊥) (n₄ : k ≡ 19 → ⊥) {after : ℕ} (next : after ≡ kindIn tab (s .tokens) (row + 1)) where
+      module _ (n₁ : k ≡ 38 → ⊥) (n₂ : k ≡ 10 → ⊥) (n₃ : k ≡ 23 → ⊥) (n₄ : k ≡ 19 → ⊥) {after : ℕ} (next : after ≡ kindInTable tab (s .tokens) (row + 1)) where
         pub statement-element : after ≡ 36 → StatementPost tab names s anElementStore (left - 1) row i c₁ c₂ r → WritePost tab names s statement left row at c c₂ r
         unfolding formS
         statement-element is f = marked (rw (ne-eqb k 38 n₁, ne-eqb k 10 n₂, ne-eqb k 23 n₃, ne-eqb k 19 n₄, sym next ∙ is)) f
@@ -234,7 +234,7 @@ module _ {tab names : List ℕ} {s : Scope} {left row at : ℕ} {c : List ℕ} w
   list-none z low = record { within = low; says = λ ts G Γ w ss h l. go ts G Γ ss (h .few) }
     where
       go : (ts : List Token) (G : List Class) (Γ : Context) (ss : Part statements) → nodes ss ≤ left → Wrote (firstNamed ts) (emit G Γ ss at) (end ss at) at c c at
-      go ts G Γ noStatements few = record { ends = refl; code = nothing }
+      go ts G Γ noStatements few = record { ends = refl; code = no-code }
       go ts G Γ (sequence t ss) few = absurd (omega (arith, positive-statement t))
 
   pub list-end : absent ≤ row → at ≤ room → WritePost tab names s statements left row at c c at
@@ -242,7 +242,7 @@ module _ {tab names : List ℕ} {s : Scope} {left row at : ℕ} {c : List ℕ} w
   list-end far low = record { within = low; says = λ ts G Γ w ss h l. go ts G Γ (few-tokens w) ss (h .at) (h .matches) }
     where
       go : (ts : List Token) (G : List Class) (Γ : Context) → length ts ≤ 2048 → (ss : Part statements) → rowOf ss ≡ row → Matches ts ss → Wrote (firstNamed ts) (emit G Γ ss at) (end ss at) at c c at
-      go ts G Γ few noStatements is m = record { ends = refl; code = nothing }
+      go ts G Γ few noStatements is m = record { ends = refl; code = no-code }
       go ts G Γ few (sequence t ss) is m = absurd (omega (arith, there-statement ts t (m .0), is))
 
   pub list-more : (left ≡ 0 → ⊥) → row < absent → {a next r : ℕ} {c₁ c₂ : List ℕ} → WritePost tab names s statement left row at c c₁ a → next ≡ wordAt tab 6 row
@@ -255,5 +255,5 @@ module _ {tab names : List ℕ} {s : Scope} {left row at : ℕ} {c : List ℕ} w
       go ts G Γ w noStatements is h m few l = absurd (omega (arith, is))
       go ts G Γ w (sequence t ss) is h m few l =
           let u = f .says ts G Γ w t (record { at = is; holds = h .0; matches = m .0; few = omega arith }) (omega (arith, grows ss (end t at))) in
-          let y : PartAt tab ts (wordAt tab 6 row) (left - 1) ss = follows is (omega (arith, is)) (h .1) (h .2) (m .1) (omega (arith, positive-statement t)) in
+          let y : NodesAt tab ts (wordAt tab 6 row) (left - 1) ss = follows is (omega (arith, is)) (h .1) (h .2) (m .1) (omega (arith, positive-statement t)) in
           next-to (emit G Γ ss) (end ss) u (g .says ts G Γ w ss (rw e₆ y) (rw (u .ends) l))

@@ -1,12 +1,13 @@
 // Classes: the methods of each, one class after another. While those of a class are written, `names` holds what its fields mean to them.
 use crate::method::methods;
 use lookup::fields::fill;
-use lookup::rows::ABSENT;
 use lookup::rows::word;
+use parser::columns;
+use parser::columns::ABSENT;
 ghost use Prim.Native.Nat.{_≤_};
 ghost use lib.ListN.{length};
-ghost use Rattle.reader.specs.WalkPost.{Walkable};
-ghost use Rattle.writer.specs.Classes.{ClassPost, ClassesPost};
+ghost use Rattle.reader.specs.contracts.WalkPost.{Walkable};
+ghost use Rattle.writer.specs.contracts.Classes.{ClassPost, ClassesPost};
 
 // The class in a row.
 fn of_class(
@@ -22,11 +23,11 @@ fn of_class(
     requires { ⌜ Walkable (now table) n × (6144 ≤ length (now names)) × (2048 ≤ length (now entries)) × (classes ≤ 2048) × (at ≤ 8192) ⌝ }
     ensures { λ r. ⌜ ClassPost (now (table .entry)) n classes row at (now (names .entry)) (now (names .exit)) (now (code .entry)) (now (code .exit)) (now (entries .entry)) (now (entries .exit)) r ⌝ }
 {
-    let first = word(table, 5, row);
+    let first = word(table, columns::METHODS, row);
     if ABSENT <= first {
         return at;
     }
-    fill(table, names, n, classes, word(table, 2, row));
+    fill(table, names, n, classes, word(table, columns::NUMBER, row));
     methods(table, names, code, entries, n, n, first, at)
 }
 
@@ -60,7 +61,7 @@ pub fn each(
         n,
         classes,
         left - 1,
-        word(table, 6, row),
+        word(table, columns::NEXT, row),
         a,
     );
 }

@@ -2,7 +2,7 @@
 ghost use Prim.Native.Nat.{_≤_, _<_};
 ghost use mathlib.Core.Path.{_≡_};
 ghost use lib.ListN.{set};
-ghost use Rattle.writer.specs.Posts.{PutPost, NextPost};
+ghost use Rattle.writer.specs.contracts.Posts.{PutPost, NextPost};
 
 // How many instructions there is room for.
 pub const ROOM: usize = 8192;

@@ -5,15 +5,16 @@ use crate::scope::Scope;
 use crate::scope::slot;
 use codegen::numbers;
 use lexer::kinds;
-use lookup::rows::ABSENT;
 use lookup::rows::word;
+use parser::columns;
+use parser::columns::ABSENT;
 use parser::kinds::is_atom;
 use parser::table::kind;
 ghost use Prim.Native.Nat.{_≤_, _<_};
 ghost use lib.ListN.{length};
 ghost use Rattle.parser.specs.Tree.{Sort};
-ghost use Rattle.writer.specs.Shows.{Form, formAtom, formCompound};
-ghost use Rattle.writer.specs.Posts.{Writable, CountPost, WritePost, ExpressionPost, SinglePost, PairPost};
+ghost use Rattle.writer.specs.contracts.Shows.{Form, formAtom, formCompound};
+ghost use Rattle.writer.specs.contracts.Posts.{Writable, CountPost, WritePost, ExpressionPost, SinglePost, PairPost};
 
 // How many arguments a list has, of which at most `left` may come.
 pub fn count(table: &[u32], left: usize, row: usize) -> usize
@@ -26,7 +27,7 @@ pub fn count(table: &[u32], left: usize, row: usize) -> usize
     if ABSENT <= row {
         return 0;
     }
-    count(table, left - 1, word(table, 6, row)) + 1
+    count(table, left - 1, word(table, columns::NEXT, row)) + 1
 }
 
 // A variable.
@@ -42,7 +43,7 @@ fn name(
     requires { ⌜ Writable (now table) (now names) (now code) (s .tokens) left row at ⌝ }
     ensures { λ r. ⌜ ExpressionPost (now (table .entry)) (now (names .entry)) s Form.aVariable left row at (now (code .entry)) (now (code .exit)) r ⌝ }
 {
-    let v = slot(table, names, s, word(table, 2, row));
+    let v = slot(table, names, s, word(table, columns::NUMBER, row));
     put(code, at, numbers::LOAD, v, 0, 0)
 }
 
@@ -61,7 +62,14 @@ fn atom(
     ensures { λ r. ⌜ ExpressionPost (now (table .entry)) (now (names .entry)) s (formAtom k) left row at (now (code .entry)) (now (code .exit)) r ⌝ }
 {
     if k == kinds::LITERAL {
-        return put(code, at, numbers::PUSH, word(table, 2, row), 0, 0);
+        return put(
+            code,
+            at,
+            numbers::PUSH,
+            word(table, columns::NUMBER, row),
+            0,
+            0,
+        );
     }
     if k == kinds::TRUE {
         return put(code, at, numbers::PUSH, 1, 0, 0);
@@ -88,8 +96,8 @@ fn creation(
     requires { ⌜ Writable (now table) (now names) (now code) (s .tokens) left row at ⌝ }
     ensures { λ r. ⌜ ExpressionPost (now (table .entry)) (now (names .entry)) s Form.aNewObject left row at (now (code .entry)) (now (code .exit)) r ⌝ }
 {
-    let x = word(table, 2, row + 1);
-    let start = word(table, 3, row);
+    let x = word(table, columns::NUMBER, row + 1);
+    let start = word(table, columns::BEGIN, row);
     if x < ABSENT {
         return put(
             code,
@@ -120,7 +128,14 @@ pub fn expression(
         return at;
     }
     let k = kind(table, s.tokens, row);
-    let i = put(code, at, numbers::MARK, word(table, 3, row), 0, 0);
+    let i = put(
+        code,
+        at,
+        numbers::MARK,
+        word(table, columns::BEGIN, row),
+        0,
+        0,
+    );
     if is_atom(k) {
         return atom(table, names, code, s, k, left - 1, row, i);
     }
@@ -152,7 +167,7 @@ fn compound(
     requires { ⌜ Writable (now table) (now names) (now code) (s .tokens) left row at ⌝ }
     ensures { λ r. ⌜ ExpressionPost (now (table .entry)) (now (names .entry)) s (formCompound k after) left row at (now (code .entry)) (now (code .exit)) r ⌝ }
 {
-    let start = word(table, 3, row);
+    let start = word(table, columns::BEGIN, row);
     if k == kinds::NEW {
         if after == kinds::INT {
             return unary(
@@ -229,7 +244,15 @@ pub fn unary(
     requires { ⌜ Writable (now table) (now names) (now code) (s .tokens) left row at × (op < 4294967296) × (arg < 4294967296) ⌝ }
     ensures { λ r. ⌜ SinglePost (now (table .entry)) (now (names .entry)) s op arg left row at (now (code .entry)) (now (code .exit)) r ⌝ }
 {
-    let a = expression(table, names, code, s, left, word(table, 4, row), at);
+    let a = expression(
+        table,
+        names,
+        code,
+        s,
+        left,
+        word(table, columns::FIRST, row),
+        at,
+    );
     put(code, a, op, arg, 0, 0)
 }
 
@@ -248,8 +271,24 @@ pub fn pair(
     requires { ⌜ Writable (now table) (now names) (now code) (s .tokens) left row at × (op < 4294967296) × (arg < 4294967296) ⌝ }
     ensures { λ r. ⌜ PairPost (now (table .entry)) (now (names .entry)) s op arg left row at (now (code .entry)) (now (code .exit)) r ⌝ }
 {
-    let a = expression(table, names, code, s, left, word(table, 4, row), at);
-    let b = expression(table, names, code, s, left, word(table, 5, row), a);
+    let a = expression(
+        table,
+        names,
+        code,
+        s,
+        left,
+        word(table, columns::FIRST, row),
+        at,
+    );
+    let b = expression(
+        table,
+        names,
+        code,
+        s,
+        left,
+        word(table, columns::SECOND, row),
+        a,
+    );
     put(code, b, op, arg, 0, 0)
 }
 
@@ -266,8 +305,24 @@ fn conjunction(
     requires { ⌜ Writable (now table) (now names) (now code) (s .tokens) left row at ⌝ }
     ensures { λ r. ⌜ ExpressionPost (now (table .entry)) (now (names .entry)) s Form.aConjunction left row at (now (code .entry)) (now (code .exit)) r ⌝ }
 {
-    let a = expression(table, names, code, s, left, word(table, 4, row), at);
-    let b = expression(table, names, code, s, left, word(table, 5, row), next(a));
+    let a = expression(
+        table,
+        names,
+        code,
+        s,
+        left,
+        word(table, columns::FIRST, row),
+        at,
+    );
+    let b = expression(
+        table,
+        names,
+        code,
+        s,
+        left,
+        word(table, columns::SECOND, row),
+        next(a),
+    );
     put(code, a, numbers::KEEP, b, 0, 0);
     b
 }
@@ -285,15 +340,23 @@ fn call(
     requires { ⌜ Writable (now table) (now names) (now code) (s .tokens) left row at ⌝ }
     ensures { λ r. ⌜ ExpressionPost (now (table .entry)) (now (names .entry)) s Form.aCall left row at (now (code .entry)) (now (code .exit)) r ⌝ }
 {
-    let a = expression(table, names, code, s, left, word(table, 4, row), at);
-    let given = word(table, 5, row);
+    let a = expression(
+        table,
+        names,
+        code,
+        s,
+        left,
+        word(table, columns::FIRST, row),
+        at,
+    );
+    let given = word(table, columns::SECOND, row);
     let b = arguments(table, names, code, s, left, given, a);
     put(
         code,
         b,
         numbers::CALL,
-        word(table, 3, row),
-        word(table, 2, row + 1),
+        word(table, columns::BEGIN, row),
+        word(table, columns::NUMBER, row + 1),
         count(table, left, given),
     )
 }
@@ -318,5 +381,13 @@ fn arguments(
         return at;
     }
     let a = expression(table, names, code, s, left, row, at);
-    arguments(table, names, code, s, left - 1, word(table, 6, row), a)
+    arguments(
+        table,
+        names,
+        code,
+        s,
+        left - 1,
+        word(table, columns::NEXT, row),
+        a,
+    )
 }

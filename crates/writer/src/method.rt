@@ -4,28 +4,45 @@ use crate::expr::expression;
 use crate::scope::Scope;
 use crate::stmt::list;
 use codegen::numbers;
-use lookup::rows::ABSENT;
 use lookup::rows::word;
+use parser::columns;
+use parser::columns::ABSENT;
 ghost use mathlib.Core.Path.{_≡_};
 ghost use Prim.Native.Nat.{_≤_, _<_};
 ghost use lib.ListN.{length, set};
-ghost use Rattle.reader.specs.WalkPost.{Walkable};
-ghost use Rattle.writer.specs.Methods.{MethodPost, MethodsPost};
+ghost use Rattle.reader.specs.contracts.WalkPost.{Walkable};
+ghost use Rattle.writer.specs.contracts.Methods.{MethodPost, MethodsPost};
 
 // The method whose name stands in this row.
 fn method(table: &[u32], names: &[u32], code: &mut [u32], n: usize, row: usize, at: usize) -> usize
     requires { ⌜ Walkable (now table) n × (6144 ≤ length (now names)) × (at ≤ 8192) × (row < 2048) ⌝ }
     ensures { λ r. ⌜ MethodPost (now (table .entry)) (now (names .entry)) n row at (now (code .entry)) (now (code .exit)) r ⌝ }
 {
-    let parameters = word(table, 4, row);
-    let locals = word(table, 5, row);
+    let parameters = word(table, columns::PARAMETERS, row);
+    let locals = word(table, columns::LOCALS, row);
     let s = Scope {
         tokens: n,
         parameters,
         locals,
     };
-    let a = list(table, names, code, s, n, word(table, 4, row + 1), at);
-    let b = expression(table, names, code, s, n, word(table, 5, row + 1), a);
+    let a = list(
+        table,
+        names,
+        code,
+        s,
+        n,
+        word(table, columns::BODY, row + 1),
+        at,
+    );
+    let b = expression(
+        table,
+        names,
+        code,
+        s,
+        n,
+        word(table, columns::VALUE, row + 1),
+        a,
+    );
     put(code, b, numbers::RETURN, 0, 0, 0)
 }
 
@@ -66,7 +83,7 @@ pub fn methods(
         entries,
         n,
         left - 1,
-        word(table, 6, row),
+        word(table, columns::NEXT, row),
         a,
     )
 }

@@ -1,9 +1,10 @@
 // Places of variables in their lists. `left` is how many may still come.
-use lookup::rows::ABSENT;
 use lookup::rows::word;
+use parser::columns;
+use parser::columns::ABSENT;
 ghost use Prim.Native.Nat.{_+_, _≤_};
 ghost use lib.ListN.{length};
-ghost use Rattle.writer.specs.Places.{PlacePost};
+ghost use Rattle.writer.specs.contracts.Places.{PlacePost};
 
 // Which variable of a list, counted on from `at`, is the first of a name; ABSENT where none is.
 pub fn place(table: &[u32], left: usize, row: usize, x: usize, at: usize) -> usize
@@ -16,8 +17,8 @@ pub fn place(table: &[u32], left: usize, row: usize, x: usize, at: usize) -> usi
     if ABSENT <= row {
         return ABSENT;
     }
-    if word(table, 2, row) == x {
+    if word(table, columns::NUMBER, row) == x {
         return at;
     }
-    place(table, left - 1, word(table, 6, row), x, at + 1)
+    place(table, left - 1, word(table, columns::NEXT, row), x, at + 1)
 }

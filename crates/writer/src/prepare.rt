@@ -2,8 +2,8 @@
 use crate::program::write;
 ghost use Prim.Native.Nat.{_≤_};
 ghost use lib.ListN.{length};
-ghost use Rattle.reader.specs.WalkPost.{Walkable};
-ghost use Rattle.writer.specs.Preparing.{Prepares};
+ghost use Rattle.reader.specs.contracts.WalkPost.{Walkable};
+ghost use Rattle.writer.specs.contracts.Preparing.{Prepares};
 
 // The code of an accepted source of n tokens, whose class table has this many classes, and where the code of each method begins.
 pub fn prepare(table: &[u32], code: &mut [u32], entries: &mut [u32], n: usize, classes: usize)

@@ -7,12 +7,13 @@ use crate::stmt::single;
 use base::fill::zero_words;
 use codegen::numbers;
 use lookup::fields::fill;
-use lookup::rows::ABSENT;
 use lookup::rows::word;
+use parser::columns;
+use parser::columns::ABSENT;
 ghost use Prim.Native.Nat.{_≤_};
 ghost use lib.ListN.{length};
-ghost use Rattle.reader.specs.WalkPost.{Walkable};
-ghost use Rattle.writer.specs.Writing.{BeginPost, MainPost, Writes};
+ghost use Rattle.reader.specs.contracts.WalkPost.{Walkable};
+ghost use Rattle.writer.specs.contracts.Writing.{BeginPost, MainPost, Writes};
 
 // What main sees: no fields, and how many fields the objects of each class hold, where the classes begin in a row.
 fn begin(table: &[u32], names: &mut [u32], n: usize, classes: usize, first: usize)
@@ -34,7 +35,7 @@ fn main_code(table: &[u32], names: &[u32], code: &mut [u32], n: usize) -> usize
         parameters: ABSENT,
         locals: ABSENT,
     };
-    let a = single(table, names, code, s, n, 14, 0);
+    let a = single(table, names, code, s, n, columns::MAIN_STATEMENT, 0);
     put(code, a, numbers::HALT, 0, 0, 0)
 }
 
@@ -50,7 +51,7 @@ pub fn write(
     requires { ⌜ Walkable (now table) n × (6144 ≤ length (now names)) × (2048 ≤ length (now entries)) × (classes ≤ 2048) ⌝ }
     ensures { λ _. ⌜ Writes (now (table .entry)) n classes (now (code .entry)) (now (code .exit)) (now (entries .entry)) (now (entries .exit)) ⌝ }
 {
-    let first = word(table, 6, 0);
+    let first = word(table, columns::NEXT, columns::CLASS_LIST);
     begin(table, names, n, classes, first);
     let a = main_code(table, names, code, n);
     each(table, names, code, entries, n, classes, n, first, a);

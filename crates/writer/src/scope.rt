@@ -2,12 +2,12 @@
 // (see `fields` of `lookup`).
 use crate::places::place;
 use lookup::member::count;
-use lookup::rows::ABSENT;
 use lookup::types::NOTHING;
+use parser::columns::ABSENT;
 ghost use Prim.Native.Nat.{_≤_, _<_};
 ghost use lib.ListN.{length};
-ghost use Rattle.reader.specs.WalkPost.{Walkable};
-ghost use Rattle.writer.specs.Scoping.{SlotPost};
+ghost use Rattle.reader.specs.contracts.WalkPost.{Walkable};
+ghost use Rattle.writer.specs.contracts.Scoping.{SlotPost};
 
 pub struct Scope {
     pub tokens: usize,

@@ -1,11 +1,12 @@
 // How many fields the objects of each class hold, in the words from 4,096 on of an array, by the number of the class's name.
 use lookup::fields::object_size;
-use lookup::rows::ABSENT;
 use lookup::rows::word;
+use parser::columns;
+use parser::columns::ABSENT;
 ghost use Prim.Native.Nat.{_≤_};
 ghost use lib.ListN.{length};
-ghost use Rattle.reader.specs.WalkPost.{Walkable};
-ghost use Rattle.writer.specs.Sizing.{SizePost, SizesPost};
+ghost use Rattle.reader.specs.contracts.WalkPost.{Walkable};
+ghost use Rattle.writer.specs.contracts.Sizing.{SizePost, SizesPost};
 
 // Those of the class whose name has the number x.
 fn size(table: &[u32], names: &mut [u32], n: usize, classes: usize, x: usize)
@@ -28,6 +29,13 @@ pub fn sizes(table: &[u32], names: &mut [u32], n: usize, classes: usize, left: u
     if ABSENT <= row {
         return;
     }
-    size(table, names, n, classes, word(table, 2, row));
-    sizes(table, names, n, classes, left - 1, word(table, 6, row));
+    size(table, names, n, classes, word(table, columns::NUMBER, row));
+    sizes(
+        table,
+        names,
+        n,
+        classes,
+        left - 1,
+        word(table, columns::NEXT, row),
+    );
 }

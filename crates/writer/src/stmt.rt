@@ -8,13 +8,14 @@ use crate::scope::Scope;
 use crate::scope::slot;
 use codegen::numbers;
 use lexer::kinds;
-use lookup::rows::ABSENT;
 use lookup::rows::word;
+use parser::columns;
+use parser::columns::ABSENT;
 use parser::table::kind;
 ghost use Prim.Native.Nat.{_≤_};
 ghost use Rattle.parser.specs.Tree.{Sort};
-ghost use Rattle.writer.specs.Shows.{Form};
-ghost use Rattle.writer.specs.Posts.{Writable, WritePost, StatementPost, BranchesPost, OtherwisePost, BodyPost};
+ghost use Rattle.writer.specs.contracts.Shows.{Form};
+ghost use Rattle.writer.specs.contracts.Posts.{Writable, WritePost, StatementPost, BranchesPost, OtherwisePost, BodyPost};
 
 // The number, and its printing.
 fn printed(
@@ -35,7 +36,7 @@ fn printed(
         code,
         s,
         numbers::PRINT,
-        word(table, 3, row),
+        word(table, columns::BEGIN, row),
         left,
         row,
         at,
@@ -55,7 +56,7 @@ fn assigned(
     requires { ⌜ Writable (now table) (now names) (now code) (s .tokens) left row at ⌝ }
     ensures { λ r. ⌜ StatementPost (now (table .entry)) (now (names .entry)) s Form.anAssignment left row at (now (code .entry)) (now (code .exit)) r ⌝ }
 {
-    let v = slot(table, names, s, word(table, 2, row));
+    let v = slot(table, names, s, word(table, columns::NUMBER, row));
     unary(table, names, code, s, numbers::SAVE, v, left, row, at)
 }
 
@@ -72,7 +73,7 @@ fn element(
     requires { ⌜ Writable (now table) (now names) (now code) (s .tokens) left row at ⌝ }
     ensures { λ r. ⌜ StatementPost (now (table .entry)) (now (names .entry)) s Form.anElementStore left row at (now (code .entry)) (now (code .exit)) r ⌝ }
 {
-    let v = slot(table, names, s, word(table, 2, row));
+    let v = slot(table, names, s, word(table, columns::NUMBER, row));
     let i = put(code, at, numbers::LOAD, v, 0, 0);
     pair(
         table,
@@ -80,7 +81,7 @@ fn element(
         code,
         s,
         numbers::STORE_ELEMENT,
-        word(table, 3, row),
+        word(table, columns::BEGIN, row),
         left,
         row,
         i,
@@ -104,15 +105,38 @@ pub fn single(
         return at;
     }
     let k = kind(table, s.tokens, row);
-    let i = put(code, at, numbers::MARK, word(table, 3, row), 0, 0);
+    let i = put(
+        code,
+        at,
+        numbers::MARK,
+        word(table, columns::BEGIN, row),
+        0,
+        0,
+    );
     if k == kinds::OPEN_BRACE {
-        return list(table, names, code, s, left - 1, word(table, 4, row), i);
+        return list(
+            table,
+            names,
+            code,
+            s,
+            left - 1,
+            word(table, columns::FIRST, row),
+            i,
+        );
     }
     if k == kinds::IF {
         return conditional(table, names, code, s, left - 1, row, i);
     }
     if k == kinds::WHILE {
-        let a = expression(table, names, code, s, left - 1, word(table, 4, row), i);
+        let a = expression(
+            table,
+            names,
+            code,
+            s,
+            left - 1,
+            word(table, columns::FIRST, row),
+            i,
+        );
         return body(table, names, code, s, left - 1, row, i, a);
     }
     if k == kinds::SYSTEM {
@@ -137,7 +161,15 @@ fn conditional(
     requires { ⌜ Writable (now table) (now names) (now code) (s .tokens) left row at ⌝ }
     ensures { λ r. ⌜ StatementPost (now (table .entry)) (now (names .entry)) s Form.aConditional left row at (now (code .entry)) (now (code .exit)) r ⌝ }
 {
-    let a = expression(table, names, code, s, left, word(table, 4, row), at);
+    let a = expression(
+        table,
+        names,
+        code,
+        s,
+        left,
+        word(table, columns::FIRST, row),
+        at,
+    );
     branches(table, names, code, s, left, row, a)
 }
 
@@ -154,7 +186,15 @@ fn branches(
     requires { ⌜ Writable (now table) (now names) (now code) (s .tokens) left row at ⌝ }
     ensures { λ r. ⌜ BranchesPost (now (table .entry)) (now (names .entry)) s left row at (now (code .entry)) (now (code .exit)) r ⌝ }
 {
-    let b = single(table, names, code, s, left, word(table, 5, row), next(at));
+    let b = single(
+        table,
+        names,
+        code,
+        s,
+        left,
+        word(table, columns::SECOND, row),
+        next(at),
+    );
     let r = otherwise(table, names, code, s, left, row, b);
     put(code, at, numbers::UNLESS, next(b), 0, 0);
     r
@@ -173,7 +213,15 @@ fn otherwise(
     requires { ⌜ Writable (now table) (now names) (now code) (s .tokens) left row at ⌝ }
     ensures { λ r. ⌜ OtherwisePost (now (table .entry)) (now (names .entry)) s left row at (now (code .entry)) (now (code .exit)) r ⌝ }
 {
-    let r = single(table, names, code, s, left, word(table, 7, row), next(at));
+    let r = single(
+        table,
+        names,
+        code,
+        s,
+        left,
+        word(table, columns::THIRD, row),
+        next(at),
+    );
     put(code, at, numbers::JUMP, r, 0, 0);
     r
 }
@@ -192,7 +240,15 @@ fn body(
     requires { ⌜ Writable (now table) (now names) (now code) (s .tokens) left row at × (top ≤ 8192) ⌝ }
     ensures { λ r. ⌜ BodyPost (now (table .entry)) (now (names .entry)) s left row top at (now (code .entry)) (now (code .exit)) r ⌝ }
 {
-    let b = single(table, names, code, s, left, word(table, 5, row), next(at));
+    let b = single(
+        table,
+        names,
+        code,
+        s,
+        left,
+        word(table, columns::SECOND, row),
+        next(at),
+    );
     let r = put(code, b, numbers::JUMP, top, 0, 0);
     put(code, at, numbers::UNLESS, r, 0, 0);
     r
@@ -218,5 +274,13 @@ pub fn list(
         return at;
     }
     let a = single(table, names, code, s, left, row, at);
-    list(table, names, code, s, left - 1, word(table, 6, row), a)
+    list(
+        table,
+        names,
+        code,
+        s,
+        left - 1,
+        word(table, columns::NEXT, row),
+        a,
+    )
 }

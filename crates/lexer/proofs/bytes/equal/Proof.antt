@@ -3,7 +3,7 @@ use Prim.Native.Nat.{_-_}
 use borrow.Author.Needs.{needs}
 use mathlib.Core.Path.{sym}
 use lib.ListN.{length}
-use Rattle.base.specs.Tests.{same-unlike}
+use Rattle.base.specs.laws.Tests.{same-unlike}
 use Rattle.lexer.proofs.Runs.{Alike, alike-start, alike-more, alike-not, alike-end}
 use Rattle.lexer.proofs.bytes.equal.Statement.{statement}
 use Rattle.lexer.proofs.bytes.equal.Tie as tie

@@ -5,8 +5,8 @@ use native.Mathlib.Omega.{arith}
 use mathlib.Core.Path.{_≡_, ap, _∙_}
 use lib.ListN.{take, drop}
 use Rattle.base.specs.Bytes.{same}
-use Rattle.base.specs.Table.{col}
-use Rattle.lexer.specs.Chains.{textAt}
+use Rattle.base.specs.contracts.Table.{col}
+use Rattle.lexer.specs.contracts.Chains.{textAt}
 use Rattle.lexer.proofs.names.has_text.Statement.{statement}
 use Rattle.lexer.proofs.names.has_text.Tie as tie
 

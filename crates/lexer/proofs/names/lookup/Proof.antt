@@ -3,8 +3,8 @@ use borrow.Author.Needs.{needs}
 use Prim.Native.Nat.{_+_, _-_}
 use native.Mathlib.Omega.{arith}
 use mathlib.Core.Path.{sym, _∙_}
-use Rattle.base.specs.Table.{col}
-use Rattle.lexer.specs.Chains.{Sought}
+use Rattle.base.specs.contracts.Table.{col}
+use Rattle.lexer.specs.contracts.Chains.{Sought}
 use Rattle.lexer.proofs.Chains.{row-inside, sought-row, sought-hit, sought-next, sought-none}
 use Rattle.lexer.proofs.names.lookup.Statement.{statement}
 use Rattle.lexer.proofs.names.lookup.Tie as tie

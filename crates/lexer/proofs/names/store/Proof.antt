@@ -3,8 +3,8 @@ use borrow.Author.Needs.{needs}
 use native.Mathlib.Nat.{zero-add}
 use native.Mathlib.Omega.{arith}
 use lib.ListN.{length-set}
-use Rattle.base.specs.Table.{put}
-use Rattle.lexer.specs.Chains.{stored}
+use Rattle.base.specs.contracts.Table.{put}
+use Rattle.lexer.specs.contracts.Chains.{storedRow}
 use Rattle.lexer.proofs.names.store.Statement.{statement}
 use Rattle.lexer.proofs.names.store.Tie as tie
 
@@ -63,7 +63,7 @@ same-length : tie.Need-same-length
 same-length c = simp length-set
 
 returns : tie.Need-returns
-unfolding stored put
+unfolding storedRow put
 returns c = simp zero-add
 
 pub store-spec : {M : Type 1} → statement M

@@ -2,7 +2,7 @@
 use borrow.Author.Needs.{needs}
 use native.Mathlib.Omega.{arith}
 use mathlib.Core.Path.{refl}
-use Rattle.base.specs.Table.{col, put}
+use Rattle.base.specs.contracts.Table.{col, put}
 use Rattle.lexer.proofs.Stores.{chain-sought, extended-again, extended-first}
 use Rattle.lexer.proofs.names.store_name.Statement.{statement}
 use Rattle.lexer.proofs.names.store_name.Tie as tie

@@ -4,7 +4,7 @@ use Prim.Native.Nat.{ℕ}
 use mathlib.Core.Path.{sym, ap, _∙_}
 use lib.Dec.{eqb}
 use Rattle.lexer.specs.ByteKinds.{bDigit}
-use Rattle.lexer.specs.Scan.{member}
+use Rattle.lexer.specs.contracts.Scan.{member}
 use Rattle.lexer.specs.declared.scan.Class.{Class}
 use Rattle.lexer.proofs.ByteKinds.{digit-by-kind}
 use Rattle.lexer.proofs.scan.belongs.Statement.{statement}

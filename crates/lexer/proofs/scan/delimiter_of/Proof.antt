@@ -3,7 +3,7 @@ use Prim.Native.Nat.{ℕ}
 use mathlib.Core.Logic.{_≢_}
 use mathlib.Core.Path.{_≡_}
 use borrow.Author.Tests.{ne-eqb}
-use Rattle.lexer.specs.Scan.{delimiterOf}
+use Rattle.lexer.specs.contracts.Scan.{delimiterOf}
 use Rattle.lexer.specs.declared.scan.Delimiter.the-variants.{Open, Close, Other}
 use Rattle.lexer.proofs.scan.delimiter_of.Statement.{statement}
 use Rattle.lexer.proofs.scan.delimiter_of.Tie as tie

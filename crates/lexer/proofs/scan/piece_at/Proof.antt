@@ -3,7 +3,7 @@ use borrow.Author.Needs.{needs}
 use Prim.Native.Nat.{ℕ, _≤_, _<_}
 use mathlib.Core.Path.{refl, sym, ap, _∙_, subst}
 use Rattle.lexer.specs.ByteKinds.{bDigit}
-use Rattle.lexer.specs.Scan.{pieceOf}
+use Rattle.lexer.specs.contracts.Scan.{pieceOf}
 use Rattle.lexer.specs.declared.scan.Piece.the-variants.{Token}
 use Rattle.lexer.proofs.ByteKinds.{kind-mark}
 use Rattle.lexer.proofs.Items.{at-blank, at-digit, at-other}

@@ -4,7 +4,7 @@ use Prim.Native.Nat.{_-_}
 use mathlib.Core.Path.{refl, sym, _∙_}
 use borrow.Author.Tests.{not-true, not-false}
 use lib.ListN.{length}
-use Rattle.lexer.specs.Scan.{member}
+use Rattle.lexer.specs.contracts.Scan.{member}
 use Rattle.lexer.proofs.Runs.{Running, running-more, running-stop, running-end}
 use Rattle.lexer.proofs.scan.run_end.Statement.{statement}
 use Rattle.lexer.proofs.scan.run_end.Tie as tie

@@ -2,7 +2,7 @@
 use borrow.Author.Needs.{needs}
 use native.Mathlib.Omega.{arith}
 use mathlib.Core.Path.{sym, ap, _∙_}
-use Rattle.lexer.specs.Scan.{pieceOf}
+use Rattle.lexer.specs.contracts.Scan.{pieceOf}
 use Rattle.lexer.proofs.Items.{byte-inside, at-slash, onClosing, piece-line, piece-block}
 use Rattle.lexer.proofs.scan.slash.Statement.{statement}
 use Rattle.lexer.proofs.scan.slash.Tie as tie

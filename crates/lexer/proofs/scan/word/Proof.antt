@@ -3,7 +3,7 @@ use borrow.Author.Needs.{needs}
 use native.Mathlib.Omega.{arith}
 use lib.ListN.{drop, length-drop}
 use Rattle.lexer.specs.Bytes.{isNamePart}
-use Rattle.lexer.specs.ItemLaws.{run-short}
+use Rattle.lexer.specs.laws.ItemLaws.{run-short}
 use Rattle.lexer.proofs.Items.{piece-word}
 use Rattle.lexer.proofs.scan.word.Statement.{statement}
 use Rattle.lexer.proofs.scan.word.Tie as tie

@@ -1,7 +1,7 @@
 -- `lexer::words::of_five` meets its contract: the first word that is equal decides, in the order of the definition.
 use borrow.Author.Needs.{needs}
 use mathlib.Core.Path.{sym, _∙_}
-use Rattle.lexer.specs.WordLengths.{fives, hit, miss, last, picks}
+use Rattle.lexer.specs.laws.WordLengths.{fives, hit, miss, last, picks}
 use Rattle.lexer.proofs.words.of_five.Statement.{statement}
 use Rattle.lexer.proofs.words.of_five.Tie as tie
 

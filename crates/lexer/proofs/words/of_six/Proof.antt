@@ -1,7 +1,7 @@
 -- `lexer::words::of_six` meets its contract: the first word that is equal decides, in the order of the definition.
 use borrow.Author.Needs.{needs}
 use mathlib.Core.Path.{sym, _∙_}
-use Rattle.lexer.specs.WordLengths.{sixes, hit, miss, last, picks}
+use Rattle.lexer.specs.laws.WordLengths.{sixes, hit, miss, last, picks}
 use Rattle.lexer.proofs.words.of_six.Statement.{statement}
 use Rattle.lexer.proofs.words.of_six.Tie as tie
 

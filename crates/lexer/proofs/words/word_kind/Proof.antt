@@ -1,6 +1,6 @@
 -- `lexer::words::word_kind` meets its contract: the words of the text's length decide, and there are none of other lengths.
 use borrow.Author.Needs.{needs}
-use Rattle.lexer.specs.WordLengths.{among-twos, among-threes, among-fours, among-fives, among-sixes, among-sevens, no-word}
+use Rattle.lexer.specs.laws.WordLengths.{among-twos, among-threes, among-fours, among-fives, among-sixes, among-sevens, no-word}
 use Rattle.lexer.proofs.words.word_kind.Statement.{statement}
 use Rattle.lexer.proofs.words.word_kind.Tie as tie
 

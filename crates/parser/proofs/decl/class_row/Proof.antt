@@ -1,5 +1,5 @@
 -- `class_row` meets its contract: three words are written.
-use Rattle.parser.specs.Layout.{classRow}
+use Rattle.parser.specs.contracts.Layout.{classRow}
 use borrow.Author.Needs.{needs}
 use Rattle.parser.proofs.decl.class_row.Statement.{statement}
 use Rattle.parser.proofs.decl.class_row.Tie as tie

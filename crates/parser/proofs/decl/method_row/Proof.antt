@@ -1,5 +1,5 @@
 -- `method_row` meets its contract: four words are written.
-use Rattle.parser.specs.Layout.{methodRow}
+use Rattle.parser.specs.contracts.Layout.{methodRow}
 use borrow.Author.Needs.{needs}
 use Rattle.parser.proofs.decl.method_row.Statement.{statement}
 use Rattle.parser.proofs.decl.method_row.Tie as tie

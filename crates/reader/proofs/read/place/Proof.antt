@@ -2,8 +2,8 @@
 use Prim.Native.Nat.{_+_}
 use borrow.Author.Tests.{lt-ltb, le-ltb}
 use native.Mathlib.Omega.{arith}
-use Rattle.base.specs.Table.{col}
-use Rattle.reader.specs.ReadPost.{placeIn}
+use Rattle.base.specs.contracts.Table.{col}
+use Rattle.reader.specs.contracts.ReadPost.{placeIn}
 use borrow.Author.Needs.{needs}
 use Rattle.reader.proofs.read.place.Statement.{statement}
 use Rattle.reader.proofs.read.place.Tie as tie

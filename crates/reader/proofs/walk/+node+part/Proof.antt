@@ -19,7 +19,7 @@ use Rattle.reader.proofs.walk.+node+part.{statement}
 use Rattle.reader.proofs.walk.+node+part.Tie.{close}
 use native.Mathlib.Omega.{arith}
 use borrow.Author.Needs.{needs}
-use Rattle.reader.specs.WalkPost.{Walks}
+use Rattle.reader.specs.contracts.WalkPost.{Walks}
 use Rattle.reader.proofs.Lists.{SoFar, so-far-none, so-far-more, so-far-end, follower-rises}
 use Rattle.reader.proofs.Walks.{part-none, part-step, part-absent, node-far, node-two, node-three}
 

@@ -3,7 +3,7 @@ use Prim.Native.Nat.{_-_}
 use mathlib.Core.Bool.{true}
 use native.Mathlib.Omega.{arith}
 use borrow.Author.Needs.{needs}
-use Rattle.reader.specs.WalkPost.{WalksClasses}
+use Rattle.reader.specs.contracts.WalkPost.{WalksClasses}
 use Rattle.reader.proofs.Lists.{SoFar, so-far-none, so-far-more, so-far-end, follower-rises}
 use Rattle.reader.proofs.Declarations.{classes-none, classes-step, classes-absent}
 use Rattle.reader.proofs.walk.classes.Statement.{statement}

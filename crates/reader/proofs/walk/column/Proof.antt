@@ -2,7 +2,7 @@
 use Prim.Native.Nat.{_+_, _*_}
 use mathlib.Core.Path.{refl}
 use native.Mathlib.Omega.{arith}
-use Rattle.base.specs.Table.{col}
+use Rattle.base.specs.contracts.Table.{col}
 use borrow.Author.Needs.{needs}
 use Rattle.reader.proofs.walk.column.Statement.{statement}
 use Rattle.reader.proofs.walk.column.Tie as tie

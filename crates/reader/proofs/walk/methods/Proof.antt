@@ -3,7 +3,7 @@ use Prim.Native.Nat.{_-_}
 use mathlib.Core.Bool.{true}
 use native.Mathlib.Omega.{arith}
 use borrow.Author.Needs.{needs}
-use Rattle.reader.specs.WalkPost.{WalksMethods}
+use Rattle.reader.specs.contracts.WalkPost.{WalksMethods}
 use Rattle.reader.proofs.Lists.{SoFar, so-far-none, so-far-more, so-far-end, follower-rises}
 use Rattle.reader.proofs.Declarations.{methods-none, methods-step, methods-absent}
 use Rattle.reader.proofs.walk.methods.Statement.{statement}

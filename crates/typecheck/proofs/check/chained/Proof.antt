@@ -1,6 +1,6 @@
 -- Each return is a law of `VerdictLaws`. The array is new, so no height is known yet.
 use borrow.Author.Needs.{needs}
-use Rattle.declarations.specs.Climbs.{none-known}
+use Rattle.declarations.specs.contracts.Climbs.{none-known}
 use Rattle.typecheck.proofs.check.chained.Statement.{statement}
 use Rattle.typecheck.proofs.check.chained.Tie as tie
 use Rattle.typecheck.proofs.VerdictLaws.{chained-contents, chained-refused}

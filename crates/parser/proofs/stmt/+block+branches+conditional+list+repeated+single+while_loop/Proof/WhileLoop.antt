@@ -6,7 +6,7 @@ use Prim.Native.Nat.{_+_}
 use borrow.Author.Needs.{needs}
 use native.Mathlib.Omega.{arith}
 use lib.Dec.{lit<}
-use Rattle.parser.specs.Post.{repeating}
+use Rattle.parser.specs.contracts.Post.{repeating}
 use Rattle.parser.proofs.Laws.{there, within-ok}
 use Rattle.parser.proofs.Statements.{test-open, test-bad, test-close, test-ok}
 use Rattle.parser.proofs.stmt.+block+branches+conditional+list+repeated+single+while_loop.Proof.At.{while-loop-at, while-loop-calls}

@@ -1,0 +1,5 @@
+-- Laws that proofs cite.
+pub mod TokenLaws
+pub mod RefusalLaws
+pub mod ReadLaws
+pub mod KindLaws

@@ -1,0 +1,4 @@
+-- Laws that proofs cite.
+pub mod Lists
+pub mod WordLaws
+pub mod Tests

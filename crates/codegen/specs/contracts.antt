@@ -1,0 +1,4 @@
+-- What functions promise one another; a reader who believes the proofs need not read them.
+pub mod Code
+pub mod Compile
+pub mod Words

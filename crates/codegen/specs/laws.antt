@@ -1,0 +1,9 @@
+-- Laws that proofs cite.
+pub mod Layout
+pub mod Dispatch
+pub mod Simulation
+pub mod Running
+pub mod Demand
+pub mod Heights
+pub mod WordRuns
+pub mod Rows

@@ -1,0 +1,26 @@
+-- What is reported of the state in which a run ends.
+use Prim.Native.Nat.{ℕ, _+_, _%_, _≤_}
+use mathlib.Core.Path.{_≡_}
+use mathlib.Core.Logic.{_≢_}
+use mathlib.Core.List.{List}
+use Rattle.base.specs.Word as Word
+use Rattle.peephole.specs.contracts.Plain.{operandAt}
+use Rattle.vm.specs.declared.state.Registers.{Registers}
+use Rattle.refinement.specs.laws.Quiet.{Unpaid, Short}
+use Rattle.interpreter.specs.declared.report.Ended.{Ended}
+
+-- the position of the mark, if it is among the places that are looked at
+pub record UnpaidPost (c : List ℕ) (place left most r : ℕ) : Type 0 where
+  pub says : (q : ℕ) → Unpaid c place left q → 8192 ≤ place + most → r ≡ q
+
+-- the same, where the jump at the end of a loop may come first
+pub record ShortPost (c : List ℕ) (place left r : ℕ) : Type 0 where
+  pub says : (q : ℕ) → Short c place left q → r ≡ q
+
+abbrev pub endedAs : (number position steps : ℕ) → Registers → Ended
+endedAs n q s m = record { number = n; position = q; steps = s; words = m .words; printed = m .printed }
+
+pub data Closes (c : List ℕ) (budget : ℕ) (m : Registers) : Ended → Type 0 where
+  closes-halt : {r : Ended} → m .due ≡ 3 → r ≡ endedAs 0 0 (Word.sub budget (m .left)) m → Closes c budget m r
+  closes-spent : {r : Ended} {q : ℕ} → m .due ≡ 50 → ShortPost c (m .place % 8192) (m .left) q → r ≡ endedAs 50 q budget m → Closes c budget m r
+  closes-fault : {r : Ended} → m .due ≢ 3 → m .due ≢ 50 → r ≡ endedAs (m .due) (operandAt c (m .place % 8192)) (Word.sub budget (m .left)) m → Closes c budget m r

@@ -1,0 +1,274 @@
+-- Laws on what begins at a position: a run is the front of what it is taken from, each item ends past its beginning and within the bytes,
+-- and a literal has digits only.
+use Prim.Native.Nat.{ℕ, suc, _+_, _-_, _≤_, _<_}
+use native.Mathlib.Omega.{arith}
+use mathlib.Core.List.{List, [], _∷_}
+use mathlib.Core.Logic.{_≢_}
+use mathlib.Core.Bool.{Bool, true, false, _&&_, _||_, not, false≢true}
+use mathlib.Core.Option.{Option, none, some}
+use mathlib.Core.Path.{_≡_, refl, sym, ap, _∙_}
+use lib.ListN.{length, getD, take, drop, length-drop}
+use lib.Dec.{eqb, ltb, lit<}
+use lib.Seq.{drop-cons}
+use borrow.Author.Tests.{ltb-true, eqb-true, eqb-false, not-true}
+use Rattle.base.specs.Bytes.{same}
+use Rattle.base.specs.Choice.{if_then_else_}
+use Rattle.base.specs.All.{All, all-nil, all-cons}
+use Rattle.base.specs.laws.Tests.{apart, and-true, and-false, if-both}
+use Rattle.lexer.specs.Bytes.{isBlank, isLetter, isDigit, isNamePart}
+use Rattle.lexer.specs.Kinds.{Word, words, kLiteral, kAnd, isName, kindIn, wordKind, markKind}
+use Rattle.lexer.specs.Tokens.{Item, gap, unclosed, nothing, token, longestRun, begins, closing, comment, mark, item}
+
+-- ---- two bytes
+
+-- the second byte is 0 where there is none
+pub begins-cons : (x y b : ℕ) (r : List ℕ) → eqb y 0 ≡ false → begins x y (b ∷ r) ≡ eqb x b && eqb y (getD r 0 0)
+begins-cons x y b [] e = rw e (sym (and-false (eqb x b)))
+begins-cons x y b (c ∷ r) e = refl
+
+-- the bytes that begin with x and y
+pub record Two (x y b : ℕ) (r : List ℕ) : Type 0 where
+  pub first : b ≡ x
+  pub rest : List ℕ
+  pub second : r ≡ y ∷ rest
+
+two : (x y b : ℕ) (r : List ℕ) → begins x y (b ∷ r) ≡ true → Two x y b r
+two x y b [] e = apart (cc)
+two x y b (c ∷ r) e =
+    let q = and-true (eqb x b) (eqb y c) e in
+    record { first = sym (eqb-true x b (q .0)); rest = r; second = ap (λ (d : ℕ). d ∷ r) (sym (eqb-true y c (q .1))) }
+
+-- ---- runs
+
+pub run-front : (p : ℕ → Bool) (l : List ℕ) → take (length (longestRun p l)) l ≡ longestRun p l
+unfolding longestRun
+run-front p [] = refl
+run-front p (b ∷ l) = go (p b) (run-front p l)
+  where
+    go : (c : Bool) → take (length (longestRun p l)) l ≡ longestRun p l
+        → take (length (if c then (λ _. b ∷ longestRun p l) else λ _. [])) (b ∷ l) ≡ (if c then (λ _. b ∷ longestRun p l) else λ _. [])
+    go true e = ap (λ (r : List ℕ). b ∷ r) e
+    go false e = refl
+
+pub run-short : (p : ℕ → Bool) (l : List ℕ) → length (longestRun p l) ≤ length l
+unfolding longestRun
+run-short p [] = omega arith
+run-short p (b ∷ l) = go (p b) (run-short p l)
+  where
+    go : (c : Bool) → length (longestRun p l) ≤ length l → length (if c then (λ _. b ∷ longestRun p l) else λ _. []) ≤ suc (length l)
+    go true h = omega arith
+    go false h = omega arith
+
+-- each byte of it passes the test
+run-all : (p : ℕ → Bool) (l : List ℕ) → All (λ b. p b ≡ true) (longestRun p l)
+unfolding longestRun
+run-all p [] = all-nil
+run-all p (b ∷ l) = go (p b) refl (run-all p l)
+  where
+    go : (c : Bool) → p b ≡ c → All (λ d. p d ≡ true) (longestRun p l) → All (λ d. p d ≡ true) (if c then (λ _. b ∷ longestRun p l) else λ _. [])
+    go true e h = all-cons e h
+    go false e h = all-nil
+
+run-some : (p : ℕ → Bool) (b : ℕ) (l : List ℕ) → p b ≡ true → 0 < length (longestRun p (b ∷ l))
+unfolding longestRun
+run-some p b l e = rw e (omega arith)
+
+-- ---- the kinds of words and marks
+
+-- a kind of a word or a mark, which is no literal's; 0 is the kind of no mark
+abbrev kindFits : ℕ → Bool
+kindFits k = ltb k 40 && not (eqb k kLiteral)
+
+abbrev kindsFit : List Word → Bool
+kindsFit [] = true
+kindsFit (w ∷ ws) = (ltb 0 (w .kind) && kindFits (w .kind)) && kindsFit ws
+
+word-fits : (ws : List Word) (t : List ℕ) → kindsFit ws ≡ true → (ltb 0 (kindIn ws t) && kindFits (kindIn ws t)) ≡ true
+word-fits [] t e = refl
+word-fits (w ∷ ws) t e =
+    let q = and-true (ltb 0 (w .kind) && kindFits (w .kind)) (kindsFit ws) e in
+    if-both (λ k. (ltb 0 k && kindFits k) ≡ true) (same (w .text) t) (λ _. w .kind) (λ _. kindIn ws t) (q .0) (word-fits ws t (q .1))
+
+-- the same as facts
+abbrev KindFits : ℕ → Type 0
+KindFits k = (k < 40) × (k ≢ kLiteral)
+
+kind-fits : (k : ℕ) → kindFits k ≡ true → KindFits k
+kind-fits k e =
+    let q = and-true (ltb k 40) (not (eqb k kLiteral)) e in
+    (ltb-true k 40 (q .0), eqb-false k kLiteral (not-true (eqb k kLiteral) (q .1)))
+
+pub word-kind-fits : (t : List ℕ) → (0 < wordKind t) × KindFits (wordKind t)
+unfolding wordKind words
+word-kind-fits t =
+    let q = and-true (ltb 0 (wordKind t)) (kindFits (wordKind t)) (word-fits words t refl) in
+    (ltb-true 0 (wordKind t) (q .0), kind-fits (wordKind t) (q .1))
+
+-- what holds of the kind of each mark and of 0 holds of every mark's
+of-marks : (P : ℕ → Type 0) → P 25 → P 26 → P 27 → P 28 → P 29 → P 30 → P 31 → P 32 → P 33 → P 34 → P 35 → P 36 → P 37 → P 38 → P 39 → P 0 → (b : ℕ) → P (markKind b)
+unfolding markKind
+of-marks P m₂₅ m₂₆ m₂₇ m₂₈ m₂₉ m₃₀ m₃₁ m₃₂ m₃₃ m₃₄ m₃₅ m₃₆ m₃₇ m₃₈ m₃₉ m₀ b =
+    if-both P (eqb b 60) (λ _. 25) _ m₂₅
+    (if-both P (eqb b 43) (λ _. 26) _ m₂₆
+    (if-both P (eqb b 45) (λ _. 27) _ m₂₇
+    (if-both P (eqb b 42) (λ _. 28) _ m₂₈
+    (if-both P (eqb b 33) (λ _. 29) _ m₂₉
+    (if-both P (eqb b 61) (λ _. 30) _ m₃₀
+    (if-both P (eqb b 46) (λ _. 31) _ m₃₁
+    (if-both P (eqb b 44) (λ _. 32) _ m₃₂
+    (if-both P (eqb b 59) (λ _. 33) _ m₃₃
+    (if-both P (eqb b 40) (λ _. 34) _ m₃₄
+    (if-both P (eqb b 41) (λ _. 35) _ m₃₅
+    (if-both P (eqb b 91) (λ _. 36) _ m₃₆
+    (if-both P (eqb b 93) (λ _. 37) _ m₃₇
+    (if-both P (eqb b 123) (λ _. 38) _ m₃₈
+    (if-both P (eqb b 125) (λ _. 39) _ m₃₉ m₀))))))))))))))
+
+mark-kind-fits : (b : ℕ) → kindFits (markKind b) ≡ true
+mark-kind-fits b = of-marks (λ k. kindFits k ≡ true) refl refl refl refl refl refl refl refl refl refl refl refl refl refl refl refl b
+
+mark-no-name : (b : ℕ) → isName (markKind b) ≡ false
+unfolding isName
+mark-no-name b = of-marks (λ k. isName k ≡ false) refl refl refl refl refl refl refl refl refl refl refl refl refl refl refl refl b
+
+-- ---- the end of a block comment
+
+abbrev Ends : (i n : ℕ) → Option ℕ → Type 0
+Ends i n none = Unit {0}
+Ends i n (some j) = (i < j) × (j ≤ i + n)
+
+ends-later : (i j n m : ℕ) (o : Option ℕ) → i ≤ j → j + n ≤ i + m → Ends j n o → Ends i m o
+ends-later i j n m none h k e = tt
+ends-later i j n m (some l) h k e = omega arith
+
+closing-ends : (d i : ℕ) (bs : List ℕ) → Ends i (length bs) (closing d i bs)
+unfolding closing
+closing-ends d i [] = tt
+closing-ends d i (a ∷ []) = tt
+closing-ends d i (a ∷ b ∷ bs) =
+    let n = length bs in
+    let P : Option ℕ → Type 0 = Ends i (suc (suc n)) in
+    if-both P (eqb a 47 && eqb b 42) (λ _. closing (d + 1) (i + 2) bs) _
+    (ends-later i (i + 2) n (suc (suc n)) (closing (d + 1) (i + 2) bs) (omega arith) (omega arith) (closing-ends (d + 1) (i + 2) bs))
+    (if-both P (eqb a 42 && eqb b 47) _ (λ _. closing d (i + 1) (b ∷ bs))
+    (if-both P (eqb d 1) (λ _. some (i + 2)) (λ _. closing (d - 1) (i + 2) bs) (omega arith)
+    (ends-later i (i + 2) n (suc (suc n)) (closing (d - 1) (i + 2) bs) (omega arith) (omega arith) (closing-ends (d - 1) (i + 2) bs)))
+    (ends-later i (i + 1) (suc n) (suc (suc n)) (closing d (i + 1) (b ∷ bs)) (omega arith) (omega arith) (closing-ends d (i + 1) (b ∷ bs))))
+
+-- ---- items
+
+-- every byte is a digit
+abbrev pub Digits : List ℕ → Type 0
+Digits t = All (λ b. isDigit b ≡ true) t
+
+-- a token's kind and its text, which the bytes begin with
+pub record Shape (kind : ℕ) (text bs : List ℕ) : Type 0 where
+  pub positive : 0 < kind
+  pub below : kind < 40
+  pub nonempty : 0 < length text
+  pub short : length text ≤ length bs
+  pub front : take (length text) bs ≡ text
+  pub digits : kind ≡ kLiteral → Digits text
+  pub named : isName kind ≡ true → text ≡ longestRun isNamePart bs
+
+-- an item that begins at i, with the bytes bs
+abbrev pub Good : (i : ℕ) → List ℕ → Item → Type 0
+Good i bs (gap j) = (i < j) × (j ≤ i + length bs)
+Good i bs unclosed = Unit {0}
+Good i bs nothing = Unit {0}
+Good i bs (token k t) = Shape k t bs
+
+-- the item by the answers of the tests
+abbrev pub chosen : (i b : ℕ) (r : List ℕ) (blank line block letter digit and : Bool) → Item
+chosen i b r blank line block letter digit and =
+    let bs = b ∷ r in
+    if blank then (λ _. gap (i + 1)) else λ _.
+    if line then (λ _. gap (i + length (longestRun (λ c. not (eqb c 10)) bs))) else λ _.
+    if block then (λ _. comment (closing 1 (i + 2) (drop 2 bs))) else λ _.
+    if letter then (λ _. let text = longestRun isNamePart bs in token (wordKind text) text) else λ _.
+    if digit then (λ _. token kLiteral (longestRun isDigit bs)) else λ _.
+    if and then (λ _. token kAnd (38 ∷ 38 ∷ [])) else λ _.
+    mark b (markKind b)
+
+module _ (i b : ℕ) (r : List ℕ) where
+  good-line : Two 47 47 b r → Good i (b ∷ r) (gap (i + length (longestRun (λ c. not (eqb c 10)) (b ∷ r))))
+  good-line w =
+      let p : ℕ → Bool = λ c. not (eqb c 10) in
+      omega (arith, run-short p (b ∷ r), run-some p b r (ap p (w .first)))
+
+  good-comment : (o : Option ℕ) → Ends (i + 2) (length (drop 1 r)) o → Two 47 42 b r → Good i (b ∷ r) (comment o)
+  good-comment none e w = tt
+  good-comment (some j) e w = omega (arith, length-drop 1 r, ap length (w .second))
+
+  good-run : (p : ℕ → Bool) (k : ℕ) → 0 < k → k < 40 → (k ≡ kLiteral → Digits (longestRun p (b ∷ r))) → (isName k ≡ true → longestRun p (b ∷ r) ≡ longestRun isNamePart (b ∷ r))
+      → p b ≡ true → Good i (b ∷ r) (token k (longestRun p (b ∷ r)))
+  good-run p k l h d n e = record {
+    positive = l;
+    below = h;
+    nonempty = run-some p b r e;
+    short = run-short p (b ∷ r);
+    front = run-front p (b ∷ r);
+    digits = d;
+    named = n;
+  }
+
+  good-word : isLetter b ≡ true → Good i (b ∷ r) (token (wordKind (longestRun isNamePart (b ∷ r))) (longestRun isNamePart (b ∷ r)))
+  unfolding isNamePart
+  good-word e =
+      let t = longestRun isNamePart (b ∷ r) in
+      let f = word-kind-fits t in
+      good-run isNamePart (wordKind t) (f .0) (f .1 .0) (λ q. absurd (f .1 .1 q)) (λ _. refl) (ap (λ (x : Bool). x || isDigit b || eqb b 95) e)
+
+  good-literal : isDigit b ≡ true → Good i (b ∷ r) (token kLiteral (longestRun isDigit (b ∷ r)))
+  unfolding isName
+  good-literal e = good-run isDigit kLiteral (lit< tt) (lit< tt) (λ _. run-all isDigit (b ∷ r)) (λ q. absurd (false≢true q)) e
+
+  good-and : Two 38 38 b r → Good i (b ∷ r) (token kAnd (38 ∷ 38 ∷ []))
+  unfolding isName
+  good-and w = record {
+    positive = lit< tt;
+    below = lit< tt;
+    nonempty = lit< tt;
+    short = omega (arith, ap length (w .second));
+    front = (λ j. take 2 (w .first j ∷ w .second j));
+    digits = λ q. apart (cc);
+    named = λ q. absurd (false≢true q);
+  }
+
+  good-mark : (k : ℕ) → KindFits k → isName k ≡ false → (z : Bool) → eqb k 0 ≡ z → Good i (b ∷ r) (if z then (λ _. nothing) else λ _. token k (b ∷ []))
+  good-mark k h n true e = tt
+  good-mark k h n false e = record {
+    positive = not-zero k (eqb-false k 0 e);
+    below = h .0;
+    nonempty = lit< tt;
+    short = omega arith;
+    front = refl;
+    digits = λ q. absurd (h .1 q);
+    named = λ q. absurd (false≢true (sym n ∙ q));
+  }
+    where
+      not-zero : (n : ℕ) → n ≢ 0 → 0 < n
+      not-zero n m = omega arith
+
+  good-chosen : (x₁ x₂ x₃ x₄ x₅ x₆ : Bool) → begins 47 47 (b ∷ r) ≡ x₂ → begins 47 42 (b ∷ r) ≡ x₃ → isLetter b ≡ x₄ → isDigit b ≡ x₅
+      → begins 38 38 (b ∷ r) ≡ x₆ → Good i (b ∷ r) (chosen i b r x₁ x₂ x₃ x₄ x₅ x₆)
+  good-chosen true x₂ x₃ x₄ x₅ x₆ e₂ e₃ e₄ e₅ e₆ = omega arith
+  good-chosen false true x₃ x₄ x₅ x₆ e₂ e₃ e₄ e₅ e₆ = good-line (two 47 47 b r e₂)
+  good-chosen false false true x₄ x₅ x₆ e₂ e₃ e₄ e₅ e₆ =
+      good-comment (closing 1 (i + 2) (drop 1 r)) (closing-ends 1 (i + 2) (drop 1 r)) (two 47 42 b r e₃)
+  good-chosen false false false true x₅ x₆ e₂ e₃ e₄ e₅ e₆ =
+      good-word e₄
+  good-chosen false false false false true x₆ e₂ e₃ e₄ e₅ e₆ = good-literal e₅
+  good-chosen false false false false false true e₂ e₃ e₄ e₅ e₆ = good-and (two 38 38 b r e₆)
+  good-chosen false false false false false false e₂ e₃ e₄ e₅ e₆ =
+      good-mark (markKind b) (kind-fits (markKind b) (mark-kind-fits b)) (mark-no-name b) (eqb (markKind b) 0) refl
+
+good-item : (i b : ℕ) (r : List ℕ) → Good i (b ∷ r) (item i (b ∷ r))
+unfolding item
+good-item i b r =
+    let bs = b ∷ r in
+    good-chosen i b r (isBlank b) (begins 47 47 bs) (begins 47 42 bs) (isLetter b) (isDigit b) (begins 38 38 bs) refl refl refl refl refl
+
+-- what begins at a position within a source
+pub good : (s : List ℕ) (i : ℕ) → i < length s → Good i (drop i s) (item i (drop i s))
+good s i h = rw (drop-cons s i 0 h) (good-item i (getD s i 0) (drop (suc i) s))

@@ -1,0 +1,4 @@
+-- Laws that proofs cite.
+pub mod HeldLaws
+pub mod ChainLaws
+pub mod VariableLaws

@@ -1,0 +1,167 @@
+-- Laws on the class table in the work table: words of rows that are there, names and types by number, and the class to which the index leads.
+use Prim.Native.Nat.{ℕ, _≤_, _<_}
+use native.Mathlib.Omega.{arith}
+use mathlib.Core.Path.{_≡_, refl, sym, ap, _∙_, subst}
+use mathlib.Core.List.{List, [], _∷_}
+use mathlib.Core.Bool.{true, false}
+use mathlib.Core.Option.{Option, none, some, Option·some-injective}
+use lib.ListN.{length, getElem?}
+use lib.Dec.{leb}
+use borrow.Author.Tests.{leb-true, lt-ltb, le-ltb}
+use Rattle.base.specs.Bytes.{same}
+use Rattle.base.specs.All.{All, all-nil, all-cons}
+use Rattle.base.specs.laws.Lists.{get-getD}
+use Rattle.base.specs.contracts.Table.{col}
+use Rattle.lexer.specs.Kinds.{isName}
+use Rattle.lexer.specs.Tokens.{Token}
+use Rattle.lexer.specs.contracts.Rows.{firstNamed}
+use Rattle.lexer.specs.laws.RowLaws.{first-named, first-least}
+use Rattle.parser.specs.Tree.{Ty, Ty.class, Class, Method}
+use Rattle.parser.specs.Stream.{tokenAt, noMore, kindAt, startAt}
+use Rattle.parser.specs.contracts.Post.{kindInTable}
+use Rattle.reader.specs.contracts.Matches.{NameIs}
+use Rattle.reader.specs.laws.ReadingLaws.{tokens-in}
+use Rattle.typesystem.specs.ClassTable.{classNamed, sameType}
+use Rattle.base.specs.laws.Tests.{and-true, same-of, apart-same}
+use Rattle.typing.specs.laws.Tests.{sameType-of, apart-sameType}
+use Rattle.typing.specs.laws.Chains.{class-name, all-classes}
+use Rattle.parser.specs.contracts.Layout.{absent}
+use Rattle.lookup.specs.contracts.HeldClasses.{wordAt, Lexemes, NameNumber, MaybeNumber, no-name, a-name, code, noType, Codes, code-int, code-boolean, code-intArray, code-class, MethodHeld, MethodsHeld, no-methods, more-methods, ClassHeld, ClassesHeld, no-classes, more-classes, rowClass, ClassTableHeld, classOf}
+
+-- a list that stands in a row, and not past the last, has a member
+pub none-left : {A : Type 0} (first : List A → ℕ) → first [] ≡ absent → (xs : List A) {row left : ℕ} → first xs ≡ row → length xs ≤ left → row < absent → left ≡ 0 → ⊥
+none-left first e [] at few near z = omega (arith, e, at)
+none-left first e (x ∷ xs) at few near z = omega arith
+
+-- WORDS
+
+pub word-in : (tab : List ℕ) (k row : ℕ) {v : ℕ} → row < absent → col tab k row ≡ v → wordAt tab k row ≡ v
+unfolding wordAt
+word-in tab k row h e = rw (lt-ltb row absent h) e
+
+pub word-out : (tab : List ℕ) (k row : ℕ) → absent ≤ row → wordAt tab k row ≡ absent
+unfolding wordAt
+word-out tab k row h = rw (le-ltb row absent h)
+
+-- the kind of a name is none of the other tokens'
+pub name-kind : (k : ℕ) → isName k ≡ true → k ≤ 3
+unfolding isName
+name-kind k e = leb-true k 3 (and-true (leb 1 k) (leb k 3) e .1)
+
+module _ {tab : List ℕ} {n : ℕ} {ts : List Token} (lx : Lexemes tab n ts) where
+  pub kinds : (i : ℕ) → kindInTable tab n i ≡ kindAt ts i
+  kinds i = subst (λ (m : ℕ). kindInTable tab m i ≡ kindAt ts i) (lx .count) (tokens-in tab ts (lx .rows) .kinds i)
+
+  pub start-word : (i : ℕ) → i < length ts → wordAt tab 1 i ≡ startAt ts i
+  start-word i h = word-in tab 1 i (omega (arith, lx .count, lx .few)) (tokens-in tab ts (lx .rows) .starts i h)
+
+  -- the number of a name stands in column 2
+  pub spelt : (i : ℕ) {x : List ℕ} → NameIs ts i x → NameNumber ts x (col tab 2 i)
+  spelt i {x} m =
+      let g = get-getD ts i noMore (m .there) in
+      let number : col tab 2 i ≡ firstNamed ts x = lx .rows i (tokenAt ts i) g .name (m .named) ∙ ap (firstNamed ts) (m .spelt) in
+      let least = first-least ts i x (record { item = tokenAt ts i; at = g; named = m .named; text = m .spelt }) in
+      record { first = sym number; there = omega (arith, number, least, m .there) }
+
+  pub name-word : (i : ℕ) {x : List ℕ} → NameIs ts i x → NameNumber ts x (wordAt tab 2 i)
+  name-word i {x} m =
+      subst (NameNumber ts x) (sym (word-in tab 2 i (omega (arith, lx .count, lx .few, m .there)) refl)) (spelt i m)
+
+  -- a row of a token is a row
+  pub row-there : (i : ℕ) → i < length ts → i < absent
+  row-there i h = omega (arith, lx .count, lx .few)
+
+-- NUMBERS
+
+-- two names have one number just where they are one
+pub one-name : {ts : List Token} {x y : List ℕ} {i j : ℕ} → NameNumber ts x i → NameNumber ts y j → i ≡ j → x ≡ y
+one-name {ts} {x} {y} {i} {j} p q e =
+    let a = first-named ts x (omega (arith, p .first, p .there)) in
+    let b = first-named ts y (omega (arith, q .first, q .there)) in
+    let z : firstNamed ts x ≡ firstNamed ts y = p .first ∙ e ∙ sym (q .first) in
+    let w : a .item ≡ b .item = Option·some-injective (a .item) (b .item) (sym (a .at) ∙ ap (getElem? ts) z ∙ b .at) in
+    sym (a .text) ∙ ap (λ (t : Token). t .text) w ∙ b .text
+
+pub same-names : {ts : List Token} {x y : List ℕ} {i j : ℕ} → NameNumber ts x i → NameNumber ts y j → i ≡ j → same x y ≡ true
+same-names p q e = same-of (one-name p q e)
+
+pub other-names : {ts : List Token} {x y : List ℕ} {i j : ℕ} → NameNumber ts x i → NameNumber ts y j → (i ≡ j → ⊥) → same x y ≡ false
+other-names {ts} {x} {y} p q n = apart-same x y λ e. n (sym (p .first) ∙ ap (firstNamed ts) e ∙ q .first)
+
+-- CLASSES
+
+pub all-stand : {tab : List ℕ} {n : ℕ} {ts : List Token} {G : List Class} → ClassesHeld tab n ts G → All (ClassHeld tab n ts) G
+all-stand no-classes = all-nil
+all-stand (more-classes s e h) = all-cons s (all-stand h)
+
+pub methods-stand : {tab : List ℕ} {n : ℕ} {ts : List Token} {ms : List Method} → MethodsHeld tab n ts ms → All (MethodHeld tab n ts) ms
+methods-stand no-methods = all-nil
+methods-stand (more-methods s e h) = all-cons s (methods-stand h)
+
+-- the number of a class's name
+pub spelt-class : {tab : List ℕ} {n : ℕ} {ts : List Token} → Lexemes tab n ts → (k : Class) → ClassHeld tab n ts k → NameNumber ts (k .name .text) (col tab 2 (k .name .row))
+spelt-class lx k s = spelt lx (k .name .row) (s .named .token)
+
+-- what the index leads to from a name, or from none
+pub data ClassAt (tab : List ℕ) (n : ℕ) (ts : List Token) (G : List Class) (name : Option (List ℕ)) (c : ℕ) (row : ℕ) : Type 0 where
+  no-class : classOf G name ≡ none → absent ≤ row → ClassAt tab n ts G name c row
+  a-class : (k : Class) → classOf G name ≡ some k → k .name .row ≡ row → row < absent → ClassHeld tab n ts k → NameNumber ts (k .name .text) c → ClassAt tab n ts G name c row
+
+module _ {tab : List ℕ} {n : ℕ} {ts : List Token} {G : List Class} (w : ClassTableHeld tab n ts G) where
+  found : (c : List ℕ) (number row : ℕ) (o : Option Class) → NameNumber ts c number → classNamed G c ≡ o → row ≡ rowClass o → ClassAt tab n ts G (some c) number row
+  found c number row none s e r = no-class e (omega (arith, r))
+  found c number row (some k) s e r =
+      let h = all-classes c (all-stand (w .classes)) e in
+      let there = row-there (w .tokens) (k .name .row) (h .named .token .there) in
+      a-class k e (sym r) (omega (arith, r, there)) h (subst (λ (x : List ℕ). NameNumber ts x number) (sym (class-name G c e)) s)
+
+  pub class-at : (name : Option (List ℕ)) (c row : ℕ) → MaybeNumber ts name c → row ≡ wordAt tab 7 c → ClassAt tab n ts G name c row
+  class-at none c row (no-name h) e = no-class refl (omega (arith, e, word-out tab 7 c h))
+  class-at (some x) c row (a-name s) e =
+      found x c row (classNamed G x) s refl
+      (e ∙ word-in tab 7 c (row-there (w .tokens) c (s .there)) (w .index x c s))
+
+-- TYPES
+
+-- two types have one number just where they are one
+module _ {tab : List ℕ} {n : ℕ} {ts : List Token} (lx : Lexemes tab n ts) where
+  pub equal-codes : {s t : Ty} {v w : ℕ} → Codes ts s v → Codes ts t w → v ≡ w → s ≡ t
+  equal-codes (code-int p) (code-int q) e = refl
+  equal-codes (code-int p) (code-boolean q) e = absurd (omega arith)
+  equal-codes (code-int p) (code-intArray q) e = absurd (omega arith)
+  equal-codes (code-int p) (code-class q) e = absurd (omega (arith, q .there, lx .count, lx .few))
+  equal-codes (code-boolean p) (code-int q) e = absurd (omega arith)
+  equal-codes (code-boolean p) (code-boolean q) e = refl
+  equal-codes (code-boolean p) (code-intArray q) e = absurd (omega arith)
+  equal-codes (code-boolean p) (code-class q) e = absurd (omega (arith, q .there, lx .count, lx .few))
+  equal-codes (code-intArray p) (code-int q) e = absurd (omega arith)
+  equal-codes (code-intArray p) (code-boolean q) e = absurd (omega arith)
+  equal-codes (code-intArray p) (code-intArray q) e = refl
+  equal-codes (code-intArray p) (code-class q) e = absurd (omega (arith, q .there, lx .count, lx .few))
+  equal-codes (code-class p) (code-int q) e = absurd (omega (arith, p .there, lx .count, lx .few))
+  equal-codes (code-class p) (code-boolean q) e = absurd (omega (arith, p .there, lx .count, lx .few))
+  equal-codes (code-class p) (code-intArray q) e = absurd (omega (arith, p .there, lx .count, lx .few))
+  equal-codes (code-class p) (code-class q) e = ap class (one-name p q e)
+
+  pub same-codes : {s t : Ty} {v w : ℕ} → Codes ts s v → Codes ts t w → v ≡ w → sameType s t ≡ true
+  same-codes c d e = sameType-of (equal-codes c d e)
+
+  -- a type has one number
+  one-code : {s t : Ty} {v w : ℕ} → Codes ts s v → Codes ts t w → s ≡ t → v ≡ w
+  one-code {s} {t} {v} {w} c d e = number c ∙ ap (code ts) e ∙ sym (number d)
+    where
+      number : {u : Ty} {x : ℕ} → Codes ts u x → x ≡ code ts u
+      number (code-int q) = q
+      number (code-boolean q) = q
+      number (code-intArray q) = q
+      number (code-class q) = sym (q .first)
+
+  pub other-codes : {s t : Ty} {v w : ℕ} → Codes ts s v → Codes ts t w → (v ≡ w → ⊥) → sameType s t ≡ false
+  other-codes {s} {t} c d n = apart-sameType s t λ e. n (one-code c d e)
+
+-- the number of a type is below that of none
+pub codes-below : {ts : List Token} {t : Ty} {w : ℕ} → length ts ≤ 2048 → Codes ts t w → w < noType
+codes-below few (code-int e) = omega arith
+codes-below few (code-boolean e) = omega arith
+codes-below few (code-intArray e) = omega arith
+codes-below few (code-class s) = omega (arith, s .there)

@@ -1,0 +1,94 @@
+-- Reading, stage by stage: what the definition of Read answers where the source is too long, where the lexer or the parser refuses, where a node is too deep,
+-- and where all of them accept; and how the lexer's rows are the tokens that the parser reads.
+use Prim.Native.Nat.{ℕ, _≤_, _<_}
+use mathlib.Core.Path.{_≡_, refl, sym, ap}
+use mathlib.Core.List.{List}
+use mathlib.Core.Option.{none, some}
+use native.Mathlib.Omega.{arith}
+use native.Mathlib.Decide.{decLt}
+use lib.ListN.{length, List·getD-eq-default}
+use borrow.Author.Tests.{lt-ltb, le-ltb}
+use Rattle.base.specs.Codes.{sourceTooLong, sourceMost, notInGrammar, tooDeep}
+use Rattle.base.specs.laws.Lists.{get-getD, all-of}
+use Rattle.base.specs.Outcome.{accepted, refused}
+use Rattle.lexer.specs.Tokens.{Token, tokens}
+use Rattle.lexer.specs.contracts.Rows.{Rows}
+use Rattle.lexer.specs.laws.RowLaws.{token-not-end}
+use Rattle.parser.specs.declared.answer.Answer.{Answer}
+use Rattle.parser.specs.declared.answer.Answer.the-variants.{At, Bad}
+use Rattle.parser.specs.Tree.{Program}
+use Rattle.parser.specs.Stream.{tokenAt, kindAt, noMore}
+use Rattle.parser.specs.Parse.{Parsed, ok, bad, parse}
+use Rattle.parser.specs.contracts.Layout.{storeProgram}
+use Rattle.parser.specs.Measure.{programDeep}
+use Rattle.parser.specs.contracts.Post.{kindInTable, TokensIn, Met, met-ok, met-bad}
+use Rattle.parser.specs.contracts.DeclarationPost.{wholeProgram, ProgramPost}
+use Rattle.parser.specs.Read.{positionOf, reading}
+use Rattle.grammar.specs.laws.Proper.{Proper}
+
+-- THE STAGES
+module _ (s : List ℕ) where
+  pub too-long : sourceMost < length s → reading s ≡ refused sourceTooLong 0
+  unfolding reading
+  too-long l = rw (lt-ltb sourceMost (length s) l) refl
+
+  module _ (short : length s ≤ sourceMost) where
+    pub not-lexed : {n p : ℕ} → tokens s ≡ refused n p → reading s ≡ refused n p
+    unfolding reading
+    not-lexed e = rw (le-ltb sourceMost (length s) short, e) refl
+
+    module _ (ts : List Token) (e : tokens s ≡ accepted ts) where
+      pub not-parsed : (k : ℕ) → parse ts ≡ bad k → reading s ≡ refused notInGrammar (positionOf s ts k)
+      unfolding reading
+      not-parsed k q = rw (le-ltb sourceMost (length s) short, e, q) refl
+
+      pub not-shallow : (p : Program) (j at : ℕ) → parse ts ≡ ok p j → programDeep p ≡ some at → reading s ≡ refused tooDeep at
+      unfolding reading
+      not-shallow p j at q d = rw (le-ltb sourceMost (length s) short, e, q, d) refl
+
+      pub read-well : (p : Program) (j : ℕ) → parse ts ≡ ok p j → programDeep p ≡ none → reading s ≡ accepted (record { stream = ts; tree = p })
+      unfolding reading
+      read-well p j q d = rw (le-ltb sourceMost (length s) short, e, q, d) refl
+
+-- FROM THE LEXER TO THE PARSER
+pub proper : (s : List ℕ) (ts : List Token) → tokens s ≡ accepted ts → Proper ts
+proper s ts e = all-of ts (λ i t g. token-not-end s ts e i t g)
+
+past-end : (ts : List Token) (i : ℕ) → length ts ≤ i → kindAt ts i ≡ 0
+past-end ts i h = ap (λ (t : Token). t .kind) (List·getD-eq-default ts noMore h)
+
+pub tokens-in : (tab : List ℕ) (ts : List Token) → Rows tab ts → TokensIn tab (length ts) ts
+unfolding kindInTable
+tokens-in tab ts h =
+    record {
+      count = refl;
+      kinds = λ i. elim (decLt i (length ts)) [
+        | yes l ↦ rw (lt-ltb i (length ts) l) (h i (tokenAt ts i) (get-getD ts i noMore l) .kind)
+        | no l ↦ rw (le-ltb i (length ts) (omega arith)) (sym (past-end ts i (omega arith)))
+      ];
+      starts = λ i l. h i (tokenAt ts i) (get-getD ts i noMore l) .start;
+    }
+
+-- WHAT THE PARSER'S ANSWER SAYS
+pub record ParsedTo (ts : List Token) (before after : List ℕ) (next : ℕ) : Type 0 where
+  pub tree : Program
+  pub parsed : parse ts ≡ ok tree next
+  pub stored : after ≡ storeProgram tree before
+
+module _ {before after : List ℕ} where
+  met-at : {ts : List Token} {res : Parsed Program} {x j : ℕ} → parse ts ≡ res → Met wholeProgram before after (At x j) res → ParsedTo ts before after j
+  met-at e (met-ok {a = p} r w) = record { tree = p; parsed = e; stored = w }
+
+  met-bad-at : {res : Parsed Program} {k : ℕ} → Met wholeProgram before after (Bad k) res → res ≡ bad k
+  met-bad-at met-bad = refl
+
+module _ {n : ℕ} {ts : List Token} {before after : List ℕ} (h : TokensIn before n ts) where
+  met-parse : {r : Answer} → ProgramPost n before r after → Met wholeProgram before after r (parse ts)
+  unfolding parse
+  met-parse p = p .says ts h _ (omega (arith, h .count))
+
+  pub parsed-at : {x j : ℕ} → ProgramPost n before (At x j) after → ParsedTo ts before after j
+  parsed-at p = met-at refl (met-parse p)
+
+  pub refused-at : {k : ℕ} → ProgramPost n before (Bad k) after → parse ts ≡ bad k
+  refused-at p = met-bad-at (met-parse p)

@@ -1,0 +1,10 @@
+-- Laws that proofs cite.
+pub mod ResultLaws
+pub mod Continuations
+pub mod Ending
+pub mod LargerLimits
+pub mod StateTyping
+pub mod HeapLaws
+pub mod Soundness
+pub mod Reachable
+pub mod Space

@@ -1,0 +1,25 @@
+-- Document 01, "Class table and types", with 004's rules for operators, as one table: for each operator the types that its left operand may
+-- have, each with the type of the result. The right operand must fit the left one's type; a left operand of another type is 31.
+use mathlib.Core.List.{List, [], _∷_}
+use mathlib.Core.Option.{Option, none, some}
+use Rattle.base.specs.Choice.{if_then_else_}
+use Rattle.parser.specs.Tree.{Operator, Operator.and, Operator.less, Operator.plus, Operator.minus, Operator.times, Ty, Ty.int, Ty.boolean}
+use Rattle.typesystem.specs.ClassTable.{sameType}
+
+pub data Line : Type 0 where
+  line : (left result : Ty) → Line
+
+abbrev pub lines : Operator → List Line
+lines and = line boolean boolean ∷ []
+lines less = line int boolean ∷ []
+lines plus = line int int ∷ []
+lines minus = line int int ∷ []
+lines times = line int int ∷ []
+
+unfoldable pub resultIn : List Line → (left : Ty) → Option Ty
+resultIn [] t = none
+resultIn (line left result ∷ ls) t = if sameType left t then (λ _. some result) else λ _. resultIn ls t
+
+-- the type of the result, where the operator takes such a left operand
+abbrev pub operation : Operator → (left : Ty) → Option Ty
+operation o t = resultIn (lines o) t

@@ -1,0 +1,156 @@
+-- What the writer's functions ensure, whatever the tree is that the table holds, in whatever context.
+use Prim.Native.Nat.{ℕ, suc, _≤_, _<_}
+use mathlib.Core.Path.{_≡_}
+use mathlib.Core.List.{List, _∷_}
+use lib.ListN.{length}
+use Rattle.lexer.specs.Tokens.{Token}
+use Rattle.lexer.specs.contracts.Rows.{firstNamed}
+use Rattle.parser.specs.Tree.{Sort, Sort.arguments, Part, Expression, Statement, Class}
+use Rattle.parser.specs.Tree.{Part.literal, Part.truth, Part.variable, Part.this, Part.newArray, Part.newObject, Part.negation, Part.binary, Part.element, Part.arrayLength, Part.call}
+use Rattle.parser.specs.Tree.{Part.block, Part.conditional, Part.loop, Part.print, Part.assign, Part.assignElement}
+use Rattle.reader.specs.contracts.WalkPost.{Walkable}
+use Rattle.typesystem.specs.ClassTable.{Context, meaning}
+use Rattle.typesystem.specs.Judge.{arity}
+use Rattle.lookup.specs.contracts.HeldClasses.{wordAt}
+use Rattle.semantics.specs.Machine.{number, flag, isAnd}
+use Rattle.writer.specs.declared.scope.Scope.{Scope}
+use Rattle.codegen.specs.contracts.Code as Code
+use Rattle.codegen.specs.contracts.Code.{Instruction, push, load, save, self, negate, jump, unless, fetch, measure, makeArray, makeObject, storeElement}
+use Rattle.codegen.specs.contracts.Compile.{endBinary, emitBinary, end, emit, cellsOf}
+use Rattle.writer.specs.contracts.Words.{words, encode, putAt}
+use Rattle.writer.specs.laws.Emits.{Emits}
+use Rattle.writer.specs.contracts.Shows.{NodesAt, Sees, Form, Shows, ShowsS}
+
+-- how many instructions there is room for
+abbrev pub room : ℕ
+room = 8192
+
+-- what the functions on parts ask for
+pub record Writable (tab names code : List ℕ) (n left row at : ℕ) : Type 0 where
+  pub walkable : Walkable tab n
+  pub names-long : 6144 ≤ length names
+  pub few : left ≤ 2048
+  pub low : row < 4294967296
+  pub within : at ≤ room
+
+-- one instruction; where there is no room nothing is written, and the place stays
+pub record PutPost (at op a b d : ℕ) (c c′ : List ℕ) (r : ℕ) : Type 0 where
+  pub within : r ≤ room
+  pub next : at < room → r ≡ suc at
+  pub says : at < room → c′ ≡ putAt c at (words op a b d)
+
+pub record NextPost (at r : ℕ) : Type 0 where
+  pub within : r ≤ room
+  pub next : at < room → r ≡ suc at
+
+-- the code f was written at `at`, and the answer is the place behind it
+pub record Wrote (ν : List ℕ → ℕ) (f : List Instruction → List Instruction) (stop at : ℕ) (c c′ : List ℕ) (r : ℕ) : Type 0 where
+  pub ends : r ≡ stop
+  pub code : Emits ν f at c r c′
+
+-- A NODE AFTER ITS MARK
+
+module _ (G : List Class) (Γ : Context) where
+  abbrev pub innerE : Expression → ℕ → List Instruction → List Instruction
+  innerE (literal p n) i k = push (number n) ∷ k
+  innerE (truth p b) i k = push (flag b) ∷ k
+  innerE (variable p x) i k = load (meaning G Γ x) ∷ k
+  innerE (this p) i k = self ∷ k
+  innerE (newArray p e) i k = emit G Γ e i (makeArray p ∷ k)
+  innerE (newObject p c) i k = makeObject p (c .text) (cellsOf G (c .text)) ∷ k
+  innerE (negation p e) i k = emit G Γ e i (negate ∷ k)
+  innerE (binary p o l r) i k = emit G Γ l i (emitBinary (isAnd o) o (end l i) (end r) (emit G Γ r) k)
+  innerE (element p a e) i k = emit G Γ a i (emit G Γ e (end a i) (fetch p ∷ k))
+  innerE (arrayLength p a) i k = emit G Γ a i (measure p ∷ k)
+  innerE (call p e m es) i k = emit G Γ e i (emit G Γ es (end e i) (Code.call p (m .text) (arity es) ∷ k))
+
+  abbrev pub innerS : Statement → ℕ → List Instruction → List Instruction
+  innerS (block p ss) i k = emit G Γ ss i k
+  innerS (conditional p e s t) i k =
+      let a = end e i in
+      let b = end s (suc a) in
+      emit G Γ e i (unless (suc b) ∷ emit G Γ s (suc a) (jump (end t (suc b)) ∷ emit G Γ t (suc b) k))
+  innerS (loop p e s) i k =
+      let a = end e i in
+      emit G Γ e i (unless (suc (end s (suc a))) ∷ emit G Γ s (suc a) (jump i ∷ k))
+  innerS (print p e) i k = emit G Γ e i (Code.print p ∷ k)
+  innerS (assign p x e) i k = emit G Γ e i (save (meaning G Γ x) ∷ k)
+  innerS (assignElement p x a e) i k = load (meaning G Γ x) ∷ emit G Γ a (suc i) (emit G Γ e (end a (suc i)) (storeElement p ∷ k))
+
+abbrev pub endE : Expression → ℕ → ℕ
+endE (literal p n) i = suc i
+endE (truth p b) i = suc i
+endE (variable p x) i = suc i
+endE (this p) i = suc i
+endE (newArray p e) i = suc (end e i)
+endE (newObject p c) i = suc i
+endE (negation p e) i = suc (end e i)
+endE (binary p o l r) i = endBinary (isAnd o) (end l i) (end r)
+endE (element p a e) i = suc (end e (end a i))
+endE (arrayLength p a) i = suc (end a i)
+endE (call p e m es) i = suc (end es (end e i))
+
+abbrev pub endS : Statement → ℕ → ℕ
+endS (block p ss) i = end ss i
+endS (conditional p e s t) i = end t (suc (end s (suc (end e i))))
+endS (loop p e s) i = suc (end s (suc (end e i)))
+endS (print p e) i = suc (end e i)
+endS (assign p x e) i = suc (end e i)
+endS (assignElement p x a e) i = suc (end e (end a (suc i)))
+
+module _ (tab names : List ℕ) (s : Scope) where
+  -- a part
+  pub record WritePost (q : Sort) (left row at : ℕ) (c c′ : List ℕ) (r : ℕ) : Type 0 where
+    pub within : r ≤ room
+    pub says : (ts : List Token) (G : List Class) (Γ : Context) → Sees tab names ts G Γ s → (t : Part q) → NodesAt tab ts row left t → end t at ≤ room
+        → Wrote (firstNamed ts) (emit G Γ t at) (end t at) at c c′ r
+
+  -- an expression, a statement, whose row shows this form
+  pub record ExpressionPost (F : Form) (left row at : ℕ) (c c′ : List ℕ) (r : ℕ) : Type 0 where
+    pub within : r ≤ room
+    pub says : (ts : List Token) (G : List Class) (Γ : Context) → Sees tab names ts G Γ s → (e : Expression) → Shows tab ts (s .tokens) row left F e → endE e at ≤ room
+        → Wrote (firstNamed ts) (innerE G Γ e at) (endE e at) at c c′ r
+
+  pub record StatementPost (F : Form) (left row at : ℕ) (c c′ : List ℕ) (r : ℕ) : Type 0 where
+    pub within : r ≤ room
+    pub says : (ts : List Token) (G : List Class) (Γ : Context) → Sees tab names ts G Γ s → (t : Statement) → ShowsS tab ts (s .tokens) row left F t → endS t at ≤ room
+        → Wrote (firstNamed ts) (innerS G Γ t at) (endS t at) at c c′ r
+
+  -- one part, or two, and an instruction with these words
+  pub record SinglePost (op arg left row at : ℕ) (c c′ : List ℕ) (r : ℕ) : Type 0 where
+    pub within : r ≤ room
+    pub says : (ts : List Token) (G : List Class) (Γ : Context) → Sees tab names ts G Γ s → (x : Instruction) → words op arg 0 0 ≡ encode (firstNamed ts) x
+        → (e : Expression) → NodesAt tab ts (wordAt tab 4 row) left e → suc (end e at) ≤ room
+        → Wrote (firstNamed ts) (λ k. emit G Γ e at (x ∷ k)) (suc (end e at)) at c c′ r
+
+  pub record PairPost (op arg left row at : ℕ) (c c′ : List ℕ) (r : ℕ) : Type 0 where
+    pub within : r ≤ room
+    pub says : (ts : List Token) (G : List Class) (Γ : Context) → Sees tab names ts G Γ s → (x : Instruction) → words op arg 0 0 ≡ encode (firstNamed ts) x
+        → (a b : Expression) → NodesAt tab ts (wordAt tab 4 row) left a → NodesAt tab ts (wordAt tab 5 row) left b → suc (end b (end a at)) ≤ room
+        → Wrote (firstNamed ts) (λ k. emit G Γ a at (emit G Γ b (end a at) (x ∷ k))) (suc (end b (end a at))) at c c′ r
+
+  -- the test's jump, the first branch, and the second
+  pub record BranchesPost (left row at : ℕ) (c c′ : List ℕ) (r : ℕ) : Type 0 where
+    pub within : r ≤ room
+    pub says : (ts : List Token) (G : List Class) (Γ : Context) → Sees tab names ts G Γ s → (y z : Statement) → NodesAt tab ts (wordAt tab 5 row) left y
+        → NodesAt tab ts (wordAt tab 7 row) left z → end z (suc (end y (suc at))) ≤ room
+        → Wrote (firstNamed ts)
+        (λ k. unless (suc (end y (suc at))) ∷ emit G Γ y (suc at) (jump (end z (suc (end y (suc at)))) ∷ emit G Γ z (suc (end y (suc at))) k))
+        (end z (suc (end y (suc at)))) at c c′ r
+
+  -- the jump over the second branch, and the branch
+  pub record OtherwisePost (left row at : ℕ) (c c′ : List ℕ) (r : ℕ) : Type 0 where
+    pub within : r ≤ room
+    pub says : (ts : List Token) (G : List Class) (Γ : Context) → Sees tab names ts G Γ s → (z : Statement) → NodesAt tab ts (wordAt tab 7 row) left z → end z (suc at) ≤ room
+        → Wrote (firstNamed ts) (λ k. jump (end z (suc at)) ∷ emit G Γ z (suc at) k) (end z (suc at)) at c c′ r
+
+  -- the test's jump, the body, and the jump back
+  pub record BodyPost (left row top at : ℕ) (c c′ : List ℕ) (r : ℕ) : Type 0 where
+    pub within : r ≤ room
+    pub says : (ts : List Token) (G : List Class) (Γ : Context) → Sees tab names ts G Γ s → (y : Statement) → NodesAt tab ts (wordAt tab 5 row) left y → suc (end y (suc at)) ≤ room
+        → Wrote (firstNamed ts) (λ k. unless (suc (end y (suc at))) ∷ emit G Γ y (suc at) (jump top ∷ k)) (suc (end y (suc at))) at c c′ r
+
+-- how many arguments lie in a list
+pub record CountPost (tab : List ℕ) (left row r : ℕ) : Type 0 where
+  pub within : r ≤ left
+  pub says : (ts : List Token) → length ts ≤ 2048 → (es : Part arguments) → NodesAt tab ts row left es → r ≡ arity es
