@@ -17,6 +17,7 @@ use Rattle.typesystem.specs.Check as Check
 use Rattle.typesystem.specs.ClassTable as ClassTable
 use Rattle.typesystem.specs.Declarations as Declarations
 use Rattle.typesystem.specs.Judge as Judge
+use Rattle.typesystem.specs.Operators as Operators
 use Rattle.semantics.specs.Limits as Limits
 use Rattle.semantics.specs.Machine as Machine
 
@@ -38,7 +39,7 @@ unfolding Bytes.isBlank Bytes.isLetter Bytes.isDigit Bytes.isNamePart Kinds.isNa
     Stream.operatorOf Check.bodies Check.classBodies Check.allBodies Check.judged Check.checking ClassTable.classNamed ClassTable.methodNamed
     ClassTable.variableNamed ClassTable.chainWithin ClassTable.chain ClassTable.endsWithin ClassTable.sameType ClassTable.known ClassTable.among
     ClassTable.onChain ClassTable.fits ClassTable.layout ClassTable.fieldsOf ClassTable.nearestField ClassTable.nearestMethod ClassTable.methodOf
-    ClassTable.meaning Declarations.occurs Declarations.distinctClasses Declarations.knownParents Declarations.endingChains Declarations.fields
+    ClassTable.meaning ClassTable.occurs Operators.resultIn Declarations.distinctClasses Declarations.knownParents Declarations.endingChains Declarations.fields
     Declarations.variables Declarations.sameTypes Declarations.heads Declarations.declarations Judge.arity Judge.judge Limits.guard Limits.runWith
     Limits.run Machine.readName Machine.writeName Machine.begin Machine.beginStatement Machine.second Machine.callMethod Machine.nextArgument
     Machine.nextStatement Machine.nextOfBody Machine.newArrayOf Machine.newObjectOf Machine.go Machine.plan

@@ -28,7 +28,7 @@ use Rattle.typing.specs.laws.ClassTableLaws.{stands-up, every-method, method-up
 use Rattle.typing.specs.laws.Operations.{Operates, conjoins, compares, adds, subtracts, multiplies, operates}
 use Rattle.semantics.specs.Machine.{Value, Value.objectAt, Cell, Cell.slot, Call, Call.frame, Core, initial}
 use Rattle.semantics.specs.Machine.{Request, Request.charge, Request.allocate, Request.enter, Request.output, Request.move, Request.fault, Request.done, Request.stuck}
-use Rattle.semantics.specs.Machine.{Task, Task.fetch, Task.measure, Task.makeArray, Task.makeObject, Task.storeElement, Task.leave}
+use Rattle.semantics.specs.Machine.{Task, Task.operate, Task.fetch, Task.measure, Task.makeArray, Task.makeObject, Task.storeElement, Task.leave}
 use Rattle.semantics.specs.Machine.{need, require, ofKind, ofKinds, pop, popMany, innermost, asSlot, asObjectCell, asArrayCell, inArray, readMeaning, readName, writeMeaning, writeName, isAnd, apply, begin, beginStatement, second, callMethod, nextArgument, nextStatement, nextOfBody, newArrayOf, newObjectOf, opened, go, plan, start}
 use Rattle.semantics.specs.Limits.{Limits, Meters, begun, Ending, ended, wentWrong, unfinished, Progress, next, stop, guard, sizeOf, runWith, run}
 use Rattle.soundness.specs.Results.{by-null, by-index, by-size, Finish, by-success, by-fault, ByLimit, by-budget, by-heap, by-calls, by-output, EndsWell}

@@ -22,7 +22,7 @@ only : (o : Operator) (left result s : Ty) {t : Ty} → resultIn (line left resu
 unfolding resultIn
 only o left result s {t} e h =
     taken (sameType left s) (λ _. some result) (λ _. none) e
-    (λ a q. subst (λ (x : Ty). Operates o x t) (sameType-equal left s a) (subst (Operates o left) (Option·some-injective q) h))
+    (λ a q. subst (λ (x : Ty). Operates o x t) (sameType-equal left s a) (subst (Operates o left) (Option·some-injective result t q) h))
     (λ a q. absurd (none-some refl q))
 
 pub operates : (o : Operator) (s : Ty) {t : Ty} → operation o s ≡ some t → Operates o s t
