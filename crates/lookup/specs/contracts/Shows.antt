@@ -94,7 +94,8 @@ module _ (tab : List ℕ) (ts : List Token) (n row : ℕ) (Before Behind : Bound
         → PartAt tab ts (wordAt tab 4 row) (Before expression) e
         → PartAt tab ts (wordAt tab 5 row) (Behind arguments) es → Shows aCall (call p e m es)
 
-  -- all parts of a statement stand behind its first token
+-- all parts of a statement stand behind its first token
+module _ (tab : List ℕ) (ts : List Token) (row : ℕ) (Behind : Bound) where
   pub data ShowsS : Form → Statement → Type 0 where
     shows-block : {p : Place} {ss : Part statements} → wordAt tab 3 row ≡ p .start → PartAt tab ts (wordAt tab 4 row) (Behind statements) ss
         → ShowsS aBlock (block p ss)

@@ -134,6 +134,8 @@ pub record Bounds (row : ℕ) (Within Before Behind : Bound) : Type 0 where
   pub of-length : {p : Place} {e : Expression} → p .row ≡ row → Within expression (arrayLength p e) → Before expression e
   pub of-call : {p : Place} {e : Expression} {m : Name} {es : Part arguments} → p .row ≡ row → Within expression (call p e m es)
       → Before expression e × Behind arguments es
+
+pub record BoundsS (row : ℕ) (Within Behind : Bound) : Type 0 where
   pub of-block : {p : Place} {ss : Part statements} → p .row ≡ row → Within statement (block p ss) → Behind statements ss
   pub of-conditional : {p : Place} {e : Expression} {s t : Statement} → p .row ≡ row → Within statement (conditional p e s t)
       → Behind expression e × Behind statement s × Behind statement t
@@ -144,15 +146,8 @@ pub record Bounds (row : ℕ) (Within Before Behind : Bound) : Type 0 where
   pub of-element-store : {p : Place} {x : List ℕ} {i e : Expression} → p .row ≡ row → Within statement (assignElement p x i e)
       → Behind expression i × Behind expression e
 
-module _ {tab : List ℕ} {n : ℕ} {ts : List Token} (lx : Lexemes tab n ts) (row : ℕ) (Within Before Behind : Bound)
-    (b : Bounds row Within Before Behind) where
-  shows : {F H : Form} {e : Expression} → H ≡ F → Shows tab ts n row Before Behind F e → Shows tab ts n row Before Behind H e
-  shows {F} {H} {e} f s = subst (λ (J : Form). Shows tab ts n row Before Behind J e) (sym f) s
-
-  showsS : {F H : Form} {t : Statement} → H ≡ F → ShowsS tab ts n row Before Behind F t → ShowsS tab ts n row Before Behind H t
-  showsS {F} {H} {t} f s = subst (λ (J : Form). ShowsS tab ts n row Before Behind J t) (sym f) s
-
-  -- one kind tells, or two
+-- one kind tells the form, or two do
+module _ (tab : List ℕ) (n row : ℕ) where
   by : (form : ℕ → ℕ → Form) {F : Form} (k : ℕ) → kindInTable tab n row ≡ k → ((next : ℕ) → form k next ≡ F)
       → form (kindInTable tab n row) (kindInTable tab n (row + 1)) ≡ F
   by form k e f = ap (λ (j : ℕ). form j (kindInTable tab n (row + 1))) e ∙ f _
@@ -161,26 +156,31 @@ module _ {tab : List ℕ} {n : ℕ} {ts : List Token} (lx : Lexemes tab n ts) (r
       → formE (kindInTable tab n row) (kindInTable tab n (row + 1)) ≡ F
   by-both k next e o f = ap (λ (j : ℕ). formE j (kindInTable tab n (row + 1))) e ∙ ap (formE k) o ∙ f
 
+module _ {tab : List ℕ} {n : ℕ} {ts : List Token} (lx : Lexemes tab n ts) (row : ℕ) (Within Before Behind : Bound)
+    (b : Bounds row Within Before Behind) where
+  shows : {F H : Form} {e : Expression} → H ≡ F → Shows tab ts n row Before Behind F e → Shows tab ts n row Before Behind H e
+  shows {F} {H} {e} f s = subst (λ (J : Form). Shows tab ts n row Before Behind J e) (sym f) s
+
   see : (e : Expression) → rowOf e ≡ row → Holds tab e → Matches ts e → Within expression e
       → Shows tab ts n row Before Behind (formE (kindInTable tab n row) (kindInTable tab n (row + 1))) e
   unfolding Holds Matches formE formAtom formCompound isAtom isName
   see (literal p v) at h m w =
       let low = m .0 .there in
-      shows (by formE 4 (kind-of lx at low (m .0 .is)) (λ x. refl))
+      shows (by tab n row formE 4 (kind-of lx at low (m .0 .is)) (λ x. refl))
       (shows-literal (word lx at low 3 (h .start)) (value-of lx at low (m .0) (m .1)))
   see (truth p true) at h m w =
-      shows (by formE 21 (kind-of lx at (m .there) (m .is)) (λ x. refl)) (shows-truth (word lx at (m .there) 3 (h .start)))
+      shows (by tab n row formE 21 (kind-of lx at (m .there) (m .is)) (λ x. refl)) (shows-truth (word lx at (m .there) 3 (h .start)))
   see (truth p false) at h m w =
-      shows (by formE 9 (kind-of lx at (m .there) (m .is)) (λ x. refl)) (shows-truth (word lx at (m .there) 3 (h .start)))
+      shows (by tab n row formE 9 (kind-of lx at (m .there) (m .is)) (λ x. refl)) (shows-truth (word lx at (m .there) 3 (h .start)))
   see (variable p x) at h m w =
       let low = m .there in
       shows (form-name (kindInTable tab n row) (kindInTable tab n (row + 1)) (ap isName (kind-of lx at low refl) ∙ m .named))
       (shows-variable (word lx at low 3 (h .start)) (spelt lx at low m))
   see (this p) at h m w =
-      shows (by formE 20 (kind-of lx at (m .there) (m .is)) (λ x. refl)) (shows-this (word lx at (m .there) 3 (h .start)))
+      shows (by tab n row formE 20 (kind-of lx at (m .there) (m .is)) (λ x. refl)) (shows-this (word lx at (m .there) 3 (h .start)))
   see (newArray p e) at h m w =
       let low = m .0 .there in
-      shows (by-both 14 11 (kind-of lx at low (m .0 .is)) (kind-after lx at low (m .1 .is)) refl)
+      shows (by-both tab n row 14 11 (kind-of lx at low (m .0 .is)) (kind-after lx at low (m .1 .is)) refl)
       (shows-new-array (word lx at low 3 (h .0 .start)) (part lx at low 4 (h .0 .first) (h .1) (m .2) (b .of-new-array at w)))
   see (newObject p c) at h m w =
       let low = m .0 .there in
@@ -189,24 +189,24 @@ module _ {tab : List ℕ} {n : ℕ} {ts : List Token} (lx : Lexemes tab n ts) (r
       (shows-new-object (word lx at low 3 (h .start)) (after lx at c (m .1) (m .2)) (after-start lx at c (m .1) (m .2)))
   see (negation p e) at h m w =
       let low = m .0 .there in
-      shows (by formE 29 (kind-of lx at low (m .0 .is)) (λ x. refl))
+      shows (by tab n row formE 29 (kind-of lx at low (m .0 .is)) (λ x. refl))
       (shows-negation (word lx at low 3 (h .0 .start)) (part lx at low 4 (h .0 .first) (h .1) (m .1) (b .of-negation at w)))
   see (binary p o l r) at h m w =
       let low = m .0 .there in
       let k = kind-of lx at low (m .0 .is) in
       let v = b .of-binary at w in
-      shows (by formE (operatorKind o) k (form-binary o))
+      shows (by tab n row formE (operatorKind o) k (form-binary o))
       (shows-binary (word lx at low 3 (h .0 .start)) k (part lx at low 4 (h .0 .first) (h .1) (m .1) (v .0))
       (part lx at low 5 (h .0 .second) (h .2) (m .2) (v .1)))
   see (element p a i) at h m w =
       let low = m .0 .there in
       let v = b .of-element at w in
-      shows (by formE 36 (kind-of lx at low (m .0 .is)) (λ x. refl))
+      shows (by tab n row formE 36 (kind-of lx at low (m .0 .is)) (λ x. refl))
       (shows-element (word lx at low 3 (h .0 .start)) (part lx at low 4 (h .0 .first) (h .1) (m .1) (v .0))
       (part lx at low 5 (h .0 .second) (h .2) (m .2) (v .1)))
   see (arrayLength p e) at h m w =
       let low = m .0 .there in
-      shows (by-both 31 12 (kind-of lx at low (m .0 .is)) (kind-after lx at low (m .1 .is)) refl)
+      shows (by-both tab n row 31 12 (kind-of lx at low (m .0 .is)) (kind-after lx at low (m .1 .is)) refl)
       (shows-length (word lx at low 3 (h .0 .start)) (part lx at low 4 (h .0 .first) (h .1) (m .2) (b .of-length at w)))
   see (call p e f es) at h m w =
       let low = m .0 .there in
@@ -216,6 +216,17 @@ module _ {tab : List ℕ} {n : ℕ} {ts : List Token} (lx : Lexemes tab n ts) (r
       (shows-call (word lx at low 3 (h .0 .start)) (after lx at f (m .1) (m .2)) (after-start lx at f (m .1) (m .2))
       (part lx at low 4 (h .0 .first) (h .1) (m .3) (v .0)) (part lx at low 5 (h .0 .second) (h .2) (m .4) (v .1)))
 
+  -- the code has read the kinds, which tell the form F
+  pub shown : {F : Form} → formE (kindInTable tab n row) (kindInTable tab n (row + 1)) ≡ F → (e : Expression)
+      → PartAt tab ts row (Within expression) e
+      → Shows tab ts n row Before Behind F e
+  shown f e h = shows (sym f) (see e (h .at) (h .holds) (h .matches) (h .within))
+
+module _ {tab : List ℕ} {n : ℕ} {ts : List Token} (lx : Lexemes tab n ts) (row : ℕ) (Within Behind : Bound)
+    (b : BoundsS row Within Behind) where
+  showsS : {F H : Form} {t : Statement} → H ≡ F → ShowsS tab ts row Behind F t → ShowsS tab ts row Behind H t
+  showsS {F} {H} {t} f s = subst (λ (J : Form). ShowsS tab ts row Behind J t) (sym f) s
+
   -- the node of a statement whose first token is a name, by the kind of the token after it
   target : {F : Form} {r k : ℕ} {x : List ℕ} → r ≡ row → NameIs ts r x → TokenIs ts (r + 1) k → formS 1 k ≡ F
       → formS (kindInTable tab n row) (kindInTable tab n (row + 1)) ≡ F
@@ -224,27 +235,27 @@ module _ {tab : List ℕ} {n : ℕ} {ts : List Token} (lx : Lexemes tab n ts) (r
       (ap (formS 1) (kind-after lx at (m .there) (o .is)) ∙ f)
 
   seeS : (t : Statement) → rowOf t ≡ row → Holds tab t → Matches ts t → Within statement t
-      → ShowsS tab ts n row Before Behind (formS (kindInTable tab n row) (kindInTable tab n (row + 1))) t
+      → ShowsS tab ts row Behind (formS (kindInTable tab n row) (kindInTable tab n (row + 1))) t
   unfolding Holds Matches formS
   seeS (block p ss) at h m w =
       let low = m .0 .there in
-      showsS (by formS 38 (kind-of lx at low (m .0 .is)) (λ x. refl))
+      showsS (by tab n row formS 38 (kind-of lx at low (m .0 .is)) (λ x. refl))
       (shows-block (word lx at low 3 (h .0 .start)) (part lx at low 4 (h .0 .first) (h .1) (m .1) (b .of-block at w)))
   seeS (conditional p e s t) at h m w =
       let low = m .0 .there in
       let v = b .of-conditional at w in
-      showsS (by formS 10 (kind-of lx at low (m .0 .is)) (λ x. refl))
+      showsS (by tab n row formS 10 (kind-of lx at low (m .0 .is)) (λ x. refl))
       (shows-conditional (word lx at low 3 (h .0 .start)) (part lx at low 4 (h .0 .first) (h .2) (m .1) (v .0))
       (part lx at low 5 (h .0 .second) (h .3) (m .2) (v .1)) (part lx at low 7 (h .1) (h .4) (m .3) (v .2)))
   seeS (loop p e s) at h m w =
       let low = m .0 .there in
       let v = b .of-loop at w in
-      showsS (by formS 23 (kind-of lx at low (m .0 .is)) (λ x. refl))
+      showsS (by tab n row formS 23 (kind-of lx at low (m .0 .is)) (λ x. refl))
       (shows-loop (word lx at low 3 (h .0 .start)) (part lx at low 4 (h .0 .first) (h .1) (m .1) (v .0))
       (part lx at low 5 (h .0 .second) (h .2) (m .2) (v .1)))
   seeS (print p e) at h m w =
       let low = m .0 .there in
-      showsS (by formS 19 (kind-of lx at low (m .0 .is)) (λ x. refl))
+      showsS (by tab n row formS 19 (kind-of lx at low (m .0 .is)) (λ x. refl))
       (shows-print (word lx at low 3 (h .0 .start)) (part lx at low 4 (h .0 .first) (h .1) (m .1) (b .of-print at w)))
   seeS (assign p x e) at h m w =
       let low = m .0 .there in
@@ -258,15 +269,9 @@ module _ {tab : List ℕ} {n : ℕ} {ts : List Token} (lx : Lexemes tab n ts) (r
       (shows-element-store (word lx at low 3 (h .0 .start)) (spelt lx at low (m .0)) (part lx at low 4 (h .0 .first) (h .1) (m .2) (v .0))
       (part lx at low 5 (h .0 .second) (h .2) (m .3) (v .1)))
 
-  -- the code has read the kinds, which tell the form F
-  pub shown : {F : Form} → formE (kindInTable tab n row) (kindInTable tab n (row + 1)) ≡ F → (e : Expression)
-      → PartAt tab ts row (Within expression) e
-      → Shows tab ts n row Before Behind F e
-  shown f e h = shows (sym f) (see e (h .at) (h .holds) (h .matches) (h .within))
-
   pub shownS : {F : Form} → formS (kindInTable tab n row) (kindInTable tab n (row + 1)) ≡ F → (t : Statement)
       → PartAt tab ts row (Within statement) t
-      → ShowsS tab ts n row Before Behind F t
+      → ShowsS tab ts row Behind F t
   shownS f t h = showsS (sym f) (seeS t (h .at) (h .holds) (h .matches) (h .within))
 
 -- where an expression begins
