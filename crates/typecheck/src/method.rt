@@ -18,7 +18,7 @@ ghost use Rattle.lookup.specs.contracts.Fields.{FieldsHeld};
 ghost use Rattle.bodies.specs.contracts.Scoping.{Judgeable};
 ghost use Rattle.typecheck.specs.contracts.MethodPost.{CarriedJudged, BodyJudged, MethodsJudged, ClassJudged, ClassesJudged, BodiesJudged};
 
-// Statements and return expression of a method. Their rows stand in the row after its name, and their tokens behind it.
+// Statements and return expression of a method: the row after that of its name leads to them, and they lie behind its name.
 fn carried(table: &[u32], fields: &[u32], s: Scope, row: usize) -> Judged
     requires { ⌜ Judgeable (now table) (now fields) s × (row < 4294967296) ⌝ }
     ensures { λ r. ⌜ CarriedJudged (now (table .entry)) s row r ⌝ }
