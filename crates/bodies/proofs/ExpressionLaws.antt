@@ -16,19 +16,18 @@ use Rattle.base.specs.Outcome.{Outcome, accepted, refused, _>>=_}
 use Rattle.base.specs.contracts.Table.{col}
 use Rattle.lexer.specs.Kinds.{isName}
 use Rattle.lexer.specs.Tokens.{Token}
-use Rattle.parser.specs.Tree.{Place, Name, Sort.arguments, Part, Expression, placeE, Ty, Ty.int, Ty.boolean, Ty.intArray, Ty.class}
+use Rattle.parser.specs.Tree.{Name, Sort.arguments, Part, Expression, placeE, Ty, Ty.int, Ty.boolean, Ty.intArray, Ty.class}
 use Rattle.parser.specs.Tree.{Part.noArguments, Part.argument, Variable, Class}
 use Rattle.parser.specs.contracts.Layout.{absent, rowOf, rowVariables}
 use Rattle.parser.specs.contracts.Post.{isAtom, kindInTable}
 use Rattle.reader.specs.contracts.Spans.{Spans}
 use Rattle.reader.specs.laws.SpanLaws.{inside}
 use Rattle.typesystem.specs.ClassTable.{Found, Context, Meaning, meaningType, chain, methodOf, meaning}
-use Rattle.typesystem.specs.Operators.{operation}
 use Rattle.typesystem.specs.Judge.{judge, must, receiver, arity, invocation}
 use Rattle.lookup.specs.declared.answer.Judged.{Judged}
 use Rattle.lookup.specs.declared.answer.Judged.the-variants.{Fine, Refused}
-use Rattle.lookup.specs.contracts.HeldClasses.{wordAt, NameNumber, MaybeNumber, no-name, a-name, noType, VariablesHeld, more-variables, MethodHeld}
-use Rattle.lookup.specs.contracts.HeldClasses.{Codes, code-int, code-boolean, code-intArray, code-class, ListedAt}
+use Rattle.lookup.specs.contracts.HeldClasses.{wordAt, NameNumber, MaybeNumber, no-name, a-name, noType, VariablesHeld, more-variables}
+use Rattle.lookup.specs.contracts.HeldClasses.{MethodHeld, Codes, code-int, code-boolean, code-intArray, code-class, ListedAt}
 use Rattle.lookup.specs.laws.HeldLaws.{word-in, row-there, codes-below}
 use Rattle.lookup.specs.contracts.Lookups.{TypeOf, Knows, Fits, rowFound, FindsMethod}
 use Rattle.lookup.specs.laws.ChainLaws.{found-stands}
@@ -39,10 +38,10 @@ use Rattle.lookup.specs.contracts.Shows.{shows-literal, shows-truth, shows-vari
 use Rattle.lookup.specs.contracts.Shows.{shows-negation, shows-binary, shows-element, shows-length, shows-call}
 use Rattle.lookup.specs.laws.ShowLaws.{goes-on, ended}
 use Rattle.bodies.specs.declared.scope.Scope.{Scope}
-use Rattle.bodies.specs.contracts.Scoping.{InScope, PartIn, ShowsIn, Means, unmeant, meant, NameTyped}
+use Rattle.bodies.specs.contracts.Scoping.{InScope, PartIn, Means, unmeant, meant, NameTyped}
 use Rattle.bodies.specs.contracts.OperatorPost.{Results, no-result, a-result, OperationPost}
-use Rattle.bodies.specs.contracts.ExpressionPost.{Invoked, NamePost, ThisPost, NodeJudged, NodePost, AtomPost, CreationPost, DottedPost}
-use Rattle.bodies.specs.contracts.ExpressionPost.{ExpressionPost, OperandPost, SinglePost, InvocationPost, ArgumentsPost}
+use Rattle.bodies.specs.contracts.ExpressionPost.{Invoked, NamePost, ThisPost, NodeJudged, NodePost, AtomPost, CreationPost}
+use Rattle.bodies.specs.contracts.ExpressionPost.{DottedPost, ExpressionPost, OperandPost, SinglePost, InvocationPost, ArgumentsPost}
 use Rattle.bodies.specs.contracts.ExpressionPost.{ObjectPost, SameCount}
 use Rattle.bodies.proofs.PartLaws.{judges-fine, judges-refused, judged-fine, judged-refused, goes, halts, few-tokens}
 use Rattle.bodies.proofs.PartLaws.{one-more, lies, seen-in, start-of}
@@ -189,7 +188,8 @@ module _ {tab : List ℕ} {left a p : ℕ} where
   count-ends far =
       record {
         says = λ ts few es h vs l.
-            subst (λ (xs : Part arguments). leb absent p ≡ eqb (arity xs) (length vs)) (ended few far es h) (go ts few vs (l .at) (l .stand));
+            subst (λ (xs : Part arguments). leb absent p ≡ eqb (arity xs) (length vs)) (ended few far es h)
+            (go ts few vs (l .at) (l .stand));
       }
     where
       go : (ts : List Token) → length ts ≤ 2048 → (vs : List Variable) → rowVariables vs ≡ p → VariablesHeld tab ts vs
@@ -234,7 +234,8 @@ module _ {tab : List ℕ} {s : Scope} {first end row : ℕ} where
         → ExpressionPost tab s first end row r
     told f g =
         record {
-          says = λ ts G Γ i e h. g ts G Γ i e (seen-in i first end (ap (λ (j : ℕ). formE j (kindInTable tab (s .tokens) (row + 1))) (sym kind) ∙ f) e h);
+          says = λ ts G Γ i e h. g ts G Γ i e (seen-in i first end
+              (ap (λ (j : ℕ). formE j (kindInTable tab (s .tokens) (row + 1))) (sym kind) ∙ f) e h);
         }
 
     -- this kind alone tells it
@@ -356,9 +357,11 @@ module _ {tab : List ℕ} {s : Scope} {first end row left : ℕ} (e₄ : left �
             let h : PartIn tab ts left first row l = rw e₄ x in
             let w = judges-fine (f .says ts G Γ i l h) is in
             rw (w .1)
-            (pick (few-tokens i) (g .says tab (s .tokens) ts (i .world .tokens) o (kind ∙ is′) (w .0) (w .2)) (sym (start-of i first row h) ∙ sym e₃) _)
+            (pick (few-tokens i) (g .says tab (s .tokens) ts (i .world .tokens) o (kind ∙ is′) (w .0) (w .2))
+            (sym (start-of i first row h) ∙ sym e₃) _)
 
-    pub binary-right : answer < noType → {right : ℕ} → right ≡ wordAt tab 5 row → {r : Judged} → SinglePost tab s (row + 1) end right t answer r
+    pub binary-right : answer < noType → {right : ℕ} → right ≡ wordAt tab 5 row → {r : Judged}
+        → SinglePost tab s (row + 1) end right t answer r
         → NodePost tab s aBinary first end row r
     unfolding judge
     binary-right low e₅ {r} h = record { says = go }
@@ -426,7 +429,8 @@ module _ {tab : List ℕ} {s : Scope} {first end row left : ℕ} (e₄ : left �
     unfolding judge
     call-plain high {at₃} e₃ = record { says = go }
       where
-        pick : (ts : List Token) → length ts ≤ 2048 → (e : Expression) → placeE e .start ≡ at₃ → (u : Ty) → Codes ts u t → (k : List ℕ → Outcome Ty)
+        pick : (ts : List Token) → length ts ≤ 2048 → (e : Expression) → placeE e .start ≡ at₃ → (u : Ty) → Codes ts u t
+            → (k : List ℕ → Outcome Ty)
             → Judges ts (receiver e u k) (Refused wrongType at₃)
         pick ts few e z int c k = rw z ill
         pick ts few e z boolean c k = rw z ill
@@ -494,8 +498,10 @@ module _ (tab : List ℕ) (s : Scope) (end row c x f : ℕ) {ts : List Token} {G
     result-code : {t r : ℕ} → t ≡ wordAt tab 3 f → TypeOf tab (s .tokens) t r → Codes ts (F .method .result .type) r
     result-code e₃ type = type .says ts (i .world .tokens) (F .method .result) (column 3 (st .result) e₃) (st .head .type)
 
-module _ {tab : List ℕ} {s : Scope} {end row c x f : ℕ} (e₂ : x ≡ wordAt tab 2 (row + 1)) (finds : FindsMethod tab (s .tokens) (s .classes) c x f) where
-  pub invocation-unknown : absent ≤ f → {at₁ : ℕ} → at₁ ≡ wordAt tab 1 (row + 1) → InvocationPost tab s end row c (Refused methodUnknown at₁)
+module _ {tab : List ℕ} {s : Scope} {end row c x f : ℕ} (e₂ : x ≡ wordAt tab 2 (row + 1))
+    (finds : FindsMethod tab (s .tokens) (s .classes) c x f) where
+  pub invocation-unknown : absent ≤ f → {at₁ : ℕ} → at₁ ≡ wordAt tab 1 (row + 1)
+      → InvocationPost tab s end row c (Refused methodUnknown at₁)
   invocation-unknown far {at₁} e₁ =
       record {
         says = λ ts G Γ i m es h name sp.
@@ -504,7 +510,8 @@ module _ {tab : List ℕ} {s : Scope} {end row c x f : ℕ} (e₂ : x ≡ wordAt
       }
     where
       go : {ts : List Token} {G : List Class} {Γ : Context} → InScope tab ts G Γ s → (m : Name) (count : ℕ)
-          (k : List Variable → Outcome (Unit {0})) (o : Option Found) → ((F : Found) → o ≡ some F → MethodHeld tab (s .tokens) ts (F .method))
+          (k : List Variable → Outcome (Unit {0})) (o : Option Found)
+          → ((F : Found) → o ≡ some F → MethodHeld tab (s .tokens) ts (F .method))
           → f ≡ rowFound o → m .start ≡ at₁ → Judges ts (invocation m count k o) (Refused methodUnknown at₁)
       go i m count k none st e z = rw z ill
       go i m count k (some F) st e z =
@@ -545,7 +552,8 @@ module _ {tab : List ℕ} {s : Scope} {end row c x f : ℕ} (e₂ : x ≡ wordAt
       answered {ts} {G} {Γ} i m es h F z st =
           let q = sym (counts tab s end row c x f i taken near e₄ F z st given e₅ most same m es h) ∙ yes′ in (
             q,
-            args .says ts G Γ i es (rw e₅ (h .given)) (s .tokens) (F .method .parameters) (taken-at tab s end row c x f i taken near e₄ F z st)
+            args .says ts G Γ i es (rw e₅ (h .given)) (s .tokens) (F .method .parameters)
+                (taken-at tab s end row c x f i taken near e₄ F z st)
                 (eqb-true (arity es) (length (F .method .parameters)) q),
           )
 
@@ -590,7 +598,8 @@ module _ {tab : List ℕ} {s : Scope} {first end row parameter : ℕ} where
       one {ts} {G} {Γ} i e h w vs d (more-variables x c₃ c₆ st) =
           let there = row-there (i .world .tokens) (w .name .row) (x .name .token .there) in
           f .says ts G Γ i e h (w .type .type)
-          (type .says ts (i .world .tokens) (w .type) (sym (word-in tab 3 (w .name .row) there c₃) ∙ ap (wordAt tab 3) d ∙ sym e₃) (x .type))
+          (type .says ts (i .world .tokens) (w .type) (sym (word-in tab 3 (w .name .row) there c₃) ∙ ap (wordAt tab 3) d ∙ sym e₃)
+          (x .type))
 
       pub arguments-refused : {n p : ℕ} → v ≡ Refused n p → ArgumentsPost tab s first end row parameter (Refused n p)
       unfolding judge arity

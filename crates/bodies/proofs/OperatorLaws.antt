@@ -1,13 +1,12 @@
--- What the look-up in the table of operators returns meets its contract: the kind of a token tells the operator, and a line tells the result.
+-- What the look-up in the table of operators returns meets its contract: the kind of a token tells the operator, a line tells the result.
 use Prim.Native.Nat.{ℕ}
-use native.Mathlib.Omega.{arith}
 use mathlib.Core.Path.{_≡_, refl, sym, ap, _∙_, subst}
 use mathlib.Core.List.{List, [], _∷_}
 use lib.Dec.{eqb}
 use Rattle.base.specs.Choice.{if_then_else_}
 use Rattle.lexer.specs.Kinds.{kAnd, kLess, kPlus, kMinus}
 use Rattle.lexer.specs.Tokens.{Token}
-use Rattle.parser.specs.Tree.{Operator, Operator.and, Operator.less, Operator.plus, Operator.minus, Operator.times, Ty, Ty.int, Ty.boolean}
+use Rattle.parser.specs.Tree.{Operator, Operator.and, Operator.less, Operator.plus, Operator.minus, Operator.times, Ty}
 use Rattle.reader.specs.contracts.Matches.{operatorKind}
 use Rattle.typesystem.specs.Operators.{line, resultIn, operation}
 use Rattle.lookup.specs.contracts.HeldClasses.{Lexemes, noType, Codes, code-int, code-boolean}
@@ -32,7 +31,8 @@ of-kind minus = refl
 of-kind times = refl
 
 -- a table of one line
-one-line : {tab : List ℕ} {n : ℕ} {ts : List Token} → Lexemes tab n ts → {want result : Ty} {left w x r : ℕ} → Codes ts want w → Codes ts result x
+one-line : {tab : List ℕ} {n : ℕ} {ts : List Token} → Lexemes tab n ts → {want result : Ty} {left w x r : ℕ} → Codes ts want w
+    → Codes ts result x
     → LinePost left w x r → (t : Ty) → Codes ts t left → Results ts (resultIn (line want result ∷ []) t) r
 unfolding resultIn
 one-line lx c d (has-line e) t h = rw (same-codes lx c h (sym e)) (a-result d)
@@ -46,7 +46,8 @@ module _ {k left r : ℕ} where
   only o is f =
       record {
         says = λ tab n ts lx o′ is′ t c.
-            subst (λ (x : Operator). Results ts (operation x t) r) (sym (of-kind o) ∙ ap operatorOf (sym is ∙ is′) ∙ of-kind o′) (f tab n ts lx t c);
+            subst (λ (x : Operator). Results ts (operation x t) r) (sym (of-kind o) ∙ ap operatorOf (sym is ∙ is′) ∙ of-kind o′)
+            (f tab n ts lx t c);
       }
 
   pub conjoined : k ≡ 24 → LinePost left 2049 2049 r → OperationPost k left r

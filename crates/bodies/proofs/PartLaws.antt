@@ -1,7 +1,8 @@
--- What the laws on expressions and on statements share: answers put together, and what a row shows of a part that lies in a range of tokens.
+-- What the laws on expressions and on statements share: answers put together, and what a row shows of a part that lies in a range of
+-- tokens.
 use Prim.Native.Nat.{ℕ, _+_, _≤_, _<_}
 use native.Mathlib.Omega.{arith}
-use mathlib.Core.Path.{_≡_, refl, sym, ap, _∙_, subst}
+use mathlib.Core.Path.{_≡_, refl, _∙_, subst}
 use mathlib.Core.List.{List}
 use lib.ListN.{length}
 use Rattle.base.specs.Outcome.{Outcome, accepted, refused, _>>=_}
@@ -25,7 +26,8 @@ use Rattle.bodies.specs.contracts.Scoping.{InScope, PartIn, ShowsIn, Sho
 
 -- ANSWERS
 
-pub judges-fine : {ts : List Token} {o : Outcome Ty} {v : Judged} {w : ℕ} → Judges ts o v → v ≡ Fine w → (t : Ty) × (o ≡ accepted t) × Codes ts t w
+pub judges-fine : {ts : List Token} {o : Outcome Ty} {v : Judged} {w : ℕ} → Judges ts o v → v ≡ Fine w
+    → (t : Ty) × (o ≡ accepted t) × Codes ts t w
 judges-fine {ts} {w = w} (well {t = t} {w = u} c) e = let z : u ≡ w = cc in (t, refl, subst (Codes ts t) z c)
 judges-fine ill e = apart (cc)
 
@@ -40,14 +42,16 @@ pub judged-fine : {ts : List Token} {o : Outcome Ty} {t : Ty} {w : ℕ} → o �
 judged-fine e c = rw e (well c)
 
 -- the answer for a part that must fit, and what follows
-pub goes : {A : Type 0} (o : Outcome Ty) (test : Ty → Outcome (Unit {0})) (next : Outcome A) {v : Judged} {w : ℕ} → v ≡ asJudged (o >>= test) → v ≡ Fine w
+pub goes : {A : Type 0} (o : Outcome Ty) (test : Ty → Outcome (Unit {0})) (next : Outcome A) {v : Judged} {w : ℕ}
+    → v ≡ asJudged (o >>= test) → v ≡ Fine w
     → (o >>= λ t. test t >>= λ _. next) ≡ next
 goes o test next e is = bind-assoc o test (λ _. next) ∙ rest
   where
     rest : (o >>= test >>= λ _. next) ≡ next
     rest = rw (asJudged-fine (o >>= test) e is)
 
-pub halts : {A : Type 0} (o : Outcome Ty) (test : Ty → Outcome (Unit {0})) (next : Outcome A) {v : Judged} {n p : ℕ} → v ≡ asJudged (o >>= test) → v ≡ Refused n p
+pub halts : {A : Type 0} (o : Outcome Ty) (test : Ty → Outcome (Unit {0})) (next : Outcome A) {v : Judged} {n p : ℕ}
+    → v ≡ asJudged (o >>= test) → v ≡ Refused n p
     → (o >>= λ t. test t >>= λ _. next) ≡ refused n p
 halts o test next {n = n} {p = p} e is = bind-assoc o test (λ _. next) ∙ rest
   where
@@ -64,7 +68,8 @@ behind : {q : Sort} (end : ℕ) (t : Part q) {r row : ℕ} → r ≡ row → Spa
 behind end t at h = subst (λ (i : ℕ). Spans (i + 1) end t) at h
 
 module _ (first end row : ℕ) where
-  ranges : Bounds row (λ (q : Sort). Spans {s = q} first end) (λ (q : Sort). Spans {s = q} first row) (λ (q : Sort). Spans {s = q} (row + 1) end)
+  ranges : Bounds row (λ (q : Sort). Spans {s = q} first end) (λ (q : Sort). Spans {s = q} first row)
+      (λ (q : Sort). Spans {s = q} (row + 1) end)
   unfolding Spans
   ranges =
       record {

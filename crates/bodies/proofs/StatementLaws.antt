@@ -1,5 +1,5 @@
--- What the functions on statements return meets their contracts: the kind of a statement's first token tells what it is, and the answers for
--- its parts are put together as the judging function does.
+-- What the functions on statements return meets their contracts: the kind of a statement's first token tells what it is, and the answers
+-- for its parts are put together as the judging function does.
 use Prim.Native.Nat.{ℕ, _+_, _≤_, _<_}
 use native.Mathlib.Omega.{arith}
 use mathlib.Core.Path.{_≡_, refl, sym, ap, _∙_, subst}
@@ -9,7 +9,7 @@ use borrow.Author.Tests.{ne-eqb}
 use Rattle.base.specs.Codes.{wrongType}
 use Rattle.base.specs.Outcome.{_>>=_}
 use Rattle.lexer.specs.Tokens.{Token}
-use Rattle.parser.specs.Tree.{Sort.statements, Part, Expression, Statement, Ty.int, Ty.boolean, Ty.intArray, Class}
+use Rattle.parser.specs.Tree.{Sort.statements, Part, Ty.int, Ty.boolean, Ty.intArray, Class}
 use Rattle.parser.specs.contracts.Layout.{absent}
 use Rattle.parser.specs.contracts.Post.{kindInTable}
 use Rattle.reader.specs.contracts.Spans.{Spans}
@@ -26,9 +26,10 @@ use Rattle.lookup.specs.contracts.Shows.{shows-block, shows-conditional, shows-
 use Rattle.lookup.specs.contracts.Shows.{GoesOnS, one-more-statement}
 use Rattle.lookup.specs.laws.ShowLaws.{endedS}
 use Rattle.bodies.specs.declared.scope.Scope.{Scope}
-use Rattle.bodies.specs.contracts.Scoping.{InScope, PartIn}
+use Rattle.bodies.specs.contracts.Scoping.{InScope}
 use Rattle.bodies.specs.contracts.ExpressionPost.{NamePost, OperandPost}
-use Rattle.bodies.specs.contracts.StatementPost.{StatementPost, ListPost, StatementJudged, StatementNodePost, BranchesPost, ValuePost}
+use Rattle.bodies.specs.contracts.StatementPost.{StatementPost, ListPost, StatementJudged, StatementNodePost, BranchesPost}
+use Rattle.bodies.specs.contracts.StatementPost.{ValuePost}
 use Rattle.bodies.proofs.PartLaws.{judges-fine, judges-refused, goes, halts, few-tokens, one-moreS, liesS, seen-inS}
 
 -- ASSIGNMENTS
@@ -39,7 +40,8 @@ module _ {tab : List ℕ} {s : Scope} {end row first : ℕ} (e₄ : first ≡ wo
   value-first is =
       record {
         says = λ ts G Γ sc i e x y.
-            rw (halts (judge G Γ i) (must G i int) (judge G Γ e >>= λ u. must G e int u) (f .says ts G Γ sc i (rw e₄ x) int (code-int refl)) is);
+            rw (halts (judge G Γ i) (must G i int) (judge G Γ e >>= λ u. must G e int u)
+            (f .says ts G Γ sc i (rw e₄ x) int (code-int refl)) is);
       }
 
   pub value-second : {w : ℕ} → v ≡ Fine w → {second : ℕ} → second ≡ wordAt tab 5 row → {r : Judged}
@@ -47,7 +49,8 @@ module _ {tab : List ℕ} {s : Scope} {end row first : ℕ} (e₄ : first ≡ wo
   value-second is e₅ g =
       record {
         says = λ ts G Γ sc i e x y.
-            rw (goes (judge G Γ i) (must G i int) (judge G Γ e >>= λ u. must G e int u) (f .says ts G Γ sc i (rw e₄ x) int (code-int refl)) is)
+            rw (goes (judge G Γ i) (must G i int) (judge G Γ e >>= λ u. must G e int u)
+            (f .says ts G Γ sc i (rw e₄ x) int (code-int refl)) is)
             (g .says ts G Γ sc e (rw e₅ y) int (code-int refl));
       }
 
@@ -88,7 +91,8 @@ module _ {tab : List ℕ} {s : Scope} {end row : ℕ} {v : Judged} (f : NamePost
               rw (d .1, sym (fit .says ts G (sc .world) (sc .many) (d .0) intArray (d .2) (code-intArray refl)) ∙ yes′)
               (g .says ts G Γ sc i e y z)
 
-      pub element-wrong : b ≡ false → {at₃ : ℕ} → at₃ ≡ wordAt tab 3 row → StatementNodePost tab s anElementStore end row (Refused wrongType at₃)
+      pub element-wrong : b ≡ false → {at₃ : ℕ} → at₃ ≡ wordAt tab 3 row
+          → StatementNodePost tab s anElementStore end row (Refused wrongType at₃)
       unfolding judge
       element-wrong no′ {at₃} e₃ = record { says = go }
         where
@@ -104,7 +108,8 @@ module _ {tab : List ℕ} {s : Scope} {end row second : ℕ} (e₅ : second ≡ 
   pub branches-first : {n p : ℕ} → v ≡ Refused n p → BranchesPost tab s end row (Refused n p)
   branches-first is = record { says = λ ts G Γ sc a b x y. rw (stops (judge G Γ a) (λ _. judge G Γ b) (f .says ts G Γ sc a (rw e₅ x)) is) }
 
-  pub branches-second : {w : ℕ} → v ≡ Fine w → {third : ℕ} → third ≡ wordAt tab 7 row → {r : Judged} → StatementPost tab s (row + 1) end third r
+  pub branches-second : {w : ℕ} → v ≡ Fine w → {third : ℕ} → third ≡ wordAt tab 7 row → {r : Judged}
+      → StatementPost tab s (row + 1) end third r
       → BranchesPost tab s end row r
   branches-second is e₇ g =
       record {
@@ -120,15 +125,18 @@ module _ {tab : List ℕ} {s : Scope} {end row test : ℕ} (e₄ : test ≡ word
     where
       go : StatementJudged tab s aConditional end row (Refused n p)
       go ts G Γ sc t (shows-conditional {e = e} {s = a} {t = b} st x y z) =
-          rw (halts (judge G Γ e) (must G e boolean) (judge G Γ a >>= λ _. judge G Γ b) (f .says ts G Γ sc e (rw e₄ x) boolean (code-boolean refl)) is)
+          rw (halts (judge G Γ e) (must G e boolean) (judge G Γ a >>= λ _. judge G Γ b)
+          (f .says ts G Γ sc e (rw e₄ x) boolean (code-boolean refl)) is)
 
-  pub conditional-branches : {w : ℕ} → v ≡ Fine w → {r : Judged} → BranchesPost tab s end row r → StatementNodePost tab s aConditional end row r
+  pub conditional-branches : {w : ℕ} → v ≡ Fine w → {r : Judged} → BranchesPost tab s end row r
+      → StatementNodePost tab s aConditional end row r
   unfolding judge
   conditional-branches is {r} g = record { says = go }
     where
       go : StatementJudged tab s aConditional end row r
       go ts G Γ sc t (shows-conditional {e = e} {s = a} {t = b} st x y z) =
-          rw (goes (judge G Γ e) (must G e boolean) (judge G Γ a >>= λ _. judge G Γ b) (f .says ts G Γ sc e (rw e₄ x) boolean (code-boolean refl)) is) (g .says ts G Γ sc a b y z)
+          rw (goes (judge G Γ e) (must G e boolean) (judge G Γ a >>= λ _. judge G Γ b)
+          (f .says ts G Γ sc e (rw e₄ x) boolean (code-boolean refl)) is) (g .says ts G Γ sc a b y z)
 
   pub loop-refused : {n p : ℕ} → v ≡ Refused n p → StatementNodePost tab s aLoop end row (Refused n p)
   unfolding judge
@@ -145,7 +153,8 @@ module _ {tab : List ℕ} {s : Scope} {end row test : ℕ} (e₄ : test ≡ word
     where
       go : StatementJudged tab s aLoop end row r
       go ts G Γ sc t (shows-loop {e = e} {s = a} st x y) =
-          rw (goes (judge G Γ e) (must G e boolean) (judge G Γ a) (f .says ts G Γ sc e (rw e₄ x) boolean (code-boolean refl)) is) (g .says ts G Γ sc a (rw e₅ y))
+          rw (goes (judge G Γ e) (must G e boolean) (judge G Γ a) (f .says ts G Γ sc e (rw e₄ x) boolean (code-boolean refl)) is)
+          (g .says ts G Γ sc a (rw e₅ y))
 
 -- STATEMENTS
 
@@ -195,7 +204,8 @@ module _ {tab : List ℕ} {s : Scope} {first end row : ℕ} where
         go : StatementJudged tab s aPrint end row r
         go ts G Γ sc t (shows-print {e = e} st x) = f .says ts G Γ sc e (rw e₄ x) int (code-int refl)
 
-    module _ (n₁ : k ≡ 38 → ⊥) (n₂ : k ≡ 10 → ⊥) (n₃ : k ≡ 23 → ⊥) (n₄ : k ≡ 19 → ⊥) {k′ : ℕ} (after : k′ ≡ kindInTable tab (s .tokens) (row + 1)) where
+    module _ (n₁ : k ≡ 38 → ⊥) (n₂ : k ≡ 10 → ⊥) (n₃ : k ≡ 23 → ⊥) (n₄ : k ≡ 19 → ⊥) {k′ : ℕ}
+        (after : k′ ≡ kindInTable tab (s .tokens) (row + 1)) where
       pub statement-element : k′ ≡ 36 → StatementNodePost tab s anElementStore end row r → StatementPost tab s first end row r
       unfolding formS
       statement-element is f = told (rw (ne-eqb k 38 n₁, ne-eqb k 10 n₂, ne-eqb k 23 n₃, ne-eqb k 19 n₄, sym after ∙ is)) (f .says)

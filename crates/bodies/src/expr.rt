@@ -28,7 +28,8 @@ ghost use Rattle.reader.specs.contracts.WalkPost.{Walkable};
 ghost use Rattle.lookup.specs.contracts.Shows.{aBinary, anElement, aCall};
 ghost use Rattle.bodies.specs.contracts.Scoping.{Judgeable};
 ghost use Rattle.bodies.specs.contracts.ExpressionPost.{NamePost, ThisPost, AtomPost, NodePost, ExpressionPost, OperandPost};
-ghost use Rattle.bodies.specs.contracts.ExpressionPost.{CreationPost, DottedPost, SinglePost, InvocationPost, ArgumentsPost, ObjectPost, SameCount};
+ghost use Rattle.bodies.specs.contracts.ExpressionPost.{CreationPost, DottedPost, SinglePost, InvocationPost};
+ghost use Rattle.bodies.specs.contracts.ExpressionPost.{ArgumentsPost, ObjectPost, SameCount};
 
 // `this`, which main has not: 34.
 fn receiver(table: &[u32], s: Scope, row: usize) -> Judged
@@ -217,7 +218,8 @@ fn binary(
     row: usize,
     k: u32,
 ) -> Judged
-    requires { ⌜ Judgeable (now table) (now fields) s × (first ≤ row) × (row < end) × (end ≤ s .tokens) × (k ≡ kindInTable (now table) (s .tokens) row) ⌝ }
+    requires { ⌜ Judgeable (now table) (now fields) s × (first ≤ row) × (row < end) × (end ≤ s .tokens) ⌝ }
+    requires { ⌜ k ≡ kindInTable (now table) (s .tokens) row ⌝ }
     ensures { λ r. ⌜ NodePost (now (table .entry)) s aBinary first end row r ⌝ }
 {
     let left = word(table, columns::FIRST, row);

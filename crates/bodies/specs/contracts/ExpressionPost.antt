@@ -1,5 +1,5 @@
--- What judging an expression, its parts and its arguments ensures: the answer is that of the judging function, whatever the tree is that the
--- table holds.
+-- What judging an expression, its parts and its arguments ensures: the answer is that of the judging function, whatever the tree is that
+-- the table holds.
 use Prim.Native.Nat.{ℕ, _+_, _≤_}
 use mathlib.Core.Path.{_≡_}
 use mathlib.Core.List.{List}

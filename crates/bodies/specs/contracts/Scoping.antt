@@ -49,4 +49,5 @@ pub data Means (ts : List Token) : Option Meaning → ℕ → Type 0 where
   meant : {m : Meaning} {w : ℕ} → Codes ts (meaningType m) w → Means ts (some m) w
 
 pub record NameTyped (tab : List ℕ) (s : Scope) (x : ℕ) (r : ℕ) : Type 0 where
-  pub says : (ts : List Token) (G : List Class) (Γ : Context) → InScope tab ts G Γ s → (text : List ℕ) → NameNumber ts text x → Means ts (meaning G Γ text) r
+  pub says : (ts : List Token) (G : List Class) (Γ : Context) → InScope tab ts G Γ s → (text : List ℕ) → NameNumber ts text x
+      → Means ts (meaning G Γ text) r

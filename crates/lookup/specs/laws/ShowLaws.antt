@@ -18,13 +18,13 @@ use Rattle.parser.specs.Tree.{Part.element, Part.arrayLength, Part.call, Part.n
 use Rattle.parser.specs.Tree.{Part.block, Part.conditional, Part.loop, Part.print, Part.assign, Part.assignElement}
 use Rattle.parser.specs.Tree.{Part.noStatements, Part.sequence}
 use Rattle.parser.specs.contracts.Layout.{absent, rowOf}
-use Rattle.parser.specs.Stream.{noMore, tokenAt, kindAt, startAt}
+use Rattle.parser.specs.Stream.{noMore, tokenAt, kindAt}
 use Rattle.parser.specs.contracts.Post.{kindInTable, isAtom}
 use Rattle.reader.specs.contracts.Holds.{Holds}
 use Rattle.reader.specs.contracts.Matches.{TokenIs, NameIs, NameMatches, Matches, operatorKind}
 use Rattle.lookup.specs.contracts.HeldClasses.{wordAt, Lexemes, NameNumber}
 use Rattle.lookup.specs.laws.HeldLaws.{word-in, name-kind, kinds, start-word, name-word, row-there}
-use Rattle.lookup.specs.contracts.Shows.{PartAt, Bound, Form, aVariable, aNewObject, aBinary, aCall, anAssignment, anElementStore}
+use Rattle.lookup.specs.contracts.Shows.{PartAt, Bound, Form, aVariable, aNewObject, aBinary, aCall}
 use Rattle.lookup.specs.contracts.Shows.{formAtom, formCompound, formE, formS}
 use Rattle.lookup.specs.contracts.Shows.{Shows, shows-literal, shows-truth, shows-variable, shows-this, shows-new-array}
 use Rattle.lookup.specs.contracts.Shows.{shows-new-object, shows-negation, shows-binary, shows-element, shows-length, shows-call}

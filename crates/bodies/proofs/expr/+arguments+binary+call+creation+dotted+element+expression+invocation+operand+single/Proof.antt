@@ -47,7 +47,13 @@ use Rattle.bodies.proofs.expr.+arguments+binary+call+creation+dotted+el
 use Rattle.bodies.proofs.expr.+arguments+binary+call+creation+dotted+element+expression+invocation+operand+single.Tie.{close}
 use borrow.Author.Needs.{needs}
 use Prim.Native.Nat.{_+_, _*_, _-_}
-use Rattle.bodies.proofs.ExpressionLaws.{arguments-before, arguments-behind, arguments-end, arguments-next, arguments-refused, binary-refused, binary-right, binary-wrong, call-object, call-plain, call-refused, creation-array, creation-object, dotted-call, dotted-length, element-first, element-second, expression-atom, expression-before, expression-behind, expression-binary, expression-dot, expression-element, expression-new, expression-not, invocation-count, invocation-fine, invocation-refused, invocation-unknown, operand-fits, operand-refused, operand-wrong, single-fine, single-refused}
+use Rattle.bodies.proofs.ExpressionLaws.{arguments-before, arguments-behind, arguments-end, arguments-next, arguments-refused}
+use Rattle.bodies.proofs.ExpressionLaws.{binary-refused, binary-right, binary-wrong, call-object, call-plain, call-refused}
+use Rattle.bodies.proofs.ExpressionLaws.{creation-array, creation-object, dotted-call, dotted-length, element-first}
+use Rattle.bodies.proofs.ExpressionLaws.{element-second, expression-atom, expression-before, expression-behind, expression-binary}
+use Rattle.bodies.proofs.ExpressionLaws.{expression-dot, expression-element, expression-new, expression-not, invocation-count}
+use Rattle.bodies.proofs.ExpressionLaws.{invocation-fine, invocation-refused, invocation-unknown, operand-fits, operand-refused}
+use Rattle.bodies.proofs.ExpressionLaws.{operand-wrong, single-fine, single-refused}
 
 abbrev μ-arguments : Measures 2 arguments-kinds.ps ℕ
 μ-arguments κs a = 8 * (a .1 .1 .1 .1 .0 - a .1 .1 .1 .0) + 4
@@ -140,28 +146,86 @@ abbrev single-below : ℕ → In 2 single-kinds.ps
 single-below t = and 2 single-kinds.ps (falls 2 single-kinds.ps _<_ μ-single t) single.Pre
 
 abbrev arguments-calls : ℕ → arguments-lts.Claims
-arguments-calls t = (word-reads.Asked, word-reads.Learnt, type-of-reads.Asked, type-of-reads.Learnt, operand-below t, operand.Post, arguments-below t, arguments.Post)
+arguments-calls t = (
+  word-reads.Asked,
+  word-reads.Learnt,
+  type-of-reads.Asked,
+  type-of-reads.Learnt,
+  operand-below t,
+  operand.Post,
+  arguments-below t,
+  arguments.Post,
+)
 
 abbrev binary-calls : ℕ → binary-lts.Claims
-binary-calls t = (word-reads.Asked, word-reads.Learnt, expression-below t, expression.Post, operation-reads.Asked, operation-reads.Learnt, single-below t, single.Post)
+binary-calls t = (
+  word-reads.Asked,
+  word-reads.Learnt,
+  expression-below t,
+  expression.Post,
+  operation-reads.Asked,
+  operation-reads.Learnt,
+  single-below t,
+  single.Post,
+)
 
 abbrev call-calls : ℕ → call-lts.Claims
 call-calls t = (word-reads.Asked, word-reads.Learnt, expression-below t, expression.Post, invocation-below t, invocation.Post)
 
 abbrev creation-calls : ℕ → creation-lts.Claims
-creation-calls t = (kind-reads.Asked, kind-reads.Learnt, word-reads.Asked, word-reads.Learnt, single-below t, single.Post, new-object-reads.Asked, new-object-reads.Learnt)
+creation-calls t = (
+  kind-reads.Asked,
+  kind-reads.Learnt,
+  word-reads.Asked,
+  word-reads.Learnt,
+  single-below t,
+  single.Post,
+  new-object-reads.Asked,
+  new-object-reads.Learnt,
+)
 
 abbrev dotted-calls : ℕ → dotted-lts.Claims
-dotted-calls t = (kind-reads.Asked, kind-reads.Learnt, word-reads.Asked, word-reads.Learnt, single-below t, single.Post, call-below t, call.Post)
+dotted-calls t =
+    (kind-reads.Asked, kind-reads.Learnt, word-reads.Asked, word-reads.Learnt, single-below t, single.Post, call-below t, call.Post)
 
 abbrev element-calls : ℕ → element-lts.Claims
 element-calls t = (word-reads.Asked, word-reads.Learnt, operand-below t, operand.Post, single-below t, single.Post)
 
 abbrev expression-calls : ℕ → expression-lts.Claims
-expression-calls t = (kind-reads.Asked, kind-reads.Learnt, is-atom-reads.Asked, is-atom-reads.Learnt, atom-reads.Asked, atom-reads.Learnt, creation-below t, creation.Post, dotted-below t, dotted.Post, word-reads.Asked, word-reads.Learnt, single-below t, single.Post, element-below t, element.Post, binary-below t, binary.Post)
+expression-calls t = (
+  kind-reads.Asked,
+  kind-reads.Learnt,
+  is-atom-reads.Asked,
+  is-atom-reads.Learnt,
+  atom-reads.Asked,
+  atom-reads.Learnt,
+  creation-below t,
+  creation.Post,
+  dotted-below t,
+  dotted.Post,
+  word-reads.Asked,
+  word-reads.Learnt,
+  single-below t,
+  single.Post,
+  element-below t,
+  element.Post,
+  binary-below t,
+  binary.Post,
+)
 
 abbrev invocation-calls : ℕ → invocation-lts.Claims
-invocation-calls t = (word-reads.Asked, word-reads.Learnt, find-method-reads.Asked, find-method-reads.Learnt, same-count-reads.Asked, same-count-reads.Learnt, arguments-below t, arguments.Post, type-of-reads.Asked, type-of-reads.Learnt)
+invocation-calls t = (
+  word-reads.Asked,
+  word-reads.Learnt,
+  find-method-reads.Asked,
+  find-method-reads.Learnt,
+  same-count-reads.Asked,
+  same-count-reads.Learnt,
+  arguments-below t,
+  arguments.Post,
+  type-of-reads.Asked,
+  type-of-reads.Learnt,
+)
 
 abbrev operand-calls : ℕ → operand-lts.Claims
 operand-calls t = (expression-below t, expression.Post, fits-reads.Asked, fits-reads.Learnt, word-reads.Asked, word-reads.Learnt)
@@ -503,13 +567,36 @@ module _ (t : ℕ) where
 pub +arguments+binary+call+creation+dotted+element+expression+invocation+operand+single-spec : {M : Type 1} → statement M
 +arguments+binary+call+creation+dotted+element+expression+invocation+operand+single-spec =
     close μ-arguments μ-binary μ-call μ-creation μ-dotted μ-element μ-expression μ-invocation μ-operand μ-single
-    (λ t. arguments-lts.spec (arguments-calls t) (arguments-at t) arguments.Post (arguments-returns t) (arguments-returns-2 t) (arguments-returns-3 t) (arguments-word-requires t) (arguments-type-of-requires t) (arguments-operand-requires t) (arguments-enum-told t) (arguments-word-requires-2 t) (arguments-word-requires-3 t) (arguments-add-arguments t) (arguments-arguments-requires t) (arguments-enum-known-a t) (arguments-returns-4 t) (arguments-returns-5 t))
-    (λ t. binary-lts.spec (binary-calls t) (binary-at t) binary.Post (binary-word-requires t) (binary-expression-requires t) (binary-enum-known-a t) (binary-operation-requires t) (binary-word-requires-2 t) (binary-returns t) (binary-word-requires-3 t) (binary-add-single t) (binary-single-requires t) (binary-enum-known-a-2 t) (binary-returns-2 t) (binary-returns-3 t))
-    (λ t. call-lts.spec (call-calls t) (call-at t) call.Post (call-word-requires t) (call-expression-requires t) (call-enum-known-e t) (call-word-requires-2 t) (call-returns t) (call-invocation-requires t) (call-enum-known-e-2 t) (call-returns-2 t) (call-returns-3 t))
-    (λ t. creation-lts.spec (creation-calls t) (creation-at t) creation.Post (creation-add-kind t) (creation-kind-requires t) (creation-word-requires t) (creation-add-single t) (creation-single-requires t) (creation-returns t) (creation-new-object-requires t) (creation-returns-2 t))
-    (λ t. dotted-lts.spec (dotted-calls t) (dotted-at t) dotted.Post (dotted-add-kind t) (dotted-kind-requires t) (dotted-word-requires t) (dotted-single-requires t) (dotted-returns t) (dotted-call-requires t) (dotted-returns-2 t))
-    (λ t. element-lts.spec (element-calls t) (element-at t) element.Post (element-word-requires t) (element-operand-requires t) (element-enum-told t) (element-word-requires-2 t) (element-add-single t) (element-single-requires t) (element-enum-known-a t) (element-returns t) (element-returns-2 t))
-    (λ t. expression-lts.spec (expression-calls t) (expression-at t) expression.Post (expression-returns t) (expression-returns-2 t) (expression-kind-requires t) (expression-is-atom-requires t) (expression-atom-requires t) (expression-returns-3 t) (expression-creation-requires t) (expression-returns-4 t) (expression-dotted-requires t) (expression-returns-5 t) (expression-word-requires t) (expression-add-single t) (expression-single-requires t) (expression-returns-6 t) (expression-element-requires t) (expression-returns-7 t) (expression-binary-requires t) (expression-returns-8 t))
-    (λ t. invocation-lts.spec (invocation-calls t) (invocation-at t) invocation.Post (invocation-add-word t) (invocation-word-requires t) (invocation-find-method-requires t) (invocation-add-word-2 t) (invocation-word-requires-2 t) (invocation-returns t) (invocation-word-requires-3 t) (invocation-word-requires-4 t) (invocation-same-count-requires t) (invocation-add-arguments t) (invocation-arguments-requires t) (invocation-enum-told t) (invocation-word-requires-5 t) (invocation-type-of-requires t) (invocation-returns-2 t) (invocation-enum-known-a t) (invocation-returns-3 t) (invocation-add-word-3 t) (invocation-word-requires-6 t) (invocation-returns-4 t))
-    (λ t. operand-lts.spec (operand-calls t) (operand-at t) operand.Post (operand-expression-requires t) (operand-enum-known-e t) (operand-fits-requires t) (operand-returns t) (operand-word-requires t) (operand-enum-known-e-2 t) (operand-returns-2 t) (operand-returns-3 t))
-    (λ t. single-lts.spec (single-calls t) (single-at t) single.Post (single-operand-requires t) (single-enum-told t) (single-enum-known-a t) (single-returns t) (single-returns-2 t))
+    (λ t. arguments-lts.spec (arguments-calls t) (arguments-at t) arguments.Post (arguments-returns t) (arguments-returns-2 t)
+    (arguments-returns-3 t) (arguments-word-requires t) (arguments-type-of-requires t) (arguments-operand-requires t)
+    (arguments-enum-told t) (arguments-word-requires-2 t) (arguments-word-requires-3 t) (arguments-add-arguments t)
+    (arguments-arguments-requires t) (arguments-enum-known-a t) (arguments-returns-4 t) (arguments-returns-5 t))
+    (λ t. binary-lts.spec (binary-calls t) (binary-at t) binary.Post (binary-word-requires t) (binary-expression-requires t)
+    (binary-enum-known-a t) (binary-operation-requires t) (binary-word-requires-2 t) (binary-returns t) (binary-word-requires-3 t)
+    (binary-add-single t) (binary-single-requires t) (binary-enum-known-a-2 t) (binary-returns-2 t) (binary-returns-3 t))
+    (λ t. call-lts.spec (call-calls t) (call-at t) call.Post (call-word-requires t) (call-expression-requires t) (call-enum-known-e t)
+    (call-word-requires-2 t) (call-returns t) (call-invocation-requires t) (call-enum-known-e-2 t) (call-returns-2 t) (call-returns-3 t))
+    (λ t. creation-lts.spec (creation-calls t) (creation-at t) creation.Post (creation-add-kind t) (creation-kind-requires t)
+    (creation-word-requires t) (creation-add-single t) (creation-single-requires t) (creation-returns t) (creation-new-object-requires t)
+    (creation-returns-2 t))
+    (λ t. dotted-lts.spec (dotted-calls t) (dotted-at t) dotted.Post (dotted-add-kind t) (dotted-kind-requires t) (dotted-word-requires t)
+    (dotted-single-requires t) (dotted-returns t) (dotted-call-requires t) (dotted-returns-2 t))
+    (λ t. element-lts.spec (element-calls t) (element-at t) element.Post (element-word-requires t) (element-operand-requires t)
+    (element-enum-told t) (element-word-requires-2 t) (element-add-single t) (element-single-requires t) (element-enum-known-a t)
+    (element-returns t) (element-returns-2 t))
+    (λ t. expression-lts.spec (expression-calls t) (expression-at t) expression.Post (expression-returns t) (expression-returns-2 t)
+    (expression-kind-requires t) (expression-is-atom-requires t) (expression-atom-requires t) (expression-returns-3 t)
+    (expression-creation-requires t) (expression-returns-4 t) (expression-dotted-requires t) (expression-returns-5 t)
+    (expression-word-requires t) (expression-add-single t) (expression-single-requires t) (expression-returns-6 t)
+    (expression-element-requires t) (expression-returns-7 t) (expression-binary-requires t) (expression-returns-8 t))
+    (λ t. invocation-lts.spec (invocation-calls t) (invocation-at t) invocation.Post (invocation-add-word t) (invocation-word-requires t)
+    (invocation-find-method-requires t) (invocation-add-word-2 t) (invocation-word-requires-2 t) (invocation-returns t)
+    (invocation-word-requires-3 t) (invocation-word-requires-4 t) (invocation-same-count-requires t) (invocation-add-arguments t)
+    (invocation-arguments-requires t) (invocation-enum-told t) (invocation-word-requires-5 t) (invocation-type-of-requires t)
+    (invocation-returns-2 t) (invocation-enum-known-a t) (invocation-returns-3 t) (invocation-add-word-3 t) (invocation-word-requires-6 t)
+    (invocation-returns-4 t))
+    (λ t. operand-lts.spec (operand-calls t) (operand-at t) operand.Post (operand-expression-requires t) (operand-enum-known-e t)
+    (operand-fits-requires t) (operand-returns t) (operand-word-requires t) (operand-enum-known-e-2 t) (operand-returns-2 t)
+    (operand-returns-3 t))
+    (λ t. single-lts.spec (single-calls t) (single-at t) single.Post (single-operand-requires t) (single-enum-told t)
+    (single-enum-known-a t) (single-returns t) (single-returns-2 t))

@@ -27,7 +27,10 @@ use Rattle.bodies.proofs.stmt.+branches+conditional+list+repeated+singl
 use Rattle.bodies.proofs.stmt.+branches+conditional+list+repeated+single.Tie.{close}
 use borrow.Author.Needs.{needs}
 use Prim.Native.Nat.{_+_, _*_, _-_}
-use Rattle.bodies.proofs.StatementLaws.{branches-first, branches-second, conditional-branches, conditional-refused, list-before, list-behind, list-end, list-next, list-refused, loop-body, loop-refused, statement-assignment, statement-before, statement-behind, statement-block, statement-element, statement-if, statement-print, statement-while}
+use Rattle.bodies.proofs.StatementLaws.{branches-first, branches-second, conditional-branches, conditional-refused, list-before}
+use Rattle.bodies.proofs.StatementLaws.{list-behind, list-end, list-next, list-refused, loop-body, loop-refused}
+use Rattle.bodies.proofs.StatementLaws.{statement-assignment, statement-before, statement-behind, statement-block}
+use Rattle.bodies.proofs.StatementLaws.{statement-element, statement-if, statement-print, statement-while}
 
 abbrev μ-branches : Measures 2 branches-kinds.ps ℕ
 μ-branches κs a = 4 * (a .1 .1 .1 .0 - (a .1 .1 .1 .1 .0 + 1)) + 1
@@ -87,7 +90,24 @@ abbrev repeated-calls : ℕ → repeated-lts.Claims
 repeated-calls t = (word-reads.Asked, word-reads.Learnt, operand-reads.Asked, operand-reads.Learnt, single-below t, single.Post)
 
 abbrev single-calls : ℕ → single-lts.Claims
-single-calls t = (kind-reads.Asked, kind-reads.Learnt, word-reads.Asked, word-reads.Learnt, list-below t, list.Post, conditional-below t, conditional.Post, repeated-below t, repeated.Post, operand-reads.Asked, operand-reads.Learnt, element-store-reads.Asked, element-store-reads.Learnt, assignment-reads.Asked, assignment-reads.Learnt)
+single-calls t = (
+  kind-reads.Asked,
+  kind-reads.Learnt,
+  word-reads.Asked,
+  word-reads.Learnt,
+  list-below t,
+  list.Post,
+  conditional-below t,
+  conditional.Post,
+  repeated-below t,
+  repeated.Post,
+  operand-reads.Asked,
+  operand-reads.Learnt,
+  element-store-reads.Asked,
+  element-store-reads.Learnt,
+  assignment-reads.Asked,
+  assignment-reads.Learnt,
+)
 
 module _ (t : ℕ) where
   branches-word-requires : branches-lts.Need-word-requires (branches-calls t) (branches-at t) branches.Post
@@ -273,8 +293,20 @@ module _ (t : ℕ) where
 pub +branches+conditional+list+repeated+single-spec : {M : Type 1} → statement M
 +branches+conditional+list+repeated+single-spec =
     close μ-branches μ-conditional μ-list μ-repeated μ-single
-    (λ t. branches-lts.spec (branches-calls t) (branches-at t) branches.Post (branches-word-requires t) (branches-add-single t) (branches-single-requires t) (branches-enum-told t) (branches-word-requires-2 t) (branches-add-single-2 t) (branches-single-requires-2 t) (branches-enum-known-a t) (branches-returns t) (branches-returns-2 t))
-    (λ t. conditional-lts.spec (conditional-calls t) (conditional-at t) conditional.Post (conditional-word-requires t) (conditional-add-operand t) (conditional-operand-requires t) (conditional-enum-told t) (conditional-branches-requires t) (conditional-enum-known-t t) (conditional-returns t) (conditional-returns-2 t))
-    (λ t. list-lts.spec (list-calls t) (list-at t) list.Post (list-returns t) (list-returns-2 t) (list-returns-3 t) (list-single-requires t) (list-enum-told t) (list-word-requires t) (list-add-list t) (list-list-requires t) (list-enum-known-a t) (list-returns-4 t) (list-returns-5 t))
-    (λ t. repeated-lts.spec (repeated-calls t) (repeated-at t) repeated.Post (repeated-word-requires t) (repeated-add-operand t) (repeated-operand-requires t) (repeated-enum-told t) (repeated-word-requires-2 t) (repeated-add-single t) (repeated-single-requires t) (repeated-enum-known-t t) (repeated-returns t) (repeated-returns-2 t))
-    (λ t. single-lts.spec (single-calls t) (single-at t) single.Post (single-returns t) (single-returns-2 t) (single-kind-requires t) (single-word-requires t) (single-add-list t) (single-list-requires t) (single-returns-3 t) (single-conditional-requires t) (single-returns-4 t) (single-repeated-requires t) (single-returns-5 t) (single-word-requires-2 t) (single-add-operand t) (single-operand-requires t) (single-returns-6 t) (single-add-kind t) (single-kind-requires-2 t) (single-element-store-requires t) (single-returns-7 t) (single-assignment-requires t) (single-returns-8 t))
+    (λ t. branches-lts.spec (branches-calls t) (branches-at t) branches.Post (branches-word-requires t) (branches-add-single t)
+    (branches-single-requires t) (branches-enum-told t) (branches-word-requires-2 t) (branches-add-single-2 t)
+    (branches-single-requires-2 t) (branches-enum-known-a t) (branches-returns t) (branches-returns-2 t))
+    (λ t. conditional-lts.spec (conditional-calls t) (conditional-at t) conditional.Post (conditional-word-requires t)
+    (conditional-add-operand t) (conditional-operand-requires t) (conditional-enum-told t) (conditional-branches-requires t)
+    (conditional-enum-known-t t) (conditional-returns t) (conditional-returns-2 t))
+    (λ t. list-lts.spec (list-calls t) (list-at t) list.Post (list-returns t) (list-returns-2 t) (list-returns-3 t)
+    (list-single-requires t) (list-enum-told t) (list-word-requires t) (list-add-list t) (list-list-requires t) (list-enum-known-a t)
+    (list-returns-4 t) (list-returns-5 t))
+    (λ t. repeated-lts.spec (repeated-calls t) (repeated-at t) repeated.Post (repeated-word-requires t) (repeated-add-operand t)
+    (repeated-operand-requires t) (repeated-enum-told t) (repeated-word-requires-2 t) (repeated-add-single t) (repeated-single-requires t)
+    (repeated-enum-known-t t) (repeated-returns t) (repeated-returns-2 t))
+    (λ t. single-lts.spec (single-calls t) (single-at t) single.Post (single-returns t) (single-returns-2 t) (single-kind-requires t)
+    (single-word-requires t) (single-add-list t) (single-list-requires t) (single-returns-3 t) (single-conditional-requires t)
+    (single-returns-4 t) (single-repeated-requires t) (single-returns-5 t) (single-word-requires-2 t) (single-add-operand t)
+    (single-operand-requires t) (single-returns-6 t) (single-add-kind t) (single-kind-requires-2 t) (single-element-store-requires t)
+    (single-returns-7 t) (single-assignment-requires t) (single-returns-8 t))
