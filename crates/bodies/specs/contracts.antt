@@ -2,3 +2,4 @@
 pub mod Scoping
 pub mod ExpressionPost
 pub mod StatementPost
+pub mod OperatorPost

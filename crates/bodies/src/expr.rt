@@ -1,4 +1,6 @@
-// Expressions are judged in a cycle: an expression, its parts, the arguments of a call. `left` is how many tokens may still be covered: a part covers fewer than its whole.
+// Expressions are judged in a cycle: an expression, its parts, the arguments of a call. Each has the range of tokens in which it lies, from
+// `first` up to `end`: a part lies in a smaller one than its whole, before the token of its whole or behind it.
+use crate::operators::operation;
 use crate::scope::Scope;
 use crate::scope::name_type;
 use base::codes;
@@ -18,12 +20,16 @@ use parser::columns;
 use parser::columns::ABSENT;
 use parser::kinds::is_atom;
 use parser::table::kind;
+ghost use mathlib.Core.Path.{_≡_};
 ghost use Prim.Native.Nat.{_≤_, _<_};
 ghost use lib.ListN.{length};
+ghost use Rattle.parser.specs.contracts.Post.{kindInTable};
 ghost use Rattle.reader.specs.contracts.WalkPost.{Walkable};
+ghost use Rattle.lookup.specs.contracts.Shows.{aBinary, anElement, aCall};
 ghost use Rattle.bodies.specs.contracts.Scoping.{Judgeable};
-ghost use Rattle.bodies.specs.contracts.ExpressionPost.{NamePost, ThisPost, AtomPost, ExpressionPost, OperandPost, SinglePost, PairPost};
-ghost use Rattle.bodies.specs.contracts.ExpressionPost.{CreationPost, DottedPost, CallPost, InvocationPost, ArgumentsPost, ObjectPost, SameCount};
+ghost use Rattle.bodies.specs.contracts.ExpressionPost.{NamePost, ThisPost, AtomPost, NodePost, ExpressionPost, OperandPost};
+ghost use Rattle.bodies.specs.contracts.ExpressionPost.{CreationPost, DottedPost, SinglePost, InvocationPost};
+ghost use Rattle.bodies.specs.contracts.ExpressionPost.{ArgumentsPost, ObjectPost, SameCount};
 
 // `this`, which main has not: 34.
 fn receiver(table: &[u32], s: Scope, row: usize) -> Judged
@@ -103,11 +109,21 @@ fn same_count(table: &[u32], left: usize, a: usize, p: usize) -> bool
 }
 
 // An expression.
-pub fn expression(table: &[u32], fields: &[u32], s: Scope, left: usize, row: usize) -> Judged
-    requires { ⌜ Judgeable (now table) (now fields) s × (row < 4294967296) × (left ≤ s .tokens) ⌝ }
-    ensures { λ r. ⌜ ExpressionPost (now (table .entry)) s left row r ⌝ }
+pub fn expression(
+    table: &[u32],
+    fields: &[u32],
+    s: Scope,
+    first: usize,
+    end: usize,
+    row: usize,
+) -> Judged
+    requires { ⌜ Judgeable (now table) (now fields) s × (end ≤ s .tokens) ⌝ }
+    ensures { λ r. ⌜ ExpressionPost (now (table .entry)) s first end row r ⌝ }
 {
-    if left == 0 {
+    if row < first {
+        return Judged::Refused(BROKEN, 0);
+    }
+    if end <= row {
         return Judged::Refused(BROKEN, 0);
     }
     let k = kind(table, s.tokens, row);
@@ -115,24 +131,19 @@ pub fn expression(table: &[u32], fields: &[u32], s: Scope, left: usize, row: usi
         return atom(table, fields, s, k, row);
     }
     if k == kinds::NEW {
-        return creation(table, fields, s, left - 1, row);
+        return creation(table, fields, s, first, end, row);
     }
     if k == kinds::DOT {
-        return dotted(table, fields, s, left - 1, row);
+        return dotted(table, fields, s, first, end, row);
     }
     if k == kinds::NOT {
-        return single(table, fields, s, left - 1, row, BOOLEAN, BOOLEAN);
+        let part = word(table, columns::FIRST, row);
+        return single(table, fields, s, row + 1, end, part, BOOLEAN, BOOLEAN);
     }
     if k == kinds::OPEN_BRACKET {
-        return pair(table, fields, s, left - 1, row, INT_ARRAY, INT, INT);
+        return element(table, fields, s, first, end, row);
     }
-    if k == kinds::AND {
-        return pair(table, fields, s, left - 1, row, BOOLEAN, BOOLEAN, BOOLEAN);
-    }
-    if k == kinds::LESS {
-        return pair(table, fields, s, left - 1, row, INT, INT, BOOLEAN);
-    }
-    pair(table, fields, s, left - 1, row, INT, INT, INT)
+    binary(table, fields, s, first, end, row, k)
 }
 
 // An expression that must fit a type: 31.
@@ -140,14 +151,15 @@ pub fn operand(
     table: &[u32],
     fields: &[u32],
     s: Scope,
-    left: usize,
+    first: usize,
+    end: usize,
     row: usize,
     want: usize,
 ) -> Judged
-    requires { ⌜ Judgeable (now table) (now fields) s × (row < 4294967296) × (left ≤ s .tokens) ⌝ }
-    ensures { λ r. ⌜ OperandPost (now (table .entry)) s left row want r ⌝ }
+    requires { ⌜ Judgeable (now table) (now fields) s × (end ≤ s .tokens) ⌝ }
+    ensures { λ r. ⌜ OperandPost (now (table .entry)) s first end row want r ⌝ }
 {
-    let e = expression(table, fields, s, left, row);
+    let e = expression(table, fields, s, first, end, row);
     match e {
         Judged::Fine(t) => {
             if fits(table, s.tokens, s.classes, t, want) {
@@ -159,133 +171,128 @@ pub fn operand(
     }
 }
 
-// A node with one part, whose type is `answer`.
+// The last part of a node, which must fit a type; the type of the node is then `answer`.
 fn single(
     table: &[u32],
     fields: &[u32],
     s: Scope,
-    left: usize,
+    first: usize,
+    end: usize,
     row: usize,
     want: usize,
     answer: usize,
 ) -> Judged
-    requires { ⌜ Judgeable (now table) (now fields) s × (row < 4294967296) × (left ≤ s .tokens) ⌝ }
-    ensures { λ r. ⌜ SinglePost (now (table .entry)) s left row want answer r ⌝ }
+    requires { ⌜ Judgeable (now table) (now fields) s × (end ≤ s .tokens) ⌝ }
+    ensures { λ r. ⌜ SinglePost (now (table .entry)) s first end row want answer r ⌝ }
 {
-    let a = operand(
-        table,
-        fields,
-        s,
-        left,
-        word(table, columns::FIRST, row),
-        want,
-    );
+    let a = operand(table, fields, s, first, end, row, want);
     match a {
         Judged::Fine(_) => Judged::Fine(answer),
         Judged::Refused(number, at) => Judged::Refused(number, at),
     }
 }
 
-// A node with two parts, whose type is `answer`.
-fn pair(
+// `a[i]`.
+fn element(table: &[u32], fields: &[u32], s: Scope, first: usize, end: usize, row: usize) -> Judged
+    requires { ⌜ Judgeable (now table) (now fields) s × (first ≤ row) × (row < end) × (end ≤ s .tokens) ⌝ }
+    ensures { λ r. ⌜ NodePost (now (table .entry)) s anElement first end row r ⌝ }
+{
+    let left = word(table, columns::FIRST, row);
+    let a = operand(table, fields, s, first, row, left, INT_ARRAY);
+    match a {
+        Judged::Fine(_) => {
+            let right = word(table, columns::SECOND, row);
+            single(table, fields, s, row + 1, end, right, INT, INT)
+        }
+        Judged::Refused(number, at) => Judged::Refused(number, at),
+    }
+}
+
+// An operation of kind k: the left part must have a type that the operator takes, the right part must fit that type: 31.
+fn binary(
     table: &[u32],
     fields: &[u32],
     s: Scope,
-    left: usize,
-    row: usize,
     first: usize,
-    second: usize,
-    answer: usize,
+    end: usize,
+    row: usize,
+    k: u32,
 ) -> Judged
-    requires { ⌜ Judgeable (now table) (now fields) s × (row < 4294967296) × (left ≤ s .tokens) ⌝ }
-    ensures { λ r. ⌜ PairPost (now (table .entry)) s left row first second answer r ⌝ }
+    requires { ⌜ Judgeable (now table) (now fields) s × (first ≤ row) × (row < end) × (end ≤ s .tokens) ⌝ }
+    requires { ⌜ k ≡ kindInTable (now table) (s .tokens) row ⌝ }
+    ensures { λ r. ⌜ NodePost (now (table .entry)) s aBinary first end row r ⌝ }
 {
-    let a = operand(
-        table,
-        fields,
-        s,
-        left,
-        word(table, columns::FIRST, row),
-        first,
-    );
+    let left = word(table, columns::FIRST, row);
+    let a = expression(table, fields, s, first, row, left);
     match a {
-        Judged::Fine(_) => {
-            let b = operand(
-                table,
-                fields,
-                s,
-                left,
-                word(table, columns::SECOND, row),
-                second,
-            );
-            match b {
-                Judged::Fine(_) => Judged::Fine(answer),
-                Judged::Refused(number, at) => Judged::Refused(number, at),
+        Judged::Fine(t) => {
+            let answer = operation(k, t);
+            if NOTHING <= answer {
+                return Judged::Refused(codes::WRONG_TYPE, word(table, columns::BEGIN, left));
             }
+            let right = word(table, columns::SECOND, row);
+            single(table, fields, s, row + 1, end, right, t, answer)
         }
         Judged::Refused(number, at) => Judged::Refused(number, at),
     }
 }
 
 // `new int[e]` or `new C()`.
-fn creation(table: &[u32], fields: &[u32], s: Scope, left: usize, row: usize) -> Judged
-    requires { ⌜ Judgeable (now table) (now fields) s × (row < 4294967296) × (left ≤ s .tokens) ⌝ }
-    ensures { λ r. ⌜ CreationPost (now (table .entry)) s left row r ⌝ }
+fn creation(table: &[u32], fields: &[u32], s: Scope, first: usize, end: usize, row: usize) -> Judged
+    requires { ⌜ Judgeable (now table) (now fields) s × (first ≤ row) × (row < end) × (end ≤ s .tokens) ⌝ }
+    ensures { λ r. ⌜ CreationPost (now (table .entry)) s first end row r ⌝ }
 {
     if kind(table, s.tokens, row + 1) == kinds::INT {
-        return single(table, fields, s, left, row, INT, INT_ARRAY);
+        let part = word(table, columns::FIRST, row);
+        return single(table, fields, s, row + 1, end, part, INT, INT_ARRAY);
     }
     new_object(table, s.tokens, row)
 }
 
 // `e.length` or a call.
-fn dotted(table: &[u32], fields: &[u32], s: Scope, left: usize, row: usize) -> Judged
-    requires { ⌜ Judgeable (now table) (now fields) s × (row < 4294967296) × (left ≤ s .tokens) ⌝ }
-    ensures { λ r. ⌜ DottedPost (now (table .entry)) s left row r ⌝ }
+fn dotted(table: &[u32], fields: &[u32], s: Scope, first: usize, end: usize, row: usize) -> Judged
+    requires { ⌜ Judgeable (now table) (now fields) s × (first ≤ row) × (row < end) × (end ≤ s .tokens) ⌝ }
+    ensures { λ r. ⌜ DottedPost (now (table .entry)) s first end row r ⌝ }
 {
     if kind(table, s.tokens, row + 1) == kinds::LENGTH {
-        return single(table, fields, s, left, row, INT_ARRAY, INT);
+        let part = word(table, columns::FIRST, row);
+        return single(table, fields, s, first, row, part, INT_ARRAY, INT);
     }
-    call(table, fields, s, left, row)
+    call(table, fields, s, first, end, row)
 }
 
 // `e.m(e, ..)`: the receiver must be an object, 31.
-fn call(table: &[u32], fields: &[u32], s: Scope, left: usize, row: usize) -> Judged
-    requires { ⌜ Judgeable (now table) (now fields) s × (row < 4294967296) × (left ≤ s .tokens) ⌝ }
-    ensures { λ r. ⌜ CallPost (now (table .entry)) s left row r ⌝ }
+fn call(table: &[u32], fields: &[u32], s: Scope, first: usize, end: usize, row: usize) -> Judged
+    requires { ⌜ Judgeable (now table) (now fields) s × (first ≤ row) × (row < end) × (end ≤ s .tokens) ⌝ }
+    ensures { λ r. ⌜ NodePost (now (table .entry)) s aCall first end row r ⌝ }
 {
-    let first = word(table, columns::FIRST, row);
-    let e = expression(table, fields, s, left, first);
+    let left = word(table, columns::FIRST, row);
+    let e = expression(table, fields, s, first, row, left);
     match e {
         Judged::Fine(t) => {
             if INT <= t {
-                return Judged::Refused(codes::WRONG_TYPE, word(table, columns::BEGIN, first));
+                return Judged::Refused(codes::WRONG_TYPE, word(table, columns::BEGIN, left));
             }
-            invocation(table, fields, s, left, row, t)
+            invocation(table, fields, s, end, row, t)
         }
         Judged::Refused(number, at) => Judged::Refused(number, at),
     }
 }
 
-// The method, in a class of name c, and the arguments: 32, 33.
-fn invocation(table: &[u32], fields: &[u32], s: Scope, left: usize, row: usize, c: usize) -> Judged
-    requires { ⌜ Judgeable (now table) (now fields) s × (row < 4294967296) × (left ≤ s .tokens) ⌝ }
-    ensures { λ r. ⌜ InvocationPost (now (table .entry)) s left row c r ⌝ }
+// The method, in a class of name c, and the arguments, which lie behind `row`: 32, 33.
+fn invocation(table: &[u32], fields: &[u32], s: Scope, end: usize, row: usize, c: usize) -> Judged
+    requires { ⌜ Judgeable (now table) (now fields) s × (row < end) × (end ≤ s .tokens) ⌝ }
+    ensures { λ r. ⌜ InvocationPost (now (table .entry)) s end row c r ⌝ }
 {
-    let m = find_method(
-        table,
-        s.tokens,
-        s.classes,
-        c,
-        word(table, columns::NUMBER, row + 1),
-    );
+    let called = word(table, columns::NUMBER, row + 1);
+    let m = find_method(table, s.tokens, s.classes, c, called);
     if ABSENT <= m {
         return Judged::Refused(codes::METHOD_UNKNOWN, word(table, columns::START, row + 1));
     }
     let given = word(table, columns::SECOND, row);
     let taken = word(table, columns::PARAMETERS, m);
     if same_count(table, s.tokens, given, taken) {
-        let a = arguments(table, fields, s, left, given, taken);
+        let a = arguments(table, fields, s, row + 1, end, given, taken);
         match a {
             Judged::Fine(_) => {
                 return Judged::Fine(type_of(table, s.tokens, word(table, columns::TYPE, m)));
@@ -303,30 +310,31 @@ fn arguments(
     table: &[u32],
     fields: &[u32],
     s: Scope,
-    left: usize,
+    first: usize,
+    end: usize,
     row: usize,
     parameter: usize,
 ) -> Judged
-    requires { ⌜ Judgeable (now table) (now fields) s × (row < 4294967296) × (left ≤ s .tokens) ⌝ }
-    ensures { λ r. ⌜ ArgumentsPost (now (table .entry)) s left row parameter r ⌝ }
+    requires { ⌜ Judgeable (now table) (now fields) s × (end ≤ s .tokens) ⌝ }
+    ensures { λ r. ⌜ ArgumentsPost (now (table .entry)) s first end row parameter r ⌝ }
 {
     if ABSENT <= row {
         return Judged::Fine(0);
     }
-    if left == 0 {
+    if row < first {
+        return Judged::Refused(BROKEN, 0);
+    }
+    if end <= row {
         return Judged::Refused(BROKEN, 0);
     }
     let want = type_of(table, s.tokens, word(table, columns::TYPE, parameter));
-    let a = operand(table, fields, s, left, row, want);
+    let a = operand(table, fields, s, first, end, row, want);
     match a {
-        Judged::Fine(_) => arguments(
-            table,
-            fields,
-            s,
-            left - 1,
-            word(table, columns::NEXT, row),
-            word(table, columns::NEXT, parameter),
-        ),
+        Judged::Fine(_) => {
+            let next = word(table, columns::NEXT, row);
+            let after = word(table, columns::NEXT, parameter);
+            arguments(table, fields, s, row + 1, end, next, after)
+        }
         Judged::Refused(number, at) => Judged::Refused(number, at),
     }
 }

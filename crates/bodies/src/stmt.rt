@@ -1,4 +1,5 @@
-// Statements, each with what it needs of its expressions.
+// Statements, each with what it needs of its expressions. Each has the range of tokens in which it lies, from `first` up to `end`; all its
+// parts lie behind its own token, from `row + 1` up to `end`.
 use crate::expr::name;
 use crate::expr::operand;
 use crate::scope::Scope;
@@ -15,156 +16,162 @@ use parser::columns;
 use parser::columns::ABSENT;
 use parser::table::kind;
 ghost use Prim.Native.Nat.{_≤_, _<_};
+ghost use Rattle.lookup.specs.contracts.Shows.{aConditional, aLoop, anAssignment, anElementStore};
 ghost use Rattle.bodies.specs.contracts.Scoping.{Judgeable};
-ghost use Rattle.bodies.specs.contracts.StatementPost.{StatementPost, ListPost, ConditionalPost, BranchesPost, LoopPost, AssignmentPost, AssignedPost, ValuePost};
+ghost use Rattle.bodies.specs.contracts.StatementPost.{StatementPost, ListPost, StatementNodePost, BranchesPost, ValuePost};
 
 // Index and value of an assignment to an element.
-fn index_and_value(table: &[u32], fields: &[u32], s: Scope, left: usize, row: usize) -> Judged
-    requires { ⌜ Judgeable (now table) (now fields) s × (row < 4294967296) × (left ≤ s .tokens) ⌝ }
-    ensures { λ r. ⌜ ValuePost (now (table .entry)) s left row r ⌝ }
+fn index_and_value(table: &[u32], fields: &[u32], s: Scope, end: usize, row: usize) -> Judged
+    requires { ⌜ Judgeable (now table) (now fields) s × (row < end) × (end ≤ s .tokens) ⌝ }
+    ensures { λ r. ⌜ ValuePost (now (table .entry)) s end row r ⌝ }
 {
-    let i = operand(
-        table,
-        fields,
-        s,
-        left,
-        word(table, columns::FIRST, row),
-        INT,
-    );
+    let index = word(table, columns::FIRST, row);
+    let i = operand(table, fields, s, row + 1, end, index, INT);
     match i {
-        Judged::Fine(_) => operand(
-            table,
-            fields,
-            s,
-            left,
-            word(table, columns::SECOND, row),
-            INT,
-        ),
+        Judged::Fine(_) => {
+            let value = word(table, columns::SECOND, row);
+            operand(table, fields, s, row + 1, end, value, INT)
+        }
         Judged::Refused(number, at) => Judged::Refused(number, at),
     }
 }
 
-// An assignment to a variable of type t or, if it is indexed, to an element: 31 at its name.
-fn assigned(table: &[u32], fields: &[u32], s: Scope, left: usize, row: usize, t: usize) -> Judged
-    requires { ⌜ Judgeable (now table) (now fields) s × (row < 4294967296) × (left ≤ s .tokens) ⌝ }
-    ensures { λ r. ⌜ AssignedPost (now (table .entry)) s left row t r ⌝ }
-{
-    if kind(table, s.tokens, row + 1) == kinds::OPEN_BRACKET {
-        if fits(table, s.tokens, s.classes, t, INT_ARRAY) {
-            return index_and_value(table, fields, s, left, row);
-        }
-        return Judged::Refused(codes::WRONG_TYPE, word(table, columns::BEGIN, row));
-    }
-    operand(table, fields, s, left, word(table, columns::FIRST, row), t)
-}
-
-// An assignment: the target is looked up first.
-fn assignment(table: &[u32], fields: &[u32], s: Scope, left: usize, row: usize) -> Judged
-    requires { ⌜ Judgeable (now table) (now fields) s × (row < 4294967296) × (left ≤ s .tokens) ⌝ }
-    ensures { λ r. ⌜ AssignmentPost (now (table .entry)) s left row r ⌝ }
+// An assignment to an element: the target is looked up first, and must be an int[]: 31 at its name.
+fn element_store(table: &[u32], fields: &[u32], s: Scope, end: usize, row: usize) -> Judged
+    requires { ⌜ Judgeable (now table) (now fields) s × (row < end) × (end ≤ s .tokens) ⌝ }
+    ensures { λ r. ⌜ StatementNodePost (now (table .entry)) s anElementStore end row r ⌝ }
 {
     let x = name(table, fields, s, row);
     match x {
-        Judged::Fine(t) => assigned(table, fields, s, left, row, t),
+        Judged::Fine(t) => {
+            if fits(table, s.tokens, s.classes, t, INT_ARRAY) {
+                return index_and_value(table, fields, s, end, row);
+            }
+            Judged::Refused(codes::WRONG_TYPE, word(table, columns::BEGIN, row))
+        }
+        Judged::Refused(number, at) => Judged::Refused(number, at),
+    }
+}
+
+// An assignment: the target is looked up first.
+fn assignment(table: &[u32], fields: &[u32], s: Scope, end: usize, row: usize) -> Judged
+    requires { ⌜ Judgeable (now table) (now fields) s × (row < end) × (end ≤ s .tokens) ⌝ }
+    ensures { λ r. ⌜ StatementNodePost (now (table .entry)) s anAssignment end row r ⌝ }
+{
+    let x = name(table, fields, s, row);
+    match x {
+        Judged::Fine(t) => {
+            let value = word(table, columns::FIRST, row);
+            operand(table, fields, s, row + 1, end, value, t)
+        }
         Judged::Refused(number, at) => Judged::Refused(number, at),
     }
 }
 
 // A statement.
-pub fn single(table: &[u32], fields: &[u32], s: Scope, left: usize, row: usize) -> Judged
-    requires { ⌜ Judgeable (now table) (now fields) s × (row < 4294967296) × (left ≤ s .tokens) ⌝ }
-    ensures { λ r. ⌜ StatementPost (now (table .entry)) s left row r ⌝ }
+pub fn single(
+    table: &[u32],
+    fields: &[u32],
+    s: Scope,
+    first: usize,
+    end: usize,
+    row: usize,
+) -> Judged
+    requires { ⌜ Judgeable (now table) (now fields) s × (end ≤ s .tokens) ⌝ }
+    ensures { λ r. ⌜ StatementPost (now (table .entry)) s first end row r ⌝ }
 {
-    if left == 0 {
+    if row < first {
+        return Judged::Refused(BROKEN, 0);
+    }
+    if end <= row {
         return Judged::Refused(BROKEN, 0);
     }
     let k = kind(table, s.tokens, row);
     if k == kinds::OPEN_BRACE {
-        return list(table, fields, s, left - 1, word(table, columns::FIRST, row));
+        let part = word(table, columns::FIRST, row);
+        return list(table, fields, s, row + 1, end, part);
     }
     if k == kinds::IF {
-        return conditional(table, fields, s, left - 1, row);
+        return conditional(table, fields, s, end, row);
     }
     if k == kinds::WHILE {
-        return repeated(table, fields, s, left - 1, row);
+        return repeated(table, fields, s, end, row);
     }
     if k == kinds::SYSTEM {
-        return operand(
-            table,
-            fields,
-            s,
-            left - 1,
-            word(table, columns::FIRST, row),
-            INT,
-        );
+        let part = word(table, columns::FIRST, row);
+        return operand(table, fields, s, row + 1, end, part, INT);
     }
-    assignment(table, fields, s, left - 1, row)
+    if kind(table, s.tokens, row + 1) == kinds::OPEN_BRACKET {
+        return element_store(table, fields, s, end, row);
+    }
+    assignment(table, fields, s, end, row)
 }
 
 // The branches of an `if`.
-fn branches(table: &[u32], fields: &[u32], s: Scope, left: usize, row: usize) -> Judged
-    requires { ⌜ Judgeable (now table) (now fields) s × (row < 4294967296) × (left ≤ s .tokens) ⌝ }
-    ensures { λ r. ⌜ BranchesPost (now (table .entry)) s left row r ⌝ }
+fn branches(table: &[u32], fields: &[u32], s: Scope, end: usize, row: usize) -> Judged
+    requires { ⌜ Judgeable (now table) (now fields) s × (row < end) × (end ≤ s .tokens) ⌝ }
+    ensures { λ r. ⌜ BranchesPost (now (table .entry)) s end row r ⌝ }
 {
-    let a = single(table, fields, s, left, word(table, columns::SECOND, row));
+    let second = word(table, columns::SECOND, row);
+    let a = single(table, fields, s, row + 1, end, second);
     match a {
-        Judged::Fine(_) => single(table, fields, s, left, word(table, columns::THIRD, row)),
+        Judged::Fine(_) => {
+            let third = word(table, columns::THIRD, row);
+            single(table, fields, s, row + 1, end, third)
+        }
         Judged::Refused(number, at) => Judged::Refused(number, at),
     }
 }
 
 // `if`: its test, then both branches.
-fn conditional(table: &[u32], fields: &[u32], s: Scope, left: usize, row: usize) -> Judged
-    requires { ⌜ Judgeable (now table) (now fields) s × (row < 4294967296) × (left ≤ s .tokens) ⌝ }
-    ensures { λ r. ⌜ ConditionalPost (now (table .entry)) s left row r ⌝ }
+fn conditional(table: &[u32], fields: &[u32], s: Scope, end: usize, row: usize) -> Judged
+    requires { ⌜ Judgeable (now table) (now fields) s × (row < end) × (end ≤ s .tokens) ⌝ }
+    ensures { λ r. ⌜ StatementNodePost (now (table .entry)) s aConditional end row r ⌝ }
 {
-    let t = operand(
-        table,
-        fields,
-        s,
-        left,
-        word(table, columns::FIRST, row),
-        BOOLEAN,
-    );
+    let test = word(table, columns::FIRST, row);
+    let t = operand(table, fields, s, row + 1, end, test, BOOLEAN);
     match t {
-        Judged::Fine(_) => branches(table, fields, s, left, row),
+        Judged::Fine(_) => branches(table, fields, s, end, row),
         Judged::Refused(number, at) => Judged::Refused(number, at),
     }
 }
 
 // `while`: its test, then its body.
-fn repeated(table: &[u32], fields: &[u32], s: Scope, left: usize, row: usize) -> Judged
-    requires { ⌜ Judgeable (now table) (now fields) s × (row < 4294967296) × (left ≤ s .tokens) ⌝ }
-    ensures { λ r. ⌜ LoopPost (now (table .entry)) s left row r ⌝ }
+fn repeated(table: &[u32], fields: &[u32], s: Scope, end: usize, row: usize) -> Judged
+    requires { ⌜ Judgeable (now table) (now fields) s × (row < end) × (end ≤ s .tokens) ⌝ }
+    ensures { λ r. ⌜ StatementNodePost (now (table .entry)) s aLoop end row r ⌝ }
 {
-    let t = operand(
-        table,
-        fields,
-        s,
-        left,
-        word(table, columns::FIRST, row),
-        BOOLEAN,
-    );
+    let test = word(table, columns::FIRST, row);
+    let t = operand(table, fields, s, row + 1, end, test, BOOLEAN);
     match t {
-        Judged::Fine(_) => single(table, fields, s, left, word(table, columns::SECOND, row)),
+        Judged::Fine(_) => {
+            let body = word(table, columns::SECOND, row);
+            single(table, fields, s, row + 1, end, body)
+        }
         Judged::Refused(number, at) => Judged::Refused(number, at),
     }
 }
 
 // The statements from a row on.
-pub fn list(table: &[u32], fields: &[u32], s: Scope, left: usize, row: usize) -> Judged
-    requires { ⌜ Judgeable (now table) (now fields) s × (row < 4294967296) × (left ≤ s .tokens) ⌝ }
-    ensures { λ r. ⌜ ListPost (now (table .entry)) s left row r ⌝ }
+pub fn list(table: &[u32], fields: &[u32], s: Scope, first: usize, end: usize, row: usize) -> Judged
+    requires { ⌜ Judgeable (now table) (now fields) s × (end ≤ s .tokens) ⌝ }
+    ensures { λ r. ⌜ ListPost (now (table .entry)) s first end row r ⌝ }
 {
     if ABSENT <= row {
         return Judged::Fine(0);
     }
-    if left == 0 {
+    if row < first {
         return Judged::Refused(BROKEN, 0);
     }
-    let a = single(table, fields, s, left, row);
+    if end <= row {
+        return Judged::Refused(BROKEN, 0);
+    }
+    let a = single(table, fields, s, first, end, row);
     match a {
-        Judged::Fine(_) => list(table, fields, s, left - 1, word(table, columns::NEXT, row)),
+        Judged::Fine(_) => {
+            let next = word(table, columns::NEXT, row);
+            list(table, fields, s, row + 1, end, next)
+        }
         Judged::Refused(number, at) => Judged::Refused(number, at),
     }
 }

@@ -394,7 +394,7 @@ module _ {n : ℕ} {before : List ℕ} (rd : Reading) (f : Filling before rd) (c
         own = class-found (p .classes) (distinct-rest (names-sound (p .main .text) (p .classes) d));
         statement = h .statement;
         matches = match .statement;
-        statement-covers = omega (arith, count, facts .covered);
+        statement-within = rw count at (facts .within);
         row = facts .row;
       }
 

@@ -10,13 +10,15 @@ use Rattle.parser.specs.contracts.Layout.{rowOf}
 use Rattle.parser.specs.Grammar.{DerivesMethod, DerivesMethods, DerivesClass, DerivesClasses, DerivesProgram}
 use Rattle.parser.specs.Grammar.{DerivesMethod.a-method, DerivesMethods.no-method, DerivesMethods.more-methods, DerivesClass.a-class-declaration, DerivesClasses.no-class, DerivesClasses.more-classes, DerivesProgram.a-program}
 use Rattle.reader.specs.laws.Order.{first-row}
-use Rattle.reader.specs.laws.Stored.{parent-order}
-use Rattle.reader.specs.laws.Counting.{covers, tree-covers}
+use Rattle.reader.specs.laws.Stored.{parent-order, variable-lies}
+use Rattle.reader.specs.laws.Counting.{tree-nodes}
+use Rattle.reader.specs.laws.SpanLaws.{wider, tree-spans}
+use Rattle.reader.specs.contracts.Spans.{Spans}
 use Rattle.reader.specs.contracts.Holds.{HoldsVariables, HoldsMethod, HoldsMethods, HoldsClass, HoldsClasses}
 use Rattle.reader.specs.contracts.Matches.{VariablesMatch, MethodMatches, MethodsMatch, ClassMatches, ClassesMatch}
 use Rattle.lookup.specs.contracts.HeldClasses.{VariablesHeld, MethodHeld, MethodsHeld, ClassHeld, ClassesHeld}
 use Rattle.lookup.specs.contracts.HeldClasses as Standing
-use Rattle.declarations.specs.laws.Counts.{head-count, variables-count, formals-count, methods-count, classes-count}
+use Rattle.declarations.specs.laws.Counts.{variables-count, formals-count, methods-count, classes-count}
 
 variables-stand : {tab : List ℕ} {ts : List Token} (vs : List Variable) → VariablesMatch ts vs → HoldsVariables tab vs → VariablesHeld tab ts vs
 unfolding VariablesMatch HoldsVariables
@@ -25,7 +27,12 @@ variables-stand (v ∷ vs) m h = Standing.more-variables (m .0) (h .0) (h .1) (v
 
 module _ {tab : List ℕ} {n : ℕ} {ts : List Token} where
   method-stands : {i j : ℕ} {m : Method} → DerivesMethod ts i j m → j ≤ n → MethodMatches ts m → HoldsMethod tab m → MethodHeld tab n ts m
-  method-stands (a-method {ps = ps} {ls = ls} _ head _ fs _ _ vs ss _ v _ _) few m h =
+  method-stands (a-method {c = c} {d = d} {e = e} {head = hd} {ps = ps} {ls = ls} {ss = b} {v = x} _ head _ fs _ _ vs ss _ v _ _) few m h =
+      let named = variable-lies head .1 in
+      let formals = formals-count fs in
+      let locals = variables-count vs in
+      let body = tree-nodes ss in
+      let value = tree-nodes v in
       record {
         head = m .head;
         after = m .after;
@@ -36,14 +43,14 @@ module _ {tab : List ℕ} {n : ℕ} {ts : List Token} where
         return = h .return;
         parameters = variables-stand ps (m .parameters) (h .parameters);
         locals = variables-stand ls (m .locals) (h .locals);
-        few-parameters = omega (arith, head-count head, formals-count fs, variables-count vs, tree-covers ss, tree-covers v);
-        few-locals = omega (arith, head-count head, formals-count fs, variables-count vs, tree-covers ss, tree-covers v);
+        few-parameters = omega arith;
+        few-locals = omega arith;
         body = h .body;
         body-matches = m .body;
-        body-covers = omega (arith, head-count head, formals-count fs, variables-count vs, tree-covers ss, tree-covers v);
+        body-within = wider b c d (hd .name .row) n (omega arith) (omega arith) (tree-spans ss);
         value = h .value;
         value-matches = m .value;
-        value-covers = omega (arith, head-count head, formals-count fs, variables-count vs, tree-covers ss, tree-covers v);
+        value-within = wider x (d + 1) e (hd .name .row) n (omega arith) (omega arith) (tree-spans v);
       }
 
   methods-stand : {i j : ℕ} {ms : List Method} → DerivesMethods ts i j ms → j ≤ n → MethodsMatch ts ms → HoldsMethods tab ms → MethodsHeld tab n ts ms
@@ -76,16 +83,16 @@ module _ {tab : List ℕ} {n : ℕ} {ts : List Token} where
 pub record Derived (ts : List Token) (p : Program) : Type 0 where
   pub main : p .main .row ≡ 1
   pub row : rowOf (p .statement) ≡ 14
-  pub covered : covers (p .statement) ≤ length ts
+  pub within : Spans 14 (length ts) (p .statement)
   pub few-classes : length (p .classes) ≤ length ts
   pub from : ℕ
   pub classes : DerivesClasses ts from (length ts) (p .classes)
 
 pub derived : {ts : List Token} {p : Program} → DerivesProgram ts p → Derived ts p
-derived (a-program {j = j} _ d _ _ cs) = record {
+derived {ts} (a-program {j = j} {s = s} _ d _ _ cs) = record {
   main = refl;
   row = first-row d;
-  covered = omega (arith, tree-covers d, classes-count cs);
+  within = wider s 14 j 14 (length ts) (omega arith) (omega (arith, classes-count cs)) (tree-spans d);
   few-classes = omega (arith, classes-count cs);
   from = j + 2;
   classes = cs;

@@ -8,6 +8,7 @@ use Rattle.base.specs.Outcome.{_>>=_}
 use Rattle.lexer.specs.Tokens.{Token}
 use Rattle.parser.specs.Tree.{Method, Class, Program}
 use Rattle.parser.specs.contracts.Layout.{absent, rowVariables, rowMethods, rowClasses}
+use Rattle.reader.specs.contracts.Spans.{Spans}
 use Rattle.typesystem.specs.ClassTable.{Context, mainContext, contextOf, textOf}
 use Rattle.typesystem.specs.Judge.{judge, must}
 use Rattle.typesystem.specs.Declarations.{variables}
@@ -29,7 +30,7 @@ use Rattle.typecheck.specs.contracts.MethodPost.{CarriedJudged, BodyJudg
 
 -- STATEMENTS AND RETURN EXPRESSION
 
-module _ {tab : List ℕ} {s : Scope} {row first : ℕ} (e₄ : first ≡ wordAt tab 4 (row + 1)) {v : Judged} (f : ListPost tab s (s .tokens) first v) where
+module _ {tab : List ℕ} {s : Scope} {row first : ℕ} (e₄ : first ≡ wordAt tab 4 (row + 1)) {v : Judged} (f : ListPost tab s row (s .tokens) first v) where
   statements : (ts : List Token) (G : List Class) (Γ : Context) → InScope tab ts G Γ s → (m : Method) → m .name .row ≡ row → MethodHeld tab (s .tokens) ts m → v ≡ asJudged (judge G Γ (m .body))
   statements ts G Γ sc m at st =
       f .says ts G Γ sc (m .body)
@@ -37,7 +38,7 @@ module _ {tab : List ℕ} {s : Scope} {row first : ℕ} (e₄ : first ≡ wordAt
         at = sym (word-in tab 4 (m .name .row + 1) (row-there (sc .world .tokens) (m .name .row + 1) (st .after .there)) (st .start)) ∙ ap (λ (i : ℕ). wordAt tab 4 (i + 1)) at ∙ sym e₄;
         holds = st .body;
         matches = st .body-matches;
-        few = st .body-covers;
+        within = subst (λ (i : ℕ). Spans i (s .tokens) (m .body)) at (st .body-within);
       })
 
   pub carried-refused : {n p : ℕ} → v ≡ Refused n p → CarriedJudged tab s row (Refused n p)
@@ -48,7 +49,7 @@ module _ {tab : List ℕ} {s : Scope} {row first : ℕ} (e₄ : first ≡ wordAt
       }
 
   pub carried-value : {w : ℕ} → v ≡ Fine w → {t want second : ℕ} → t ≡ wordAt tab 3 row → TypeOf tab (s .tokens) t want → second ≡ wordAt tab 5 (row + 1) → {r : Judged}
-      → OperandPost tab s (s .tokens) second want r → CarriedJudged tab s row r
+      → OperandPost tab s row (s .tokens) second want r → CarriedJudged tab s row r
   carried-value is {t} {want} {second} e₃ type e₅ g =
       record {
         says = λ ts G Γ sc m at st.
@@ -60,7 +61,7 @@ module _ {tab : List ℕ} {s : Scope} {row first : ℕ} (e₄ : first ≡ wordAt
               at = sym (word-in tab 5 (m .name .row + 1) (row-there (sc .world .tokens) (m .name .row + 1) (st .after .there)) (st .return)) ∙ ap (λ (i : ℕ). wordAt tab 5 (i + 1)) at ∙ sym e₅;
               holds = st .value;
               matches = st .value-matches;
-              few = st .value-covers;
+              within = subst (λ (i : ℕ). Spans i (s .tokens) (m .value)) at (st .value-within);
             })
             (m .result .type) (type .says ts (sc .world .tokens) (m .result) d (st .head .type)));
       }
@@ -206,7 +207,7 @@ mainScope n classes = record { tokens = n; classes = classes; owner = absent; pa
 none-listed : (tab : List ℕ) (n : ℕ) (ts : List Token) → ListedAt tab n ts absent []
 none-listed tab n ts = record { at = refl; stand = no-variables; few = omega arith }
 
-module _ {tab : List ℕ} {n classes : ℕ} {v : Judged} (f : StatementPost tab (mainScope n classes) n 14 v) where
+module _ {tab : List ℕ} {n classes : ℕ} {v : Judged} (f : StatementPost tab (mainScope n classes) 14 n 14 v) where
   main-settled : (ts : List Token) (p : Program) → Ready tab n ts p → length (p .classes) ≡ classes → v ≡ asJudged (judge (p .classes) mainContext (p .statement))
   main-settled ts p h l =
       f .says ts (p .classes) mainContext
@@ -220,7 +221,7 @@ module _ {tab : List ℕ} {n classes : ℕ} {v : Judged} (f : StatementPost tab 
         given-listed = none-listed tab n ts;
         own-listed = none-listed tab n ts;
       })
-      (p .statement) (record { at = h .row; holds = h .statement; matches = h .matches; few = h .statement-covers })
+      (p .statement) (record { at = h .row; holds = h .statement; matches = h .matches; within = h .statement-within })
 
   pub bodies-main : {k p : ℕ} → v ≡ Refused k p → BodiesJudged tab n classes (Refused k p)
   unfolding allBodies

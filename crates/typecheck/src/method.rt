@@ -18,29 +18,18 @@ ghost use Rattle.lookup.specs.contracts.Fields.{FieldsHeld};
 ghost use Rattle.bodies.specs.contracts.Scoping.{Judgeable};
 ghost use Rattle.typecheck.specs.contracts.MethodPost.{CarriedJudged, BodyJudged, MethodsJudged, ClassJudged, ClassesJudged, BodiesJudged};
 
-// Statements and return expression of a method. They stand in the row after its name.
+// Statements and return expression of a method: the row after that of its name leads to them, and they lie behind its name.
 fn carried(table: &[u32], fields: &[u32], s: Scope, row: usize) -> Judged
     requires { ⌜ Judgeable (now table) (now fields) s × (row < 4294967296) ⌝ }
     ensures { λ r. ⌜ CarriedJudged (now (table .entry)) s row r ⌝ }
 {
-    let b = stmt::list(
-        table,
-        fields,
-        s,
-        s.tokens,
-        word(table, columns::BODY, row + 1),
-    );
+    let first = word(table, columns::BODY, row + 1);
+    let b = stmt::list(table, fields, s, row, s.tokens, first);
     match b {
         Judged::Fine(_) => {
             let want = type_of(table, s.tokens, word(table, columns::TYPE, row));
-            operand(
-                table,
-                fields,
-                s,
-                s.tokens,
-                word(table, columns::VALUE, row + 1),
-                want,
-            )
+            let value = word(table, columns::VALUE, row + 1);
+            operand(table, fields, s, row, s.tokens, value, want)
         }
         Judged::Refused(number, at) => Judged::Refused(number, at),
     }
@@ -164,7 +153,14 @@ pub fn bodies(table: &[u32], n: usize, classes: usize) -> Judged
         parameters: ABSENT,
         locals: ABSENT,
     };
-    let m = stmt::single(table, &fields, s, n, columns::MAIN_STATEMENT);
+    let m = stmt::single(
+        table,
+        &fields,
+        s,
+        columns::MAIN_STATEMENT,
+        n,
+        columns::MAIN_STATEMENT,
+    );
     match m {
         Judged::Fine(_) => all(
             table,

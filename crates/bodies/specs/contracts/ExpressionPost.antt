@@ -1,83 +1,93 @@
--- What judging an expression, its parts and its arguments ensures: the answer is that of the judging function, whatever the tree is that the table holds.
+-- What judging an expression, its parts and its arguments ensures: the answer is that of the judging function, whatever the tree is that
+-- the table holds.
 use Prim.Native.Nat.{ℕ, _+_, _≤_}
 use mathlib.Core.Path.{_≡_}
 use mathlib.Core.List.{List}
-use mathlib.Core.Bool.{Bool, true}
+use mathlib.Core.Bool.{Bool}
 use lib.ListN.{length}
 use lib.Dec.{eqb}
 use Rattle.base.specs.Outcome.{accepted, _>>=_}
-use Rattle.base.specs.contracts.Table.{col}
 use Rattle.lexer.specs.Kinds.{kNew, kDot}
 use Rattle.lexer.specs.Tokens.{Token}
-use Rattle.parser.specs.Tree.{Place, Name, Sort.arguments, Part, Part.newObject, Part.call, Expression, Ty, Variable, Class}
-use Rattle.parser.specs.Stream.{kindAt}
-use Rattle.parser.specs.contracts.Post.{isAtom}
-use Rattle.reader.specs.contracts.Matches.{NameIs}
+use Rattle.parser.specs.Tree.{Place, Name, Sort.arguments, Part, Part.this, Part.newObject, Expression, Ty, Variable, Class}
+use Rattle.parser.specs.contracts.Post.{kindInTable}
 use Rattle.typesystem.specs.ClassTable.{Context, methodOf}
 use Rattle.typesystem.specs.Judge.{judge, must, arity, invocation, lookUp}
 use Rattle.lookup.specs.declared.answer.Judged.{Judged}
-use Rattle.lookup.specs.contracts.HeldClasses.{wordAt, NameNumber, Codes, ListedAt}
+use Rattle.lookup.specs.contracts.HeldClasses.{wordAt, NameNumber, Codes, ListedAt, ClassTableHeld}
 use Rattle.lookup.specs.contracts.Answers.{asJudged, Judges}
+use Rattle.lookup.specs.contracts.Shows.{PartAt, Form, formAtom, formCompound}
 use Rattle.bodies.specs.declared.scope.Scope.{Scope}
-use Rattle.bodies.specs.contracts.Scoping.{InScope, PartAt}
+use Rattle.bodies.specs.contracts.Scoping.{InScope, PartIn, ShowsIn}
+
+-- what the row of a call tells of the method's name and of the arguments, which lie behind it
+pub record Invoked (tab : List ℕ) (ts : List Token) (end row : ℕ) (m : Name) (es : Part arguments) : Type 0 where
+  pub number : NameNumber ts (m .text) (wordAt tab 2 (row + 1))
+  pub start : wordAt tab 1 (row + 1) ≡ m .start
+  pub given : PartIn tab ts (wordAt tab 5 row) (row + 1) end es
 
 module _ (tab : List ℕ) (s : Scope) where
   -- a name, which is a whole expression or the target of an assignment
   pub record NamePost (row : ℕ) (r : Judged) : Type 0 where
-    pub says : (ts : List Token) (G : List Class) (Γ : Context) → InScope tab ts G Γ s → (p : Place) (x : List ℕ) → p .row ≡ row → NameIs ts (p .row) x
-        → col tab 3 (p .row) ≡ p .start → Judges ts (lookUp G Γ p x) r
+    pub says : (ts : List Token) (G : List Class) (Γ : Context) → InScope tab ts G Γ s → (p : Place) (x : List ℕ)
+        → wordAt tab 3 row ≡ p .start → NameNumber ts x (wordAt tab 2 row) → Judges ts (lookUp G Γ p x) r
 
   pub record ThisPost (row : ℕ) (r : Judged) : Type 0 where
-    pub says : (ts : List Token) (G : List Class) (Γ : Context) → InScope tab ts G Γ s → (p : Place) → PartAt tab ts row 1 (Part.this p) → Judges ts (judge G Γ (Part.this p)) r
+    pub says : (ts : List Token) (G : List Class) (Γ : Context) → InScope tab ts G Γ s → (p : Place) → wordAt tab 3 row ≡ p .start
+        → Judges ts (judge G Γ (this p)) r
 
+  -- an expression whose row shows this form
+  abbrev pub NodeJudged : Form → (first end row : ℕ) → Judged → Type 0
+  NodeJudged F first end row r =
+      (ts : List Token) (G : List Class) (Γ : Context) → InScope tab ts G Γ s → (e : Expression)
+      → ShowsIn tab ts (s .tokens) first end row F e → Judges ts (judge G Γ e) r
+
+  pub record NodePost (F : Form) (first end row : ℕ) (r : Judged) : Type 0 where
+    pub says : NodeJudged F first end row r
+
+  -- an expression of one token, of this kind
   pub record AtomPost (kind row : ℕ) (r : Judged) : Type 0 where
-    pub says : (ts : List Token) (G : List Class) (Γ : Context) → InScope tab ts G Γ s → (e : Expression) (left : ℕ) → PartAt tab ts row left e → kind ≡ kindAt ts row
-        → isAtom kind ≡ true → Judges ts (judge G Γ e) r
+    pub says : (first end : ℕ) → NodeJudged (formAtom kind) first end row r
 
-  pub record ExpressionPost (left row : ℕ) (r : Judged) : Type 0 where
-    pub says : (ts : List Token) (G : List Class) (Γ : Context) → InScope tab ts G Γ s → (e : Expression) → PartAt tab ts row left e → Judges ts (judge G Γ e) r
+  -- `new` and `.`, each of which begins two forms
+  abbrev pub CreationPost : (first end row : ℕ) → Judged → Type 0
+  CreationPost first end row r = NodePost (formCompound kNew (kindInTable tab (s .tokens) (row + 1))) first end row r
+
+  abbrev pub DottedPost : (first end row : ℕ) → Judged → Type 0
+  DottedPost first end row r = NodePost (formCompound kDot (kindInTable tab (s .tokens) (row + 1))) first end row r
+
+  pub record ExpressionPost (first end row : ℕ) (r : Judged) : Type 0 where
+    pub says : (ts : List Token) (G : List Class) (Γ : Context) → InScope tab ts G Γ s → (e : Expression) → PartIn tab ts row first end e
+        → Judges ts (judge G Γ e) r
 
   -- an expression that must fit a type
-  pub record OperandPost (left row want : ℕ) (r : Judged) : Type 0 where
-    pub says : (ts : List Token) (G : List Class) (Γ : Context) → InScope tab ts G Γ s → (e : Expression) → PartAt tab ts row left e → (t : Ty) → Codes ts t want
-        → r ≡ asJudged (judge G Γ e >>= λ u. must G e t u)
+  pub record OperandPost (first end row want : ℕ) (r : Judged) : Type 0 where
+    pub says : (ts : List Token) (G : List Class) (Γ : Context) → InScope tab ts G Γ s → (e : Expression) → PartIn tab ts row first end e
+        → (t : Ty) → Codes ts t want → r ≡ asJudged (judge G Γ e >>= λ u. must G e t u)
 
-  -- a node with one part, or two, that must fit types, and a type of its own
-  pub record SinglePost (left row want answer : ℕ) (r : Judged) : Type 0 where
-    pub says : (ts : List Token) (G : List Class) (Γ : Context) → InScope tab ts G Γ s → (e : Expression) → PartAt tab ts (wordAt tab 4 row) left e → (t u : Ty)
-        → Codes ts t want → Codes ts u answer → Judges ts (judge G Γ e >>= λ v. must G e t v >>= λ _. accepted u) r
-
-  pub record PairPost (left row first second answer : ℕ) (r : Judged) : Type 0 where
-    pub says : (ts : List Token) (G : List Class) (Γ : Context) → InScope tab ts G Γ s → (a b : Expression) → PartAt tab ts (wordAt tab 4 row) left a
-        → PartAt tab ts (wordAt tab 5 row) left b → (t t′ u : Ty) → Codes ts t first → Codes ts t′ second → Codes ts u answer
-        → Judges ts (judge G Γ a >>= λ v. must G a t v >>= λ _. judge G Γ b >>= λ v. must G b t′ v >>= λ _. accepted u) r
-
-  -- `new`; `.`; and of the latter a call
-  pub record CreationPost (left row : ℕ) (r : Judged) : Type 0 where
-    pub says : (ts : List Token) (G : List Class) (Γ : Context) → InScope tab ts G Γ s → (e : Expression) → PartAt tab ts row (left + 1) e → kindAt ts row ≡ kNew → Judges ts (judge G Γ e) r
-
-  pub record DottedPost (left row : ℕ) (r : Judged) : Type 0 where
-    pub says : (ts : List Token) (G : List Class) (Γ : Context) → InScope tab ts G Γ s → (e : Expression) → PartAt tab ts row (left + 1) e → kindAt ts row ≡ kDot → Judges ts (judge G Γ e) r
-
-  pub record CallPost (left row : ℕ) (r : Judged) : Type 0 where
-    pub says : (ts : List Token) (G : List Class) (Γ : Context) → InScope tab ts G Γ s → (p : Place) (e : Expression) (m : Name) (es : Part arguments)
-        → PartAt tab ts row (left + 1) (Part.call p e m es) → Judges ts (judge G Γ (Part.call p e m es)) r
+  -- the last part of a node, which must fit a type, and a type of the node's own
+  pub record SinglePost (first end row want answer : ℕ) (r : Judged) : Type 0 where
+    pub says : (ts : List Token) (G : List Class) (Γ : Context) → InScope tab ts G Γ s → (e : Expression) → PartIn tab ts row first end e
+        → (t u : Ty) → Codes ts t want → Codes ts u answer → Judges ts (judge G Γ e >>= λ v. must G e t v >>= λ _. accepted u) r
 
   -- the method and the arguments, where the receiver's class has this name
-  pub record InvocationPost (left row c : ℕ) (r : Judged) : Type 0 where
-    pub says : (ts : List Token) (G : List Class) (Γ : Context) → InScope tab ts G Γ s → (p : Place) (e : Expression) (m : Name) (es : Part arguments)
-        → PartAt tab ts row (left + 1) (Part.call p e m es) → (name : List ℕ) → NameNumber ts name c
+  pub record InvocationPost (end row c : ℕ) (r : Judged) : Type 0 where
+    pub says : (ts : List Token) (G : List Class) (Γ : Context) → InScope tab ts G Γ s → (m : Name) (es : Part arguments)
+        → Invoked tab ts end row m es → (name : List ℕ) → NameNumber ts name c
         → Judges ts (invocation m (arity es) (judge G Γ es) (methodOf G name (m .text))) r
 
   -- as many arguments as parameters, each of which must fit
-  pub record ArgumentsPost (left row parameter : ℕ) (r : Judged) : Type 0 where
-    pub says : (ts : List Token) (G : List Class) (Γ : Context) → InScope tab ts G Γ s → (es : Part arguments) → PartAt tab ts row left es → (n : ℕ) (vs : List Variable)
-        → ListedAt tab n ts parameter vs → arity es ≡ length vs → r ≡ asJudged (judge G Γ es vs)
+  pub record ArgumentsPost (first end row parameter : ℕ) (r : Judged) : Type 0 where
+    pub says : (ts : List Token) (G : List Class) (Γ : Context) → InScope tab ts G Γ s → (es : Part arguments)
+        → PartIn tab ts row first end es → (n : ℕ) (vs : List Variable) → ListedAt tab n ts parameter vs → arity es ≡ length vs
+        → r ≡ asJudged (judge G Γ es vs)
 
 -- `new C()`, in a table of n tokens
 pub record ObjectPost (tab : List ℕ) (n row : ℕ) (r : Judged) : Type 0 where
-  pub says : (s : Scope) → s .tokens ≡ n → (ts : List Token) (G : List Class) (Γ : Context) → InScope tab ts G Γ s → (p : Place) (c : Name) (left : ℕ) → PartAt tab ts row left (newObject p c)
-      → Judges ts (judge G Γ (newObject p c)) r
+  pub says : (ts : List Token) (G : List Class) → ClassTableHeld tab n ts G → (Γ : Context) (p : Place) (c : Name)
+      → NameNumber ts (c .text) (wordAt tab 2 (row + 1)) → wordAt tab 1 (row + 1) ≡ c .start → Judges ts (judge G Γ (newObject p c)) r
 
+-- no more than so many arguments
 pub record SameCount (tab : List ℕ) (left a p : ℕ) (r : Bool) : Type 0 where
-  pub says : (n : ℕ) (ts : List Token) → length ts ≤ 2048 → (es : Part arguments) → PartAt tab ts a left es → (vs : List Variable) → ListedAt tab left ts p vs → r ≡ eqb (arity es) (length vs)
+  pub says : (ts : List Token) → length ts ≤ 2048 → (es : Part arguments) → PartAt tab ts a (λ xs. arity xs ≤ left) es
+      → (vs : List Variable) → ListedAt tab left ts p vs → r ≡ eqb (arity es) (length vs)

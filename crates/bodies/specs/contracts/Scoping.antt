@@ -1,19 +1,17 @@
 -- What a body sees, as the code has it, and what the look-up of a name ensures.
-use Prim.Native.Nat.{ℕ, _≤_}
+use Prim.Native.Nat.{ℕ, _+_, _≤_}
 use mathlib.Core.Path.{_≡_}
 use mathlib.Core.List.{List, _++_}
 use mathlib.Core.Option.{Option, none, some}
 use lib.ListN.{length}
 use Rattle.lexer.specs.Tokens.{Token}
-use Rattle.parser.specs.Tree.{Sort, Part, Variable, Class}
-use Rattle.parser.specs.contracts.Layout.{rowOf}
-use Rattle.reader.specs.laws.Counting.{covers}
-use Rattle.reader.specs.contracts.Holds.{Holds}
-use Rattle.reader.specs.contracts.Matches.{Matches}
+use Rattle.parser.specs.Tree.{Sort, Part, Expression, Statement, Variable, Class}
+use Rattle.reader.specs.contracts.Spans.{Spans}
 use Rattle.reader.specs.contracts.WalkPost.{Walkable}
 use Rattle.typesystem.specs.ClassTable.{Context, Meaning, meaning, meaningType}
 use Rattle.lookup.specs.contracts.HeldClasses.{NameNumber, MaybeNumber, noType, Codes, ClassTableHeld, ListedAt}
 use Rattle.lookup.specs.contracts.Fields.{FieldsHeld}
+use Rattle.lookup.specs.contracts.Shows.{PartAt, Form, Shows, ShowsS}
 use Rattle.bodies.specs.declared.scope.Scope.{Scope}
 
 -- a table of so many tokens, and what the fields of the declaring class mean
@@ -33,12 +31,17 @@ pub record InScope (tab : List ℕ) (ts : List Token) (G : List Class) (Γ : Con
   pub given-listed : ListedAt tab (s .tokens) ts (s .parameters) given
   pub own-listed : ListedAt tab (s .tokens) ts (s .locals) own
 
--- a part lies in a row, and covers at most `left` tokens
-pub record PartAt (tab : List ℕ) (ts : List Token) (row left : ℕ) {s : Sort} (t : Part s) : Type 0 where
-  pub at : rowOf t ≡ row
-  pub holds : Holds tab t
-  pub matches : Matches ts t
-  pub few : covers t ≤ left
+-- a part lies in a row, and among the tokens from `first` up to `end`
+abbrev pub PartIn : (tab : List ℕ) (ts : List Token) (row first end : ℕ) {q : Sort} → Part q → Type 0
+PartIn tab ts row first end {q} t = PartAt tab ts row (Spans {s = q} first end) t
+
+-- a row shows this form of an expression that lies among the tokens from `first` up to `end`: its parts lie before the row, or behind it
+abbrev pub ShowsIn : (tab : List ℕ) (ts : List Token) (n first end row : ℕ) → Form → Expression → Type 0
+ShowsIn tab ts n first end row = Shows tab ts n row (λ (q : Sort). Spans {s = q} first row) (λ (q : Sort). Spans {s = q} (row + 1) end)
+
+-- the same of a statement, whose parts lie behind the row
+abbrev pub ShowsStatement : (tab : List ℕ) (ts : List Token) (end row : ℕ) → Form → Statement → Type 0
+ShowsStatement tab ts end row = ShowsS tab ts row (λ (q : Sort). Spans {s = q} (row + 1) end)
 
 -- the type of what a name means, by number
 pub data Means (ts : List Token) : Option Meaning → ℕ → Type 0 where
@@ -46,4 +49,5 @@ pub data Means (ts : List Token) : Option Meaning → ℕ → Type 0 where
   meant : {m : Meaning} {w : ℕ} → Codes ts (meaningType m) w → Means ts (some m) w
 
 pub record NameTyped (tab : List ℕ) (s : Scope) (x : ℕ) (r : ℕ) : Type 0 where
-  pub says : (ts : List Token) (G : List Class) (Γ : Context) → InScope tab ts G Γ s → (text : List ℕ) → NameNumber ts text x → Means ts (meaning G Γ text) r
+  pub says : (ts : List Token) (G : List Class) (Γ : Context) → InScope tab ts G Γ s → (text : List ℕ) → NameNumber ts text x
+      → Means ts (meaning G Γ text) r

@@ -2,53 +2,44 @@
 use Prim.Native.Nat.{ℕ, _+_}
 use mathlib.Core.Path.{_≡_}
 use mathlib.Core.List.{List}
-use mathlib.Core.Bool.{true}
 use Rattle.base.specs.Outcome.{_>>=_}
-use Rattle.lexer.specs.Kinds.{isName}
 use Rattle.lexer.specs.Tokens.{Token}
-use Rattle.parser.specs.Tree.{Place, Sort.statements, Part, Part.assign, Part.assignElement, Part.conditional, Part.loop, Expression, Statement, Ty, Ty.int, Class}
-use Rattle.parser.specs.Stream.{kindAt}
+use Rattle.parser.specs.Tree.{Sort.statements, Part, Expression, Statement, Ty.int, Class}
 use Rattle.typesystem.specs.ClassTable.{Context}
-use Rattle.typesystem.specs.Judge.{judge, must, mustBeArray}
+use Rattle.typesystem.specs.Judge.{judge, must}
 use Rattle.lookup.specs.declared.answer.Judged.{Judged}
-use Rattle.lookup.specs.contracts.HeldClasses.{Codes}
+use Rattle.lookup.specs.contracts.HeldClasses.{wordAt}
 use Rattle.lookup.specs.contracts.Answers.{asJudged}
+use Rattle.lookup.specs.contracts.Shows.{Form}
 use Rattle.bodies.specs.declared.scope.Scope.{Scope}
-use Rattle.bodies.specs.contracts.Scoping.{InScope, PartAt}
+use Rattle.bodies.specs.contracts.Scoping.{InScope, PartIn, ShowsStatement}
 
 module _ (tab : List ℕ) (s : Scope) where
-  pub record StatementPost (left row : ℕ) (r : Judged) : Type 0 where
-    pub says : (ts : List Token) (G : List Class) (Γ : Context) → InScope tab ts G Γ s → (t : Statement) → PartAt tab ts row left t → r ≡ asJudged (judge G Γ t)
-
-  pub record ListPost (left row : ℕ) (r : Judged) : Type 0 where
-    pub says : (ts : List Token) (G : List Class) (Γ : Context) → InScope tab ts G Γ s → (ss : Part statements) → PartAt tab ts row left ss → r ≡ asJudged (judge G Γ ss)
-
-  pub record ConditionalPost (left row : ℕ) (r : Judged) : Type 0 where
-    pub says : (ts : List Token) (G : List Class) (Γ : Context) → InScope tab ts G Γ s → (p : Place) (e : Expression) (a b : Statement)
-        → PartAt tab ts row (left + 1) (conditional p e a b) → r ≡ asJudged (judge G Γ (conditional p e a b))
-
-  -- the branches of an `if`, after its test
-  pub record BranchesPost (left row : ℕ) (r : Judged) : Type 0 where
-    pub says : (ts : List Token) (G : List Class) (Γ : Context) → InScope tab ts G Γ s → (p : Place) (e : Expression) (a b : Statement)
-        → PartAt tab ts row (left + 1) (conditional p e a b) → r ≡ asJudged (judge G Γ a >>= λ _. judge G Γ b)
-
-  pub record LoopPost (left row : ℕ) (r : Judged) : Type 0 where
-    pub says : (ts : List Token) (G : List Class) (Γ : Context) → InScope tab ts G Γ s → (p : Place) (e : Expression) (a : Statement) → PartAt tab ts row (left + 1) (loop p e a)
-        → r ≡ asJudged (judge G Γ (loop p e a))
-
-  pub record AssignmentPost (left row : ℕ) (r : Judged) : Type 0 where
-    pub says : (ts : List Token) (G : List Class) (Γ : Context) → InScope tab ts G Γ s → (t : Statement) → PartAt tab ts row (left + 1) t → isName (kindAt ts row) ≡ true
+  pub record StatementPost (first end row : ℕ) (r : Judged) : Type 0 where
+    pub says : (ts : List Token) (G : List Class) (Γ : Context) → InScope tab ts G Γ s → (t : Statement) → PartIn tab ts row first end t
         → r ≡ asJudged (judge G Γ t)
 
-  -- an assignment to a variable of type t
-  pub record AssignedPost (left row target : ℕ) (r : Judged) : Type 0 where
-    pub whole : (ts : List Token) (G : List Class) (Γ : Context) → InScope tab ts G Γ s → (p : Place) (x : List ℕ) (e : Expression) → PartAt tab ts row (left + 1) (assign p x e)
-        → (t : Ty) → Codes ts t target → r ≡ asJudged (judge G Γ e >>= λ u. must G e t u)
-    pub element : (ts : List Token) (G : List Class) (Γ : Context) → InScope tab ts G Γ s → (p : Place) (x : List ℕ) (i e : Expression)
-        → PartAt tab ts row (left + 1) (assignElement p x i e) → (t : Ty) → Codes ts t target
-        → r ≡ asJudged (mustBeArray G Γ p t >>= λ _. judge G Γ i >>= λ u. must G i int u >>= λ _. judge G Γ e >>= λ u. must G e int u)
+  pub record ListPost (first end row : ℕ) (r : Judged) : Type 0 where
+    pub says : (ts : List Token) (G : List Class) (Γ : Context) → InScope tab ts G Γ s → (ss : Part statements)
+        → PartIn tab ts row first end ss → r ≡ asJudged (judge G Γ ss)
+
+  -- a statement whose row shows this form
+  abbrev pub StatementJudged : Form → (end row : ℕ) → Judged → Type 0
+  StatementJudged F end row r =
+      (ts : List Token) (G : List Class) (Γ : Context) → InScope tab ts G Γ s → (t : Statement) → ShowsStatement tab ts end row F t
+      → r ≡ asJudged (judge G Γ t)
+
+  pub record StatementNodePost (F : Form) (end row : ℕ) (r : Judged) : Type 0 where
+    pub says : StatementJudged F end row r
+
+  -- the branches of an `if`, after its test
+  pub record BranchesPost (end row : ℕ) (r : Judged) : Type 0 where
+    pub says : (ts : List Token) (G : List Class) (Γ : Context) → InScope tab ts G Γ s → (a b : Statement)
+        → PartIn tab ts (wordAt tab 5 row) (row + 1) end a → PartIn tab ts (wordAt tab 7 row) (row + 1) end b
+        → r ≡ asJudged (judge G Γ a >>= λ _. judge G Γ b)
 
   -- index and value
-  pub record ValuePost (left row : ℕ) (r : Judged) : Type 0 where
-    pub says : (ts : List Token) (G : List Class) (Γ : Context) → InScope tab ts G Γ s → (p : Place) (x : List ℕ) (i e : Expression)
-        → PartAt tab ts row (left + 1) (assignElement p x i e) → r ≡ asJudged (judge G Γ i >>= λ u. must G i int u >>= λ _. judge G Γ e >>= λ u. must G e int u)
+  pub record ValuePost (end row : ℕ) (r : Judged) : Type 0 where
+    pub says : (ts : List Token) (G : List Class) (Γ : Context) → InScope tab ts G Γ s → (i e : Expression)
+        → PartIn tab ts (wordAt tab 4 row) (row + 1) end i → PartIn tab ts (wordAt tab 5 row) (row + 1) end e
+        → r ≡ asJudged (judge G Γ i >>= λ u. must G i int u >>= λ _. judge G Γ e >>= λ u. must G e int u)

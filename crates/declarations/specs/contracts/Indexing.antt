@@ -14,9 +14,9 @@ use Rattle.lexer.specs.Tokens.{Token}
 use Rattle.parser.specs.Tree.{Class, Program}
 use Rattle.parser.specs.Stream.{kindAt}
 use Rattle.parser.specs.contracts.Layout.{absent, rowOf, rowClasses}
-use Rattle.reader.specs.laws.Counting.{covers}
 use Rattle.parser.specs.Read.{Reading}
 use Rattle.reader.specs.contracts.Holds.{Holds}
+use Rattle.reader.specs.contracts.Spans.{Spans}
 use Rattle.reader.specs.contracts.Matches.{NameMatches, Matches}
 use Rattle.reader.specs.contracts.ReadPost.{Filling}
 use Rattle.typesystem.specs.Declarations.{distinctClasses}
@@ -75,7 +75,7 @@ pub record Ready (tab : List ℕ) (n : ℕ) (ts : List Token) (p : Program) : Ty
   pub own : FoundByName (p .classes) (p .classes)
   pub statement : Holds tab (p .statement)
   pub matches : Matches ts (p .statement)
-  pub statement-covers : covers (p .statement) ≤ n
+  pub statement-within : Spans 14 n (p .statement)
   pub row : rowOf (p .statement) ≡ 14
 
 -- 20, and where that accepts, the table is ready

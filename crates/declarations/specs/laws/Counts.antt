@@ -28,9 +28,6 @@ module _ {ts : List Token} where
   formals-count no-formal = omega arith
   formals-count (some-formals d) = parameters-count d
 
-  pub head-count : {i j : ℕ} {v : Variable} → DerivesVariable ts i j v → i ≤ j
-  head-count d = omega (arith, variable-count d)
-
   pub method-count : {i j : ℕ} {m : Method} → DerivesMethod ts i j m → i + 1 ≤ j
   method-count (a-method _ head _ ps _ _ ls ss _ v _ _) =
       omega (arith, variable-count head, formals-count ps, variables-count ls, tree-nodes ss, tree-nodes v)

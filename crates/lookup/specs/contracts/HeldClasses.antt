@@ -12,8 +12,8 @@ use Rattle.lexer.specs.Tokens.{Token}
 use Rattle.lexer.specs.contracts.Rows.{firstNamed, Rows}
 use Rattle.parser.specs.Tree.{Name, Ty, Ty.int, Ty.boolean, Ty.intArray, Ty.class, Variable, Method, Class}
 use Rattle.parser.specs.contracts.Layout.{absent, rowOf, rowVariables, rowMethods, rowParent, rowClasses, headOf}
-use Rattle.reader.specs.laws.Counting.{covers}
 use Rattle.reader.specs.contracts.Holds.{Holds}
+use Rattle.reader.specs.contracts.Spans.{Spans}
 use Rattle.reader.specs.contracts.Matches.{NameMatches, ParentMatches, Matches, VariableMatches, TokenIs}
 use Rattle.lexer.specs.Kinds.{kOpen}
 use Rattle.typesystem.specs.ClassTable.{classNamed, chainWithin}
@@ -87,10 +87,10 @@ pub record MethodHeld (tab : List ℕ) (n : ℕ) (ts : List Token) (m : Method) 
   pub few-locals : length (m .locals) ≤ n
   pub body : Holds tab (m .body)
   pub body-matches : Matches ts (m .body)
-  pub body-covers : covers (m .body) ≤ n
+  pub body-within : Spans (m .name .row) n (m .body)
   pub value : Holds tab (m .value)
   pub value-matches : Matches ts (m .value)
-  pub value-covers : covers (m .value) ≤ n
+  pub value-within : Spans (m .name .row) n (m .value)
 
 pub data MethodsHeld (tab : List ℕ) (n : ℕ) (ts : List Token) : List Method → Type 0 where
   no-methods : MethodsHeld tab n ts []

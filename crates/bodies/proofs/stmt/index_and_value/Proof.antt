@@ -2,10 +2,13 @@
 use borrow.Author.Needs.{needs}
 use Rattle.bodies.proofs.stmt.index_and_value.Statement.{statement}
 use Rattle.bodies.proofs.stmt.index_and_value.Tie as tie
-use Rattle.bodies.proofs.StatementLaws.{value-second, value-first}
+use Rattle.bodies.proofs.StatementLaws.{value-first, value-second}
 
 word-requires : tie.Need-word-requires
 word-requires c κs = search needs
+
+add-operand : tie.Need-add-operand
+add-operand c = search needs
 
 operand-requires : tie.Need-operand-requires
 operand-requires c κs = search needs
@@ -15,6 +18,9 @@ enum-told c = search needs
 
 word-requires-2 : tie.Need-word-requires-2
 word-requires-2 c κs = search needs
+
+add-operand-2 : tie.Need-add-operand-2
+add-operand-2 c = search needs
 
 operand-requires-2 : tie.Need-operand-requires-2
 operand-requires-2 c κs = search needs
@@ -33,9 +39,11 @@ index-and-value-spec =
     tie.close
     (tie.spec
     word-requires
+    add-operand
     operand-requires
     enum-told
     word-requires-2
+    add-operand-2
     operand-requires-2
     enum-known-i
     returns

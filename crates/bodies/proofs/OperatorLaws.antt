@@ -1,0 +1,76 @@
+-- What the look-up in the table of operators returns meets its contract: the kind of a token tells the operator, a line tells the result.
+use Prim.Native.Nat.{ℕ}
+use mathlib.Core.Path.{_≡_, refl, sym, ap, _∙_, subst}
+use mathlib.Core.List.{List, [], _∷_}
+use lib.Dec.{eqb}
+use Rattle.base.specs.Choice.{if_then_else_}
+use Rattle.lexer.specs.Kinds.{kAnd, kLess, kPlus, kMinus}
+use Rattle.lexer.specs.Tokens.{Token}
+use Rattle.parser.specs.Tree.{Operator, Operator.and, Operator.less, Operator.plus, Operator.minus, Operator.times, Ty}
+use Rattle.reader.specs.contracts.Matches.{operatorKind}
+use Rattle.typesystem.specs.Operators.{line, resultIn, operation}
+use Rattle.lookup.specs.contracts.HeldClasses.{Lexemes, noType, Codes, code-int, code-boolean}
+use Rattle.lookup.specs.laws.HeldLaws.{same-codes, other-codes}
+use Rattle.bodies.specs.contracts.OperatorPost.{LinePost, has-line, no-line, Results, no-result, a-result, OperationPost}
+
+-- the operator of a kind
+operatorOf : ℕ → Operator
+operatorOf k =
+    if eqb k kAnd then (λ _. and) else λ _.
+    if eqb k kLess then (λ _. less) else λ _.
+    if eqb k kPlus then (λ _. plus) else λ _.
+    if eqb k kMinus then (λ _. minus) else λ _.
+    times
+
+of-kind : (o : Operator) → operatorOf (operatorKind o) ≡ o
+unfolding operatorOf
+of-kind and = refl
+of-kind less = refl
+of-kind plus = refl
+of-kind minus = refl
+of-kind times = refl
+
+-- a table of one line
+one-line : {tab : List ℕ} {n : ℕ} {ts : List Token} → Lexemes tab n ts → {want result : Ty} {left w x r : ℕ} → Codes ts want w
+    → Codes ts result x
+    → LinePost left w x r → (t : Ty) → Codes ts t left → Results ts (resultIn (line want result ∷ []) t) r
+unfolding resultIn
+one-line lx c d (has-line e) t h = rw (same-codes lx c h (sym e)) (a-result d)
+one-line lx c d (no-line f) t h = rw (other-codes lx c h (λ e. f (sym e))) (no-result refl)
+
+module _ {k left r : ℕ} where
+  -- the answer for one operator
+  only : (o : Operator) → k ≡ operatorKind o
+      → ((tab : List ℕ) (n : ℕ) (ts : List Token) → Lexemes tab n ts → (t : Ty) → Codes ts t left → Results ts (operation o t) r)
+      → OperationPost k left r
+  only o is f =
+      record {
+        says = λ tab n ts lx o′ is′ t c.
+            subst (λ (x : Operator). Results ts (operation x t) r) (sym (of-kind o) ∙ ap operatorOf (sym is ∙ is′) ∙ of-kind o′)
+            (f tab n ts lx t c);
+      }
+
+  pub conjoined : k ≡ 24 → LinePost left 2049 2049 r → OperationPost k left r
+  conjoined is f = only and is (λ tab n ts lx t c. one-line lx (code-boolean refl) (code-boolean refl) f t c)
+
+  pub compared : k ≡ 25 → LinePost left 2048 2049 r → OperationPost k left r
+  compared is f = only less is (λ tab n ts lx t c. one-line lx (code-int refl) (code-boolean refl) f t c)
+
+  pub added : k ≡ 26 → LinePost left 2048 2048 r → OperationPost k left r
+  added is f = only plus is (λ tab n ts lx t c. one-line lx (code-int refl) (code-int refl) f t c)
+
+  pub subtracted : k ≡ 27 → LinePost left 2048 2048 r → OperationPost k left r
+  subtracted is f = only minus is (λ tab n ts lx t c. one-line lx (code-int refl) (code-int refl) f t c)
+
+  pub multiplied : k ≡ 28 → LinePost left 2048 2048 r → OperationPost k left r
+  multiplied is f = only times is (λ tab n ts lx t c. one-line lx (code-int refl) (code-int refl) f t c)
+
+pub no-operator : {k left : ℕ} → (k ≡ 24 → ⊥) → (k ≡ 25 → ⊥) → (k ≡ 26 → ⊥) → (k ≡ 27 → ⊥) → (k ≡ 28 → ⊥) → OperationPost k left noType
+no-operator {k} {left} n₁ n₂ n₃ n₄ n₅ = record { says = λ tab n ts lx o is t c. absurd (go o is) }
+  where
+    go : (o : Operator) → k ≡ operatorKind o → ⊥
+    go and is = n₁ is
+    go less is = n₂ is
+    go plus is = n₃ is
+    go minus is = n₄ is
+    go times is = n₅ is

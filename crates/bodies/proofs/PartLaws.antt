@@ -1,0 +1,135 @@
+-- What the laws on expressions and on statements share: answers put together, and what a row shows of a part that lies in a range of
+-- tokens.
+use Prim.Native.Nat.{ℕ, _+_, _≤_, _<_}
+use native.Mathlib.Omega.{arith}
+use mathlib.Core.Path.{_≡_, refl, _∙_, subst}
+use mathlib.Core.List.{List}
+use lib.ListN.{length}
+use Rattle.base.specs.Outcome.{Outcome, accepted, refused, _>>=_}
+use Rattle.base.specs.laws.Tests.{apart}
+use Rattle.lexer.specs.Tokens.{Token}
+use Rattle.parser.specs.Tree.{Sort, Sort.arguments, Sort.statements, Part, Expression, Statement, placeE, Ty, Class}
+use Rattle.parser.specs.contracts.Layout.{absent}
+use Rattle.parser.specs.contracts.Post.{kindInTable}
+use Rattle.reader.specs.contracts.Spans.{Among, Spans}
+use Rattle.reader.specs.laws.SpanLaws.{inside, inside-statement}
+use Rattle.typing.specs.laws.Choices.{bind-assoc}
+use Rattle.typesystem.specs.ClassTable.{Context}
+use Rattle.lookup.specs.declared.answer.Judged.{Judged}
+use Rattle.lookup.specs.declared.answer.Judged.the-variants.{Fine, Refused}
+use Rattle.lookup.specs.contracts.HeldClasses.{wordAt, Codes}
+use Rattle.lookup.specs.contracts.Answers.{asJudged, asJudged-fine, asJudged-refused, Judges, well, ill}
+use Rattle.lookup.specs.contracts.Shows.{Form, formE, formS, GoesOn, one-more-argument, GoesOnS, one-more-statement}
+use Rattle.lookup.specs.laws.ShowLaws.{Bounds, BoundsS, shown, shownS, starts, goes-on, goes-onS}
+use Rattle.bodies.specs.declared.scope.Scope.{Scope}
+use Rattle.bodies.specs.contracts.Scoping.{InScope, PartIn, ShowsIn, ShowsStatement}
+
+-- ANSWERS
+
+pub judges-fine : {ts : List Token} {o : Outcome Ty} {v : Judged} {w : ℕ} → Judges ts o v → v ≡ Fine w
+    → (t : Ty) × (o ≡ accepted t) × Codes ts t w
+judges-fine {ts} {w = w} (well {t = t} {w = u} c) e = let z : u ≡ w = cc in (t, refl, subst (Codes ts t) z c)
+judges-fine ill e = apart (cc)
+
+pub judges-refused : {ts : List Token} {o : Outcome Ty} {v : Judged} {n p : ℕ} → Judges ts o v → v ≡ Refused n p → o ≡ refused n p
+judges-refused (well c) e = apart (cc)
+judges-refused ill e = cc
+
+pub judged-refused : {ts : List Token} {o : Outcome Ty} {n p : ℕ} → o ≡ refused n p → Judges ts o (Refused n p)
+judged-refused e = rw e ill
+
+pub judged-fine : {ts : List Token} {o : Outcome Ty} {t : Ty} {w : ℕ} → o ≡ accepted t → Codes ts t w → Judges ts o (Fine w)
+judged-fine e c = rw e (well c)
+
+-- the answer for a part that must fit, and what follows
+pub goes : {A : Type 0} (o : Outcome Ty) (test : Ty → Outcome (Unit {0})) (next : Outcome A) {v : Judged} {w : ℕ}
+    → v ≡ asJudged (o >>= test) → v ≡ Fine w
+    → (o >>= λ t. test t >>= λ _. next) ≡ next
+goes o test next e is = bind-assoc o test (λ _. next) ∙ rest
+  where
+    rest : (o >>= test >>= λ _. next) ≡ next
+    rest = rw (asJudged-fine (o >>= test) e is)
+
+pub halts : {A : Type 0} (o : Outcome Ty) (test : Ty → Outcome (Unit {0})) (next : Outcome A) {v : Judged} {n p : ℕ}
+    → v ≡ asJudged (o >>= test) → v ≡ Refused n p
+    → (o >>= λ t. test t >>= λ _. next) ≡ refused n p
+halts o test next {n = n} {p = p} e is = bind-assoc o test (λ _. next) ∙ rest
+  where
+    rest : (o >>= test >>= λ _. next) ≡ refused n p
+    rest = rw (asJudged-refused (o >>= test) e is)
+
+-- RANGES
+
+-- the range of a part, by the row of its whole
+before : {q : Sort} (first : ℕ) (t : Part q) {r row : ℕ} → r ≡ row → Spans first r t → Spans first row t
+before first t at h = subst (λ (i : ℕ). Spans first i t) at h
+
+behind : {q : Sort} (end : ℕ) (t : Part q) {r row : ℕ} → r ≡ row → Spans (r + 1) end t → Spans (row + 1) end t
+behind end t at h = subst (λ (i : ℕ). Spans (i + 1) end t) at h
+
+module _ (first end row : ℕ) where
+  ranges : Bounds row (λ (q : Sort). Spans {s = q} first end) (λ (q : Sort). Spans {s = q} first row)
+      (λ (q : Sort). Spans {s = q} (row + 1) end)
+  unfolding Spans
+  ranges =
+      record {
+        of-new-array = λ {p} {e} at h. behind end e at (h .1);
+        of-negation = λ {p} {e} at h. behind end e at (h .1);
+        of-binary = λ {p} {o} {l} {r} at h. (before first l at (h .1), behind end r at (h .2));
+        of-element = λ {p} {a} {i} at h. (before first a at (h .1), behind end i at (h .2));
+        of-length = λ {p} {e} at h. before first e at (h .1);
+        of-call = λ {p} {e} {m} {es} at h. (before first e at (h .1), behind end es at (h .2));
+      }
+
+  rangesS : BoundsS row (λ (q : Sort). Spans {s = q} first end) (λ (q : Sort). Spans {s = q} (row + 1) end)
+  unfolding Spans
+  rangesS =
+      record {
+        of-block = λ {p} {ss} at h. behind end ss at (h .1);
+        of-conditional = λ {p} {e} {s} {t} at h. (behind end e at (h .1), behind end s at (h .2), behind end t at (h .3));
+        of-loop = λ {p} {e} {s} at h. (behind end e at (h .1), behind end s at (h .2));
+        of-print = λ {p} {e} at h. behind end e at (h .1);
+        of-assignment = λ {p} {x} {e} at h. behind end e at (h .1);
+        of-element-store = λ {p} {x} {i} {e} at h. (behind end i at (h .1), behind end e at (h .2));
+      }
+
+  -- a list that stands in a row: one member and the rest, in their ranges; so the row is among those of the range
+  module _ {tab : List ℕ} {ts : List Token} (near : row < absent) where
+    pub one-more : (es : Part arguments) → PartIn tab ts row first end es → GoesOn tab ts row (Spans first end) (Spans (row + 1) end) es
+    unfolding Spans
+    one-more es h = goes-on (λ e xs at w. (w .0, behind end xs at (w .1))) near es h
+
+    pub lies : (es : Part arguments) → PartIn tab ts row first end es → Among first end row
+    lies es h = go es (one-more es h)
+      where
+        go : (xs : Part arguments) → GoesOn tab ts row (Spans first end) (Spans (row + 1) end) xs → Among first end row
+        go xs (one-more-argument {e = e} x y) = subst (Among first end) (x .at) (inside e (x .within))
+
+    pub one-moreS : (ss : Part statements) → PartIn tab ts row first end ss → GoesOnS tab ts row (Spans first end) (Spans (row + 1) end) ss
+    unfolding Spans
+    one-moreS ss h = goes-onS (λ t xs at w. (w .0, behind end xs at (w .1))) near ss h
+
+    pub liesS : (ss : Part statements) → PartIn tab ts row first end ss → Among first end row
+    liesS ss h = go ss (one-moreS ss h)
+      where
+        go : (xs : Part statements) → GoesOnS tab ts row (Spans first end) (Spans (row + 1) end) xs → Among first end row
+        go xs (one-more-statement {t = t} x y) = subst (Among first end) (x .at) (inside-statement t (x .within))
+
+-- WHAT A ROW SHOWS
+
+pub few-tokens : {tab : List ℕ} {ts : List Token} {G : List Class} {Γ : Context} {s : Scope} → InScope tab ts G Γ s → length ts ≤ 2048
+few-tokens i = omega (arith, i .world .tokens .count, i .world .tokens .few)
+
+module _ {tab : List ℕ} {ts : List Token} {G : List Class} {Γ : Context} {s : Scope} (i : InScope tab ts G Γ s) (first end : ℕ)
+    {row : ℕ} where
+  pub seen-in : {F : Form} → formE (kindInTable tab (s .tokens) row) (kindInTable tab (s .tokens) (row + 1)) ≡ F → (e : Expression)
+      → PartIn tab ts row first end e → ShowsIn tab ts (s .tokens) first end row F e
+  seen-in f e h = shown (i .world .tokens) row _ _ _ (ranges first end row) f e h
+
+  pub seen-inS : {F : Form} → formS (kindInTable tab (s .tokens) row) (kindInTable tab (s .tokens) (row + 1)) ≡ F → (t : Statement)
+      → PartIn tab ts row first end t → ShowsStatement tab ts end row F t
+  seen-inS f t h = shownS (i .world .tokens) row _ _ (rangesS first end row) f t h
+
+  -- where an expression that lies in a row begins
+  pub start-of : {e : Expression} → PartIn tab ts row first end e → wordAt tab 3 row ≡ placeE e .start
+  start-of {e} h = starts (seen-in refl e h)
