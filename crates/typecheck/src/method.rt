@@ -11,6 +11,7 @@ use lookup::rows::word;
 use lookup::types::type_of;
 use parser::columns;
 use parser::columns::ABSENT;
+use parser::columns::NEXT;
 ghost use Prim.Native.Nat.{_≤_, _<_};
 ghost use lib.ListN.{length};
 ghost use Rattle.reader.specs.contracts.WalkPost.{Walkable};
@@ -87,7 +88,7 @@ fn methods(
             classes,
             left - 1,
             owner,
-            word(table, columns::NEXT, row),
+            word(table, NEXT, row),
         ),
         Judged::Refused(number, at) => Judged::Refused(number, at),
     }
@@ -127,14 +128,7 @@ fn all(
     }
     let c = of_class(table, fields, n, classes, row);
     match c {
-        Judged::Fine(_) => all(
-            table,
-            fields,
-            n,
-            classes,
-            left - 1,
-            word(table, columns::NEXT, row),
-        ),
+        Judged::Fine(_) => all(table, fields, n, classes, left - 1, word(table, NEXT, row)),
         Judged::Refused(number, at) => Judged::Refused(number, at),
     }
 }
@@ -168,7 +162,7 @@ pub fn bodies(table: &[u32], n: usize, classes: usize) -> Judged
             n,
             classes,
             n,
-            word(table, columns::NEXT, columns::CLASS_LIST),
+            word(table, NEXT, columns::CLASS_LIST),
         ),
         Judged::Refused(number, at) => Judged::Refused(number, at),
     }
