@@ -22,15 +22,16 @@ use Rattle.parser.specs.contracts.Layout.{absent, rowOf, rowVariables}
 use Rattle.parser.specs.contracts.Post.{isAtom, kindInTable}
 use Rattle.reader.specs.contracts.Spans.{Spans}
 use Rattle.reader.specs.laws.SpanLaws.{inside}
-use Rattle.typesystem.specs.ClassTable.{Found, Context, Meaning, meaningType, chain, methodOf, meaning}
+use Rattle.typesystem.specs.ClassTable.{Found, Context, chain, methodOf}
 use Rattle.typesystem.specs.Judge.{judge, must, receiver, arity, invocation}
 use Rattle.lookup.specs.declared.answer.Judged.{Judged}
 use Rattle.lookup.specs.declared.answer.Judged.the-variants.{Fine, Refused}
 use Rattle.lookup.specs.contracts.HeldClasses.{wordAt, NameNumber, MaybeNumber, no-name, a-name, noType, VariablesHeld, more-variables}
 use Rattle.lookup.specs.contracts.HeldClasses.{MethodHeld, Codes, code-int, code-boolean, code-intArray, code-class, ListedAt}
-use Rattle.lookup.specs.laws.HeldLaws.{word-in, row-there, codes-below}
+use Rattle.lookup.specs.laws.HeldLaws.{word-in, row-there}
 use Rattle.lookup.specs.contracts.Lookups.{TypeOf, Knows, Fits, rowFound, FindsMethod}
 use Rattle.lookup.specs.laws.ChainLaws.{found-stands}
+use Rattle.lookup.specs.laws.VariableLaws.{typed-some, typed-none}
 use Rattle.lookup.specs.contracts.Answers.{asJudged, asJudged-fine, asJudged-refused, Judges, well, ill}
 use Rattle.lookup.specs.contracts.Shows.{PartAt, Form, aVariable, aNewArray, aNewObject, aNegation, aBinary, anElement, aLength, aCall}
 use Rattle.lookup.specs.contracts.Shows.{aLiteral, aTruth, aThis, formAtom, formCompound, formE, GoesOn, one-more-argument}
@@ -38,8 +39,8 @@ use Rattle.lookup.specs.contracts.Shows.{shows-literal, shows-truth, shows-vari
 use Rattle.lookup.specs.contracts.Shows.{shows-negation, shows-binary, shows-element, shows-length, shows-call}
 use Rattle.lookup.specs.laws.ShowLaws.{goes-on, ended}
 use Rattle.bodies.specs.declared.scope.Scope.{Scope}
-use Rattle.bodies.specs.contracts.Scoping.{InScope, PartIn, Means, unmeant, meant, NameTyped}
-use Rattle.bodies.specs.contracts.OperatorPost.{Results, no-result, a-result, OperationPost}
+use Rattle.bodies.specs.contracts.Scoping.{InScope, PartIn, NameTyped}
+use Rattle.bodies.specs.contracts.OperatorPost.{OperationPost}
 use Rattle.bodies.specs.contracts.ExpressionPost.{Invoked, NamePost, ThisPost, NodeJudged, NodePost, AtomPost, CreationPost}
 use Rattle.bodies.specs.contracts.ExpressionPost.{DottedPost, ExpressionPost, OperandPost, SinglePost, InvocationPost, ArgumentsPost}
 use Rattle.bodies.specs.contracts.ExpressionPost.{ObjectPost, SameCount}
@@ -56,21 +57,18 @@ formed {tab} {s} {first = first} {end = end} {row = row} {r = r} e f = subst (λ
 module _ {tab : List ℕ} {s : Scope} {row : ℕ} where
   module _ {x t : ℕ} (e₂ : x ≡ wordAt tab 2 row) (h : NameTyped tab s x t) where
     pub name-known : t < noType → NamePost tab s row (Fine t)
-    name-known low = record { says = λ ts G Γ i p y st sp. go (p .start) (meaning G Γ y) (h .says ts G Γ i y (rw e₂ sp)) }
-      where
-        go : {ts : List Token} (p : ℕ) (o : Option Meaning) → Means ts o t
-            → Judges ts (option o (refused nameUnknown p) λ m. accepted (meaningType m)) (Fine t)
-        go p none (unmeant q) = absurd (omega arith)
-        go p (some m) (meant c) = well c
+    name-known low =
+        record {
+          says = λ ts G Γ i p y st sp.
+              let w = typed-some low (h .says ts G Γ i y (rw e₂ sp)) in
+              rw (w .1) (well (w .2));
+        }
 
     pub name-unknown : noType ≤ t → {at₃ : ℕ} → at₃ ≡ wordAt tab 3 row → NamePost tab s row (Refused nameUnknown at₃)
-    name-unknown high {at₃} e₃ =
-        record { says = λ ts G Γ i p y st sp. go (few-tokens i) (meaning G Γ y) (sym st ∙ sym e₃) (h .says ts G Γ i y (rw e₂ sp)) }
-      where
-        go : {ts : List Token} → length ts ≤ 2048 → {p : ℕ} (o : Option Meaning) → p ≡ at₃ → Means ts o t
-            → Judges ts (option o (refused nameUnknown p) λ m. accepted (meaningType m)) (Refused nameUnknown at₃)
-        go few none z (unmeant q) = rw z ill
-        go few (some m) z (meant c) = absurd (omega (arith, codes-below few c))
+    name-unknown high e₃ =
+        record {
+          says = λ ts G Γ i p y st sp. rw (typed-none (few-tokens i) high (h .says ts G Γ i y (rw e₂ sp)), e₃, st) ill;
+        }
 
   pub this-main : {at₃ : ℕ} → absent ≤ s .owner → at₃ ≡ wordAt tab 3 row → ThisPost tab s row (Refused thisInMain at₃)
   unfolding judge
@@ -347,18 +345,12 @@ module _ {tab : List ℕ} {s : Scope} {first end row left : ℕ} (e₄ : left �
     unfolding judge
     binary-wrong high {at₃} e₃ = record { says = go }
       where
-        pick : {ts : List Token} → length ts ≤ 2048 → {o : Option Ty} → Results ts o answer → {p : ℕ} → p ≡ at₃ → (rest : Ty → Outcome Ty)
-            → Judges ts (option o (refused wrongType p) rest) (Refused wrongType at₃)
-        pick few (no-result q) z rest = rw z ill
-        pick few (a-result c) z rest = absurd (omega (arith, codes-below few c))
-
         go : NodeJudged tab s aBinary first end row (Refused wrongType at₃)
         go ts G Γ i e (shows-binary {o = o} {l = l} st is′ x y) =
             let h : PartIn tab ts left first row l = rw e₄ x in
             let w = judges-fine (f .says ts G Γ i l h) is in
-            rw (w .1)
-            (pick (few-tokens i) (g .says tab (s .tokens) ts (i .world .tokens) o (kind ∙ is′) (w .0) (w .2))
-            (sym (start-of i first row h) ∙ sym e₃) _)
+            let z = typed-none (few-tokens i) high (g .says tab (s .tokens) ts (i .world .tokens) o (kind ∙ is′) (w .0) (w .2)) in
+            rw (w .1, z, e₃, start-of i first row h) ill
 
     pub binary-right : answer < noType → {right : ℕ} → right ≡ wordAt tab 5 row → {r : Judged}
         → SinglePost tab s (row + 1) end right t answer r
@@ -366,17 +358,11 @@ module _ {tab : List ℕ} {s : Scope} {first end row left : ℕ} (e₄ : left �
     unfolding judge
     binary-right low e₅ {r} h = record { says = go }
       where
-        pick : {ts : List Token} {o : Option Ty} → Results ts o answer → (bad : Outcome Ty) (rest : Ty → Outcome Ty)
-            → ((u : Ty) → Codes ts u answer → Judges ts (rest u) r) → Judges ts (option o bad rest) r
-        pick (no-result q) bad rest good = absurd (omega arith)
-        pick (a-result {t = u} c) bad rest good = good u c
-
         go : NodeJudged tab s aBinary first end row r
         go ts G Γ i e (shows-binary {o = o} {l = l} {r = m} st is′ x y) =
             let w = judges-fine (f .says ts G Γ i l (rw e₄ x)) is in
-            rw (w .1)
-            (pick (g .says tab (s .tokens) ts (i .world .tokens) o (kind ∙ is′) (w .0) (w .2)) _ _
-            (λ u c. h .says ts G Γ i m (rw e₅ y) (w .0) u (w .2) c))
+            let u = typed-some low (g .says tab (s .tokens) ts (i .world .tokens) o (kind ∙ is′) (w .0) (w .2)) in
+            rw (w .1, u .1) (h .says ts G Γ i m (rw e₅ y) (w .0) (u .0) (w .2) (u .2))
 
 -- `new` AND `.`
 

@@ -10,8 +10,9 @@ use Rattle.parser.specs.Tree.{Operator, Operator.and, Operator.less, Operator.p
 use Rattle.reader.specs.contracts.Matches.{operatorKind}
 use Rattle.typesystem.specs.Operators.{line, resultIn, operation}
 use Rattle.lookup.specs.contracts.HeldClasses.{Lexemes, noType, Codes, code-int, code-boolean}
+use Rattle.lookup.specs.contracts.Lookups.{LookedUp, untyped, typed}
 use Rattle.lookup.specs.laws.HeldLaws.{same-codes, other-codes}
-use Rattle.bodies.specs.contracts.OperatorPost.{LinePost, has-line, no-line, Results, no-result, a-result, OperationPost}
+use Rattle.bodies.specs.contracts.OperatorPost.{LinePost, has-line, no-line, OperationPost}
 
 -- the operator of a kind
 operatorOf : ℕ → Operator
@@ -33,20 +34,22 @@ of-kind times = refl
 -- a table of one line
 one-line : {tab : List ℕ} {n : ℕ} {ts : List Token} → Lexemes tab n ts → {want result : Ty} {left w x r : ℕ} → Codes ts want w
     → Codes ts result x
-    → LinePost left w x r → (t : Ty) → Codes ts t left → Results ts (resultIn (line want result ∷ []) t) r
+    → LinePost left w x r → (t : Ty) → Codes ts t left → LookedUp ts (λ (u : Ty). u) (resultIn (line want result ∷ []) t) r
 unfolding resultIn
-one-line lx c d (has-line e) t h = rw (same-codes lx c h (sym e)) (a-result d)
-one-line lx c d (no-line f) t h = rw (other-codes lx c h (λ e. f (sym e))) (no-result refl)
+one-line lx c d (has-line e) t h = rw (same-codes lx c h (sym e)) (typed d)
+one-line lx c d (no-line f) t h = rw (other-codes lx c h (λ e. f (sym e))) (untyped refl)
 
 module _ {k left r : ℕ} where
   -- the answer for one operator
   only : (o : Operator) → k ≡ operatorKind o
-      → ((tab : List ℕ) (n : ℕ) (ts : List Token) → Lexemes tab n ts → (t : Ty) → Codes ts t left → Results ts (operation o t) r)
+      → ((tab : List ℕ) (n : ℕ) (ts : List Token) → Lexemes tab n ts → (t : Ty) → Codes ts t left
+      → LookedUp ts (λ (u : Ty). u) (operation o t) r)
       → OperationPost k left r
   only o is f =
       record {
         says = λ tab n ts lx o′ is′ t c.
-            subst (λ (x : Operator). Results ts (operation x t) r) (sym (of-kind o) ∙ ap operatorOf (sym is ∙ is′) ∙ of-kind o′)
+            subst (λ (x : Operator). LookedUp ts (λ (u : Ty). u) (operation x t) r)
+            (sym (of-kind o) ∙ ap operatorOf (sym is ∙ is′) ∙ of-kind o′)
             (f tab n ts lx t c);
       }
 

@@ -10,11 +10,11 @@ use Rattle.lexer.specs.Tokens.{Token}
 use Rattle.parser.specs.Tree.{Variable, Class}
 use Rattle.typesystem.specs.ClassTable.{Slot, Context, ofObject, variableNamed, chain, nearestField, meaning}
 use Rattle.lookup.specs.contracts.HeldClasses.{Lexemes, NameNumber, noType, chainFrom, ListedAt}
-use Rattle.lookup.specs.contracts.Lookups.{SlotTyped, typed, VariableTyped}
+use Rattle.lookup.specs.contracts.Lookups.{SlotTyped, untyped, typed, VariableTyped}
 use Rattle.lookup.specs.contracts.Fields.{Tells, no-field, a-field, FieldsHeld}
 use Rattle.lookup.specs.laws.VariableLaws.{typed-some, typed-none, variable-left, variable-right}
 use Rattle.bodies.specs.declared.scope.Scope.{Scope}
-use Rattle.bodies.specs.contracts.Scoping.{InScope, Means, unmeant, meant, NameTyped}
+use Rattle.bodies.specs.contracts.Scoping.{InScope, Means, NameTyped}
 
 -- what a list of variables says of a name
 listed : {tab : List ℕ} {n x t : ℕ} (row : ℕ) → VariableTyped tab n n row x t → {ts : List Token} → Lexemes tab n ts → {vs : List Variable} → ListedAt tab n ts row vs
@@ -24,7 +24,7 @@ listed row v {ts} lx {vs} l text sp = v .says ts lx vs (l .at) (l .stand) (l .fe
 -- a variable is what the name means
 variable-means : {ts : List Token} (G : List Class) (Γ : Context) (text : List ℕ) {t : ℕ} → t < noType → SlotTyped ts (variableNamed (Γ .variables) text) t → Means ts (meaning G Γ text) t
 unfolding meaning
-variable-means G Γ text low h = let w = typed-some low h in rw (w .1) (meant (w .2))
+variable-means G Γ text low h = let w = typed-some low h in rw (w .1) (typed (w .2))
 
 -- else it is a field
 field-means : {ts : List Token} (G : List Class) (Γ : Context) (text : List ℕ) {t p : ℕ} → variableNamed (Γ .variables) text ≡ none
@@ -33,12 +33,12 @@ unfolding meaning chain nearestField
 field-means {ts} G Γ text {t} {p} e h = rw e (go (Γ .owner) h)
   where
     pick : (o : Option Slot) → Tells ts o t p → Means ts (option o none λ s. some (ofObject s)) t
-    pick none (no-field q) = unmeant q
-    pick (some s) (a-field c q) = meant c
+    pick none (no-field q) = untyped q
+    pick (some s) (a-field c q) = typed c
 
     go : (owner : Option (List ℕ)) → Tells ts (nearestField (chainFrom (length G) G owner) text) t p
         → Means ts (option owner none λ c. option (nearestField (chain G c) text) none λ s. some (ofObject s)) t
-    go none (no-field q) = unmeant q
+    go none (no-field q) = untyped q
     go (some c) h = pick (nearestField (chain G c) text) h
 
 module _ {tab : List ℕ} {s : Scope} {x t : ℕ} (first : VariableTyped tab (s .tokens) (s .tokens) (s .parameters) x t) where

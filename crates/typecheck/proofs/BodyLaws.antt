@@ -5,6 +5,7 @@ use mathlib.Core.Path.{_≡_, refl, sym, ap, _∙_, subst}
 use mathlib.Core.List.{List, [], _∷_, map}
 use lib.ListN.{length}
 use Rattle.base.specs.Outcome.{_>>=_}
+use Rattle.base.specs.contracts.Table.{col}
 use Rattle.lexer.specs.Tokens.{Token}
 use Rattle.parser.specs.Tree.{Method, Class, Program}
 use Rattle.parser.specs.contracts.Layout.{absent, rowVariables, rowMethods, rowClasses}
@@ -30,12 +31,21 @@ use Rattle.typecheck.specs.contracts.MethodPost.{CarriedJudged, BodyJudg
 
 -- STATEMENTS AND RETURN EXPRESSION
 
-module _ {tab : List ℕ} {s : Scope} {row first : ℕ} (e₄ : first ≡ wordAt tab 4 (row + 1)) {v : Judged} (f : ListPost tab s row (s .tokens) first v) where
-  statements : (ts : List Token) (G : List Class) (Γ : Context) → InScope tab ts G Γ s → (m : Method) → m .name .row ≡ row → MethodHeld tab (s .tokens) ts m → v ≡ asJudged (judge G Γ (m .body))
+-- what a column of the row after a method's name leads to
+led : {tab : List ℕ} {n : ℕ} {ts : List Token} → Lexemes tab n ts → {m : Method} {row : ℕ} → m .name .row ≡ row → MethodHeld tab n ts m
+    → (k : ℕ) {v w : ℕ} → col tab k (m .name .row + 1) ≡ v → w ≡ wordAt tab k (row + 1) → v ≡ w
+led {tab} lx {m} at st k e d =
+    sym (word-in tab k (m .name .row + 1) (row-there lx (m .name .row + 1) (st .after .there)) e)
+    ∙ ap (λ (i : ℕ). wordAt tab k (i + 1)) at ∙ sym d
+
+module _ {tab : List ℕ} {s : Scope} {row first : ℕ} (e₄ : first ≡ wordAt tab 4 (row + 1)) {v : Judged}
+    (f : ListPost tab s row (s .tokens) first v) where
+  statements : (ts : List Token) (G : List Class) (Γ : Context) → InScope tab ts G Γ s → (m : Method) → m .name .row ≡ row
+      → MethodHeld tab (s .tokens) ts m → v ≡ asJudged (judge G Γ (m .body))
   statements ts G Γ sc m at st =
       f .says ts G Γ sc (m .body)
       (record {
-        at = sym (word-in tab 4 (m .name .row + 1) (row-there (sc .world .tokens) (m .name .row + 1) (st .after .there)) (st .start)) ∙ ap (λ (i : ℕ). wordAt tab 4 (i + 1)) at ∙ sym e₄;
+        at = led (sc .world .tokens) at st 4 (st .start) e₄;
         holds = st .body;
         matches = st .body-matches;
         within = subst (λ (i : ℕ). Spans i (s .tokens) (m .body)) at (st .body-within);
@@ -58,7 +68,7 @@ module _ {tab : List ℕ} {s : Scope} {row first : ℕ} (e₄ : first ≡ wordAt
             rw (goes-on (judge G Γ (m .body)) (λ _. judge G Γ (m .value) >>= λ t. must G (m .value) (m .result .type) t) (statements ts G Γ sc m at st) is)
             (g .says ts G Γ sc (m .value)
             (record {
-              at = sym (word-in tab 5 (m .name .row + 1) (row-there (sc .world .tokens) (m .name .row + 1) (st .after .there)) (st .return)) ∙ ap (λ (i : ℕ). wordAt tab 5 (i + 1)) at ∙ sym e₅;
+              at = led (sc .world .tokens) at st 5 (st .return) e₅;
               holds = st .value;
               matches = st .value-matches;
               within = subst (λ (i : ℕ). Spans i (s .tokens) (m .value)) at (st .value-within);

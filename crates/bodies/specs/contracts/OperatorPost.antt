@@ -2,23 +2,18 @@
 use Prim.Native.Nat.{ℕ}
 use mathlib.Core.Path.{_≡_}
 use mathlib.Core.List.{List}
-use mathlib.Core.Option.{Option, none, some}
 use Rattle.lexer.specs.Tokens.{Token}
 use Rattle.parser.specs.Tree.{Operator, Ty}
 use Rattle.reader.specs.contracts.Matches.{operatorKind}
 use Rattle.typesystem.specs.Operators.{operation}
 use Rattle.lookup.specs.contracts.HeldClasses.{Lexemes, noType, Codes}
+use Rattle.lookup.specs.contracts.Lookups.{LookedUp}
 
 -- one line: a left operand of type `want` makes `result`
 pub data LinePost (left want result : ℕ) : ℕ → Type 0 where
   has-line : left ≡ want → LinePost left want result result
   no-line : (left ≡ want → ⊥) → LinePost left want result noType
 
--- the type of a result, or of none, by number
-pub data Results (ts : List Token) : Option Ty → ℕ → Type 0 where
-  no-result : {w : ℕ} → w ≡ noType → Results ts none w
-  a-result : {t : Ty} {w : ℕ} → Codes ts t w → Results ts (some t) w
-
 pub record OperationPost (kind left r : ℕ) : Type 0 where
   pub says : (tab : List ℕ) (n : ℕ) (ts : List Token) → Lexemes tab n ts → (o : Operator) → kind ≡ operatorKind o
-      → (t : Ty) → Codes ts t left → Results ts (operation o t) r
+      → (t : Ty) → Codes ts t left → LookedUp ts (λ (u : Ty). u) (operation o t) r

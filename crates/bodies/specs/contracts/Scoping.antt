@@ -2,14 +2,15 @@
 use Prim.Native.Nat.{ℕ, _+_, _≤_}
 use mathlib.Core.Path.{_≡_}
 use mathlib.Core.List.{List, _++_}
-use mathlib.Core.Option.{Option, none, some}
+use mathlib.Core.Option.{Option}
 use lib.ListN.{length}
 use Rattle.lexer.specs.Tokens.{Token}
 use Rattle.parser.specs.Tree.{Sort, Part, Expression, Statement, Variable, Class}
 use Rattle.reader.specs.contracts.Spans.{Spans}
 use Rattle.reader.specs.contracts.WalkPost.{Walkable}
 use Rattle.typesystem.specs.ClassTable.{Context, Meaning, meaning, meaningType}
-use Rattle.lookup.specs.contracts.HeldClasses.{NameNumber, MaybeNumber, noType, Codes, ClassTableHeld, ListedAt}
+use Rattle.lookup.specs.contracts.HeldClasses.{NameNumber, MaybeNumber, ClassTableHeld, ListedAt}
+use Rattle.lookup.specs.contracts.Lookups.{LookedUp}
 use Rattle.lookup.specs.contracts.Fields.{FieldsHeld}
 use Rattle.lookup.specs.contracts.Shows.{PartAt, Form, Shows, ShowsS}
 use Rattle.bodies.specs.declared.scope.Scope.{Scope}
@@ -44,9 +45,8 @@ abbrev pub ShowsStatement : (tab : List ℕ) (ts : List Token) (end row : ℕ) �
 ShowsStatement tab ts end row = ShowsS tab ts row (λ (q : Sort). Spans {s = q} (row + 1) end)
 
 -- the type of what a name means, by number
-pub data Means (ts : List Token) : Option Meaning → ℕ → Type 0 where
-  unmeant : {w : ℕ} → w ≡ noType → Means ts none w
-  meant : {m : Meaning} {w : ℕ} → Codes ts (meaningType m) w → Means ts (some m) w
+abbrev pub Means : List Token → Option Meaning → ℕ → Type 0
+Means ts o w = LookedUp ts meaningType o w
 
 pub record NameTyped (tab : List ℕ) (s : Scope) (x : ℕ) (r : ℕ) : Type 0 where
   pub says : (ts : List Token) (G : List Class) (Γ : Context) → InScope tab ts G Γ s → (text : List ℕ) → NameNumber ts text x

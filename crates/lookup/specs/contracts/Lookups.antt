@@ -29,10 +29,14 @@ pub record Fits (tab : List ℕ) (n classes v w : ℕ) (r : Bool) : Type 0 where
 
 -- MEMBERS
 
--- the type of a variable that was looked for, by number
-pub data SlotTyped (ts : List Token) : Option Slot → ℕ → Type 0 where
-  untyped : {w : ℕ} → w ≡ noType → SlotTyped ts none w
-  typed : {s : Slot} {w : ℕ} → Codes ts (s .type) w → SlotTyped ts (some s) w
+-- the type of what was looked for, by number
+pub data LookedUp {A : Type 0} (ts : List Token) (type : A → Ty) : Option A → ℕ → Type 0 where
+  untyped : {w : ℕ} → w ≡ noType → LookedUp ts type none w
+  typed : {a : A} {w : ℕ} → Codes ts (type a) w → LookedUp ts type (some a) w
+
+-- of a variable
+abbrev pub SlotTyped : List Token → Option Slot → ℕ → Type 0
+SlotTyped ts o w = LookedUp ts (λ (s : Slot). s .type) o w
 
 pub record VariableTyped (tab : List ℕ) (n left row x : ℕ) (r : ℕ) : Type 0 where
   pub says : (ts : List Token) → Lexemes tab n ts → (vs : List Variable) → rowVariables vs ≡ row → VariablesHeld tab ts vs → length vs ≤ left

@@ -9,19 +9,21 @@ use lib.ListN.{length}
 use Rattle.base.specs.Choice.{if_then_else_, option}
 use Rattle.base.specs.Bytes.{same}
 use Rattle.lexer.specs.Tokens.{Token}
-use Rattle.parser.specs.Tree.{Variable}
+use Rattle.parser.specs.Tree.{Ty, Variable}
 use Rattle.parser.specs.contracts.Layout.{absent, rowVariables}
 use Rattle.typesystem.specs.ClassTable.{Slot, moved, variableNamed}
 use Rattle.typing.specs.laws.Choices.{none-some}
 use Rattle.lookup.specs.contracts.HeldClasses.{Lexemes, noType, Codes, VariablesHeld, no-variables, more-variables}
 use Rattle.lookup.specs.laws.HeldLaws.{row-there, codes-below}
-use Rattle.lookup.specs.contracts.Lookups.{SlotTyped, untyped, typed, Many, many-none, many-more}
+use Rattle.lookup.specs.contracts.Lookups.{LookedUp, SlotTyped, untyped, typed, Many, many-none, many-more}
 
-pub typed-some : {ts : List Token} {o : Option Slot} {t : ℕ} → t < noType → SlotTyped ts o t → (s : Slot) × (o ≡ some s) × Codes ts (s .type) t
+pub typed-some : {A : Type 0} {ts : List Token} {type : A → Ty} {o : Option A} {t : ℕ} → t < noType → LookedUp ts type o t
+    → (a : A) × (o ≡ some a) × Codes ts (type a) t
 typed-some low (untyped e) = absurd (omega arith)
-typed-some low (typed {s = s} c) = (s, refl, c)
+typed-some low (typed {a = a} c) = (a, refl, c)
 
-pub typed-none : {ts : List Token} {o : Option Slot} {t : ℕ} → length ts ≤ 2048 → noType ≤ t → SlotTyped ts o t → o ≡ none
+pub typed-none : {A : Type 0} {ts : List Token} {type : A → Ty} {o : Option A} {t : ℕ} → length ts ≤ 2048 → noType ≤ t
+    → LookedUp ts type o t → o ≡ none
 typed-none few high (untyped e) = refl
 typed-none few high (typed c) = absurd (omega (arith, codes-below few c))
 
@@ -37,9 +39,10 @@ variable-left (v ∷ vs) ws x {s} e = go (same (v .name .text) x) (variableNamed
     go false none o′ a f h = absurd (none-some refl h)
     go false (some t) o′ a f h = rw (f t refl) h
 
-typed-next : {ts : List Token} {o : Option Slot} {r : ℕ} → SlotTyped ts o r → SlotTyped ts (option o none λ s. some (moved 1 s)) r
-typed-next (untyped e) = untyped e
-typed-next (typed c) = typed c
+pub typed-moved : {ts : List Token} (k : ℕ) {o : Option Slot} {r : ℕ} → SlotTyped ts o r
+    → SlotTyped ts (option o none λ s. some (moved k s)) r
+typed-moved k (untyped e) = untyped e
+typed-moved k (typed c) = typed c
 
 pub variable-right : {ts : List Token} (vs ws : List Variable) (x : List ℕ) {r : ℕ} → variableNamed vs x ≡ none → SlotTyped ts (variableNamed ws x) r → SlotTyped ts (variableNamed (vs ++ ws) x) r
 unfolding variableNamed
@@ -49,7 +52,7 @@ variable-right {ts} (v ∷ vs) ws x {r} e h = go (same (v .name .text) x) (varia
     go : (b : Bool) (o o′ : Option Slot) (a : Slot) → (o ≡ none → SlotTyped ts o′ r) → (if b then (λ _. some a) else λ _. option o none λ s. some (moved 1 s)) ≡ none
         → SlotTyped ts (if b then (λ _. some a) else λ _. option o′ none λ s. some (moved 1 s)) r
     go true o o′ a f h = absurd (none-some h refl)
-    go false none o′ a f h = typed-next (f refl)
+    go false none o′ a f h = typed-moved 1 (f refl)
     go false (some t) o′ a f h = absurd (none-some h refl)
 
 -- a list has as many members as the walk along it

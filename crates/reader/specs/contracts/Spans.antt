@@ -1,5 +1,5 @@
--- A part lies among the tokens from `first` up to `end`: its own token is one of them, the parts that stand before that token lie before it,
--- those that stand behind it behind it. So a part lies in a smaller range than its whole, which is why judging a tree ends.
+-- A part lies among the tokens from `first` up to `end`: its own token is one of them, the parts that stand before that token lie before
+-- it, those that stand behind it behind it. So a part lies in a smaller range than its whole, which is why judging a tree ends.
 use Prim.Native.Nat.{ℕ, _+_, _≤_, _<_}
 use Rattle.parser.specs.Tree.{Sort, Part}
 use Rattle.parser.specs.Tree.{Part.literal, Part.truth, Part.variable, Part.this, Part.newArray, Part.newObject, Part.negation, Part.binary}

@@ -11,8 +11,9 @@ use Rattle.parser.specs.Tree.{Part.noStatements, Part.sequence}
 use Rattle.parser.specs.contracts.Layout.{rowOf}
 use Rattle.parser.specs.Grammar.{Kind, Derives, Derives.operate, Derives.one-operand, Derives.negate, Derives.no-negation}
 use Rattle.parser.specs.Grammar.{Derives.make-array, Derives.no-array, Derives.index, Derives.take-length, Derives.invoke}
-use Rattle.parser.specs.Grammar.{Derives.no-suffix, Derives.a-literal, Derives.a-true, Derives.a-false, Derives.a-name, Derives.a-this, Derives.make-object}
-use Rattle.parser.specs.Grammar.{Derives.parentheses, Derives.none-given, Derives.some-given, Derives.one-argument, Derives.more-arguments}
+use Rattle.parser.specs.Grammar.{Derives.no-suffix, Derives.a-literal, Derives.a-true, Derives.a-false, Derives.a-name}
+use Rattle.parser.specs.Grammar.{Derives.a-this, Derives.make-object, Derives.parentheses, Derives.none-given}
+use Rattle.parser.specs.Grammar.{Derives.some-given, Derives.one-argument, Derives.more-arguments}
 use Rattle.parser.specs.Grammar.{Derives.a-block, Derives.an-if, Derives.a-while, Derives.a-print, Derives.an-assignment}
 use Rattle.parser.specs.Grammar.{Derives.an-element-assignment, Derives.no-statement, Derives.more-statements}
 use Rattle.reader.specs.contracts.Spans.{Among, Spans}
