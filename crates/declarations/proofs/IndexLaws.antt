@@ -395,6 +395,7 @@ module _ {n : ℕ} {before : List ℕ} (rd : Reading) (f : Filling before rd) (c
         statement = h .statement;
         matches = match .statement;
         statement-within = rw count at (facts .within);
+        statement-nodes = rw count at (facts .small);
         row = facts .row;
       }
 

@@ -5,6 +5,7 @@ use mathlib.Core.List.{List, [], _∷_}
 use native.Mathlib.Omega.{arith}
 use lib.ListN.{length}
 use Rattle.lexer.specs.Tokens.{Token}
+use Rattle.parser.specs.Measure.{nodes}
 use Rattle.parser.specs.Tree.{Sort.statement, Variable, Method, Class, Program}
 use Rattle.parser.specs.contracts.Layout.{rowOf}
 use Rattle.parser.specs.Grammar.{DerivesMethod, DerivesMethods, DerivesClass, DerivesClasses, DerivesProgram}
@@ -48,9 +49,11 @@ module _ {tab : List ℕ} {n : ℕ} {ts : List Token} where
         body = h .body;
         body-matches = m .body;
         body-within = wider b c d (hd .name .row) n (omega arith) (omega arith) (tree-spans ss);
+        body-nodes = omega arith;
         value = h .value;
         value-matches = m .value;
         value-within = wider x (d + 1) e (hd .name .row) n (omega arith) (omega arith) (tree-spans v);
+        value-nodes = omega arith;
       }
 
   methods-stand : {i j : ℕ} {ms : List Method} → DerivesMethods ts i j ms → j ≤ n → MethodsMatch ts ms → HoldsMethods tab ms → MethodsHeld tab n ts ms
@@ -84,6 +87,7 @@ pub record Derived (ts : List Token) (p : Program) : Type 0 where
   pub main : p .main .row ≡ 1
   pub row : rowOf (p .statement) ≡ 14
   pub within : Spans 14 (length ts) (p .statement)
+  pub small : nodes (p .statement) ≤ length ts
   pub few-classes : length (p .classes) ≤ length ts
   pub from : ℕ
   pub classes : DerivesClasses ts from (length ts) (p .classes)
@@ -93,6 +97,7 @@ derived {ts} (a-program {j = j} {s = s} _ d _ _ cs) = record {
   main = refl;
   row = first-row d;
   within = wider s 14 j 14 (length ts) (omega arith) (omega (arith, classes-count cs)) (tree-spans d);
+  small = omega (arith, tree-nodes d, classes-count cs);
   few-classes = omega (arith, classes-count cs);
   from = j + 2;
   classes = cs;

@@ -2,7 +2,6 @@
 -- are written.
 use Prim.Native.Nat.{ℕ, suc, _+_, _-_, _≤_, _<_}
 use native.Mathlib.Omega.{arith}
-use Rattle.reader.specs.laws.Counting.{nodes-covered}
 use mathlib.Core.Path.{_≡_, refl, sym, ap, _∙_}
 use mathlib.Core.List.{List, [], _∷_}
 use lib.ListN.{length, set}
@@ -53,8 +52,8 @@ method-wrote {tab} {names} {n} {row} {at} {p} {l} {first} {a} {second} {b} {r} {
               };
           sizes = w .sizes;
         } in
-        let x : NodesAt tab ts first n (F .body) = record { at = sym (word tab 4 e₄′ is′ near′ (h .start)); holds = h .body; matches = h .body-matches; few = omega (arith, h .body-covers, nodes-covered (F .body)) } in
-        let y : NodesAt tab ts second n (F .value) = record { at = sym (word tab 5 e₅′ is′ near′ (h .return)); holds = h .value; matches = h .value-matches; few = omega (arith, h .value-covers, nodes-covered (F .value)) } in
+        let x : NodesAt tab ts first n (F .body) = record { at = sym (word tab 4 e₄′ is′ near′ (h .start)); holds = h .body; matches = h .body-matches; few = h .body-nodes } in
+        let y : NodesAt tab ts second n (F .value) = record { at = sym (word tab 5 e₅′ is′ near′ (h .return)); holds = h .value; matches = h .value-matches; few = h .value-nodes } in
         let u = f .says ts G (contextOf d F) sees (F .body) x (omega (arith, grows (F .value) (middle F at))) in
         let v = g .says ts G (contextOf d F) sees (F .value) y (rw (u .ends) (omega arith)) in
         next-to (λ j k. emit G (contextOf d F) (F .value) j (return ∷ k)) (λ j. suc (end (F .value) j)) u

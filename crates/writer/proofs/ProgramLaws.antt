@@ -1,7 +1,6 @@
 -- What writing a program returns meets its contract: no field is in the array while main's statement is written, and all of it fits.
 use Prim.Native.Nat.{ℕ, suc, _≤_}
 use native.Mathlib.Omega.{arith}
-use Rattle.reader.specs.laws.Counting.{nodes-covered}
 use mathlib.Core.Path.{_≡_, refl, sym, ap, _∙_, subst}
 use mathlib.Core.List.{List, [], _∷_}
 use mathlib.Core.Option.{none}
@@ -66,7 +65,7 @@ main-wrote {tab} {names} {n} {a} {r} {c} {c₁} {c₂} f o = record { within = o
               };
           sizes = sizes;
         } in
-        let x : NodesAt tab ts 14 n (p .statement) = record { at = w .row; holds = w .statement; matches = w .matches; few = omega (arith, w .statement-covers, nodes-covered (p .statement)) } in
+        let x : NodesAt tab ts 14 n (p .statement) = record { at = w .row; holds = w .statement; matches = w .matches; few = w .statement-nodes } in
         let u = f .says ts (p .classes) mainContext sees (p .statement) x (omega arith) in
         next-to (λ j k. halt ∷ k) suc u (put-one halt refl o (rw (u .ends) lim))
 

@@ -11,6 +11,7 @@ use Rattle.base.specs.Outcome.{accepted}
 use Rattle.base.specs.contracts.Table.{rows, col, put, SameColumn}
 use Rattle.lexer.specs.Kinds.{kIf}
 use Rattle.lexer.specs.Tokens.{Token}
+use Rattle.parser.specs.Measure.{nodes}
 use Rattle.parser.specs.Tree.{Class, Program}
 use Rattle.parser.specs.Stream.{kindAt}
 use Rattle.parser.specs.contracts.Layout.{absent, rowOf, rowClasses}
@@ -76,6 +77,7 @@ pub record Ready (tab : List ℕ) (n : ℕ) (ts : List Token) (p : Program) : Ty
   pub statement : Holds tab (p .statement)
   pub matches : Matches ts (p .statement)
   pub statement-within : Spans 14 n (p .statement)
+  pub statement-nodes : nodes (p .statement) ≤ n
   pub row : rowOf (p .statement) ≡ 14
 
 -- 20, and where that accepts, the table is ready

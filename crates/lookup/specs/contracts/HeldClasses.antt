@@ -11,6 +11,7 @@ use Rattle.base.specs.contracts.Table.{col}
 use Rattle.lexer.specs.Tokens.{Token}
 use Rattle.lexer.specs.contracts.Rows.{firstNamed, Rows}
 use Rattle.parser.specs.Tree.{Name, Ty, Ty.int, Ty.boolean, Ty.intArray, Ty.class, Variable, Method, Class}
+use Rattle.parser.specs.Measure.{nodes}
 use Rattle.parser.specs.contracts.Layout.{absent, rowOf, rowVariables, rowMethods, rowParent, rowClasses, headOf}
 use Rattle.reader.specs.contracts.Holds.{Holds}
 use Rattle.reader.specs.contracts.Spans.{Spans}
@@ -88,9 +89,11 @@ pub record MethodHeld (tab : List ℕ) (n : ℕ) (ts : List Token) (m : Method) 
   pub body : Holds tab (m .body)
   pub body-matches : Matches ts (m .body)
   pub body-within : Spans (m .name .row) n (m .body)
+  pub body-nodes : nodes (m .body) ≤ n
   pub value : Holds tab (m .value)
   pub value-matches : Matches ts (m .value)
   pub value-within : Spans (m .name .row) n (m .value)
+  pub value-nodes : nodes (m .value) ≤ n
 
 pub data MethodsHeld (tab : List ℕ) (n : ℕ) (ts : List Token) : List Method → Type 0 where
   no-methods : MethodsHeld tab n ts []
