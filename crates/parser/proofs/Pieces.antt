@@ -19,6 +19,7 @@ use Rattle.parser.specs.Parse.{Parsed, ok, bad, out, bind, expect, Mode,
 use Rattle.parser.specs.contracts.Layout.{absent, rowOf, node, given, store}
 use Rattle.parser.specs.contracts.Post.{kindInTable, TokensIn, Stored, part, Met, met-ok, met-bad, Within, ModePost, ListPost, fuel}
 use Rattle.parser.specs.contracts.Parts.{Follows, present, missing, nothing, RowFits, Written, done, refused, Linked, OnePart, TwoParts, PiecePost}
+use Rattle.parser.specs.contracts.DeclarationPost.{Declaration, Of, itemFrom, declarationStored, rankOf, lowOf, topOf, DeclPost}
 use Rattle.parser.proofs.Laws.{there, tokens-kept, given-put, given-node, is, is-not, at-result, bind-ok, bind-bad, stepped, at-suc, within-ok, within-more}
 
 -- AS THE CODE HAS THEM
@@ -72,6 +73,12 @@ pub bind-same : {A B : Type 0} {g g′ : A → ℕ → Parsed B} → ((a : A) (j
 bind-same e (ok a j) = e a j
 bind-same e (bad k) = refl
 bind-same e out = refl
+
+-- what goes on after a member of a list in parentheses; R is the definition of the rest
+abbrev pub member : {A B : Type 0} → List Token → (cons : A → B → B) (nil : B) → (ℕ → Parsed B) → A → ℕ → Parsed B
+member ts cons nil R a j =
+    if eqb (kindAt ts j) 35 then (λ _. ok (cons a nil) (j + 1)) else λ _.
+    expect ts 32 j λ j. bind (R j) λ b j. ok (cons a b) j
 
 -- a token that follows is there
 pub follows-within : (low n top : ℕ) {T : List ℕ} {q : ℕ} {r r′ : Answer} → Follows T n q r r′ → 0 < q → Within low n top r → Within (low + 1) n top r′
@@ -154,6 +161,34 @@ module _ {A : Type 0} {S : Stored A} {P : ℕ → List Token → Parsed A} {enou
       (λ ts h f en a ea ta. whole-met (cons a)
       (λ b tb. let m = is-cons a b T in (ea ∙ m .0, rw (ea, tb, ta) (m .1))) s (q .says ts h f en))
 
+  -- a list in parentheses whose first member it is: after a member stands `)` or `,`
+  module _ {B : Type 0} {L : Stored B} (cons : A → B → B) (nil : B)
+      (is-cons : (a : A) (b : B) (t : List ℕ) → (S .row a ≡ L .row (cons a b)) × (put (L .write b (S .write a t)) 6 (S .row a) (L .row b) ≡ L .write (cons a b) t))
+      (is-nil : (t : List ℕ) → (L .row nil ≡ 2048) × (L .write nil t ≡ t)) (R : ℕ → List Token → ℕ → Parsed B) {x j k : ℕ} (high : top ≤ 2049)
+      (e : r ≡ At x j) (ek : k ≡ kindInTable T₁ n j) where
+    pub last-member : {T₂ : List ℕ} → k ≡ 35 → T₂ ≡ put T₁ 6 x 2048
+        → PiecePost L (λ f ts. bind (P f ts) (member ts cons nil (R f ts))) enough low n 2049 T (At x (j + 1)) T₂
+    last-member z eT =
+        let jl = there T₁ n j k 35 ek z (omega arith) in
+        let w = within-ok e (p .within) in
+        then-on (λ f ts. member ts cons nil (R f ts)) e (ap given eT ∙ given-put T₁ 6 x 2048 (omega arith)) (omega arith, omega arith, omega arith)
+        (λ ts h f en a ea ta. let m = is-cons a nil T in rw (is h j ek z)
+        (met-ok (ea ∙ m .0) (eT ∙ rw (ea, ta) (rw (is-nil (S .write a T) .0, is-nil (S .write a T) .1) at (m .1)))))
+
+    pub no-member : k ≢ 35 → k ≢ 32 → PiecePost L (λ f ts. bind (P f ts) (member ts cons nil (R f ts))) enough low n 2049 T (Bad j) T₁
+    no-member z z′ =
+        then-on (λ f ts. member ts cons nil (R f ts)) e refl tt (λ ts h f en a ea ta. rw (is-not h j ek z, is-not h j ek z′) met-bad)
+
+    pub more-members : {low₂ : ℕ} {r₂ r′ : Answer} {T₂ T₃ : List ℕ} → k ≡ 32 → low ≤ low₂ → PiecePost L (λ f ts. R f ts (j + 1)) enough low₂ n 2049 T₁ r₂ T₂
+        → Linked x T₂ r₂ r′ T₃ → PiecePost L (λ f ts. bind (P f ts) (member ts cons nil (R f ts))) enough low n 2049 T r′ T₃
+    more-members {low₂} {T₂ = T₂} z le q s =
+        let w = within-ok e (p .within) in
+        then-on (λ f ts. member ts cons nil (R f ts)) e
+        (whole-kept (λ y. given-put T₂ 6 x y (omega arith)) s ∙ q .kept)
+        (whole-within low₂ low n 2049 2049 le (omega arith) s (q .within))
+        (λ ts h f en a ea ta. rw (is h j ek z) (whole-met (cons a)
+        (λ b tb. let m = is-cons a b T in (ea ∙ m .0, rw (ea, tb, ta) (m .1))) s (q .says ts h f en)))
+
 -- a node that begins with its own token i and has one part
 pub then-node : {s s′ : Sort} {P : ℕ → List Token → Parsed (Part s)} {enough low n top i : ℕ} {T T₁ T₂ : List ℕ} {r r′ : Answer}
     (make : List Token → Part s → Part s′)
@@ -219,6 +254,30 @@ mode-fits {n = n} {i} {r = r} few p = row-fits (i + 1) n n r (p .within) (omega 
 
 pub list-fits : {n i : ℕ} {T T₁ : List ℕ} {r : Answer} → ListPost n i T r T₁ → RowFits r
 list-fits {n} {i} {r = r} p = row-fits i n 2049 r (p .within) (omega arith)
+
+-- declarations as pieces, and pieces as declarations; a list's parser takes one of the fuel
+module _ {d : Declaration} {n i : ℕ} {T T₁ : List ℕ} {r : Answer} where
+  pub of-declaration : (enough : ℕ) → 16 * (n - i) + rankOf d ≤ enough → DeclPost d n i T r T₁
+      → PiecePost (declarationStored d) (λ f ts. itemFrom d f ts i) enough (lowOf d i) n (topOf d n) T r T₁
+  of-declaration enough le p = record { kept = p .kept; within = p .within; says = λ ts h f en. p .says ts h f (omega arith) }
+
+  module _ {P : ℕ → List Token → Parsed (Of d)} {enough low : ℕ} (le : lowOf d i ≤ low) (p : PiecePost (declarationStored d) P enough low n (topOf d n) T r T₁) where
+    pub as-declaration : enough ≤ 16 * (n - i) + rankOf d → ((f : ℕ) (ts : List Token) → TokensIn T n ts → itemFrom d f ts i ≡ P f ts) → DeclPost d n i T r T₁
+    as-declaration lt steps = record {
+      kept = p .kept;
+      within = within-more low (lowOf d i) n (topOf d n) (topOf d n) r le (omega arith) (p .within);
+      says = λ ts h f en. at-result (steps f ts h) (p .says ts h f (omega arith));
+    }
+
+    pub as-declarations : enough < 16 * (n - i) + rankOf d → ((f : ℕ) (ts : List Token) → TokensIn T n ts → itemFrom d (suc f) ts i ≡ P f ts) → DeclPost d n i T r T₁
+    as-declarations lt steps = record {
+      kept = p .kept;
+      within = within-more low (lowOf d i) n (topOf d n) (topOf d n) r le (omega arith) (p .within);
+      says = λ ts h. at-suc (λ f. itemFrom d f ts i) (λ f en. at-result (steps f ts h) (p .says ts h f (omega arith)));
+    }
+
+pub declared-fits : {d : Declaration} {n i : ℕ} {T T₁ : List ℕ} {r : Answer} → DeclPost d n i T r T₁ → topOf d n ≤ 2049 → RowFits r
+declared-fits {d} {n} {i} {r = r} p h = row-fits (lowOf d i) n (topOf d n) r (p .within) h
 
 -- a piece by another definition of it
 pub as-piece : {A : Type 0} {S : Stored A} {P P′ : ℕ → List Token → Parsed A} {enough enough′ low low′ n top : ℕ} {T T₁ : List ℕ} {r : Answer}
