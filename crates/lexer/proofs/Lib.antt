@@ -1,5 +1,6 @@
 -- What the proofs of several functions use.
 pub mod Runs
+pub mod Reserved
 pub mod Comments
 pub mod Table
 pub mod ByteKinds

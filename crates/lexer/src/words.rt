@@ -2,8 +2,9 @@
 use super::bytes::equal;
 use super::kinds;
 ghost use mathlib.Core.Path.{_≡_};
-ghost use Rattle.lexer.specs.Kinds.{kindIn, wordKind, markKind};
-ghost use Rattle.lexer.specs.laws.WordLengths.{twos, threes, fours, fives, sixes, sevens};
+ghost use lib.ListN.{length};
+ghost use Rattle.lexer.specs.Kinds.{wordKind, markKind};
+ghost use Rattle.lexer.specs.contracts.Words.{Listed};
 
 // The kind of a token of one byte, 0 where there is none.
 pub fn mark_kind(b: u8) -> u32
@@ -29,122 +30,61 @@ pub fn mark_kind(b: u8) -> u32
     }
 }
 
-// The kind of a text of 2 bytes.
-fn of_two(text: &[u8]) -> u32
-    ensures { λ r. ⌜ r ≡ kindIn twos (now (text .entry)) ⌝ }
+// The kind of a text, from the reserved words of its length: they stand one after the other in `words`, their kinds in `kinds`.
+fn kind_among(words: &[u8], kinds: &[u32], text: &[u8]) -> u32
+    requires { ⌜ Listed (length (now text)) (now words) (now kinds) ⌝ }
+    ensures { λ r. ⌜ r ≡ wordKind (now (text .entry)) ⌝ }
 {
-    if equal(b"if", text) {
-        return kinds::IF;
+    let mut at: usize = 0;
+    let mut i: usize = 0;
+    while i < kinds.len() {
+        let end = at + text.len();
+        if equal(&words[at..end], text) {
+            return kinds[i];
+        }
+        at = end;
+        i += 1;
     }
     kinds::NAME
 }
 
-// The kind of a text of 3 bytes.
-fn of_three(text: &[u8]) -> u32
-    ensures { λ r. ⌜ r ≡ kindIn threes (now (text .entry)) ⌝ }
-{
-    if equal(b"int", text) {
-        return kinds::INT;
-    }
-    if equal(b"new", text) {
-        return kinds::NEW;
-    }
-    if equal(b"out", text) {
-        return kinds::OUT;
-    }
-    kinds::NAME
-}
+// The kinds of the words of each length.
+const TWOS: [u32; 1] = [kinds::IF];
 
-// The kind of a text of 4 bytes.
-fn of_four(text: &[u8]) -> u32
-    ensures { λ r. ⌜ r ≡ kindIn fours (now (text .entry)) ⌝ }
-{
-    if equal(b"else", text) {
-        return kinds::ELSE;
-    }
-    if equal(b"main", text) {
-        return kinds::MAIN;
-    }
-    if equal(b"this", text) {
-        return kinds::THIS;
-    }
-    if equal(b"true", text) {
-        return kinds::TRUE;
-    }
-    if equal(b"void", text) {
-        return kinds::VOID;
-    }
-    kinds::NAME
-}
+const THREES: [u32; 3] = [kinds::INT, kinds::NEW, kinds::OUT];
 
-// The kind of a text of 5 bytes.
-fn of_five(text: &[u8]) -> u32
-    ensures { λ r. ⌜ r ≡ kindIn fives (now (text .entry)) ⌝ }
-{
-    if equal(b"class", text) {
-        return kinds::CLASS;
-    }
-    if equal(b"false", text) {
-        return kinds::FALSE;
-    }
-    if equal(b"while", text) {
-        return kinds::WHILE;
-    }
-    kinds::NAME
-}
+const FOURS: [u32; 5] = [
+    kinds::ELSE,
+    kinds::MAIN,
+    kinds::THIS,
+    kinds::TRUE,
+    kinds::VOID,
+];
 
-// The kind of a text of 6 bytes.
-fn of_six(text: &[u8]) -> u32
-    ensures { λ r. ⌜ r ≡ kindIn sixes (now (text .entry)) ⌝ }
-{
-    if equal(b"length", text) {
-        return kinds::LENGTH;
-    }
-    if equal(b"public", text) {
-        return kinds::PUBLIC;
-    }
-    if equal(b"return", text) {
-        return kinds::RETURN;
-    }
-    if equal(b"static", text) {
-        return kinds::STATIC;
-    }
-    if equal(b"String", text) {
-        return kinds::STRING;
-    }
-    if equal(b"System", text) {
-        return kinds::SYSTEM;
-    }
-    kinds::NAME
-}
+const FIVES: [u32; 3] = [kinds::CLASS, kinds::FALSE, kinds::WHILE];
 
-// The kind of a text of 7 bytes.
-fn of_seven(text: &[u8]) -> u32
-    ensures { λ r. ⌜ r ≡ kindIn sevens (now (text .entry)) ⌝ }
-{
-    if equal(b"boolean", text) {
-        return kinds::BOOLEAN;
-    }
-    if equal(b"extends", text) {
-        return kinds::EXTENDS;
-    }
-    if equal(b"println", text) {
-        return kinds::PRINTLN;
-    }
-    kinds::NAME
-}
+const SIXES: [u32; 6] = [
+    kinds::LENGTH,
+    kinds::PUBLIC,
+    kinds::RETURN,
+    kinds::STATIC,
+    kinds::STRING,
+    kinds::SYSTEM,
+];
+
+const SEVENS: [u32; 3] = [kinds::BOOLEAN, kinds::EXTENDS, kinds::PRINTLN];
 
 // The kind of an identifier or a reserved word.
 pub fn word_kind(text: &[u8]) -> u32
     ensures { λ r. ⌜ r ≡ wordKind (now (text .entry)) ⌝ }
 {
     match text.len() {
-        2 => of_two(text),
-        3 => of_three(text),
-        4 => of_four(text),
-        5 => of_five(text),
-        6 => of_six(text),
-        7 => of_seven(text),
+        2 => kind_among(b"if", &TWOS, text),
+        3 => kind_among(b"intnewout", &THREES, text),
+        4 => kind_among(b"elsemainthistruevoid", &FOURS, text),
+        5 => kind_among(b"classfalsewhile", &FIVES, text),
+        6 => kind_among(b"lengthpublicreturnstaticStringSystem", &SIXES, text),
+        7 => kind_among(b"booleanextendsprintln", &SEVENS, text),
         _ => kinds::NAME,
     }
 }

@@ -1,22 +1,26 @@
 -- What each return of the functions on methods, classes and the program shows: from what the callees ensure and the kinds of the tokens read, what the
 -- function ensures.
-use Prim.Native.Nat.{ℕ, _+_, _-_, _≤_, _<_}
+use Prim.Native.Nat.{ℕ, _+_, _*_, _-_, _≤_, _<_}
 use mathlib.Core.Path.{_≡_, refl, sym, ap, _∙_, subst}
 use mathlib.Core.List.{List, [], _∷_}
 use mathlib.Core.Logic.{_≢_}
 use mathlib.Core.Bool.{Bool, true, false}
 use native.Mathlib.Omega.{arith}
+use lib.Dec.{eqb, lit<}
+use Rattle.base.specs.Choice.{if_then_else_}
 use Rattle.base.specs.contracts.Table.{put}
 use Rattle.lexer.specs.Kinds.{isName}
 use Rattle.lexer.specs.Tokens.{Token}
 use Rattle.parser.specs.declared.answer.Answer.{Answer}
 use Rattle.parser.specs.declared.answer.Answer.the-variants.{At, Bad}
-use Rattle.parser.specs.Tree.{Sort.statements, Part, Expression, Variable, Method, Class, Program}
-use Rattle.parser.specs.Stream.{nameAt}
-use Rattle.parser.specs.Parse.{Parsed, ok, bad, bind, expectAll, operation, aStatement, parseAs, methodEnd, methodFrom, methodsFrom, parentFrom, classFrom, classesFrom, mainHead, mainEnd, programFrom}
+use Rattle.parser.specs.Tree.{Sort.statement, Sort.statements, Part, Expression, Variable, Method, Class, Program}
+use Rattle.parser.specs.Stream.{kindAt, nameAt}
+use Rattle.parser.specs.Parse.{Parsed, ok, bad, bind, expect, expectAll, operation, anExpression, aStatement, statementList, parseAs, variableFrom, variablesFrom, parametersFrom, returnedFrom, bodyFrom, localsFrom, classMethodsFrom, methodFrom, methodsFrom, parentFrom, classFrom, classesFrom, mainHead, mainEnd, programFrom}
 use Rattle.parser.specs.contracts.Layout.{given, rowOf, store, headOf, rowVariables, storeVariable, storeVariables, methodRow, storeMethod, rowMethods, storeMethods, rowParent, classRow, storeClass, rowClasses, storeClasses, storeProgram}
-use Rattle.parser.specs.contracts.Post.{kindInTable, met-ok, met-bad, ModePost, ListPost, levelAt, matchedIn}
-use Rattle.parser.specs.contracts.DeclarationPost.{aVariable, variableList, formals, aMethod, methodList, aParent, aClass, classList, DeclPost, LocalsPost, BodyPost, ReturnedPost, MembersPost, ClassMethodsPost, ProgramPost, EndsThere}
+use Rattle.parser.specs.contracts.Post.{kindInTable, TokensIn, part, Met, met-ok, met-bad, Within, ModePost, ListPost, levelAt, matchedIn}
+use Rattle.parser.specs.contracts.DeclarationPost.{aVariable, variableList, formals, aMethod, methodList, aParent, aClass, classList, declarationStored, DeclPost, OpenedPost, LocalsPost, BodyPost, ReturnedPost, MembersPost, ClassMethodsPost, ProgramPost, EndsThere}
+use Rattle.parser.specs.contracts.Parts.{Follows, present, missing, nothing, Linked, PiecePost}
+use Rattle.parser.proofs.Pieces.{andToken, regroup, regroup-two, follows-ok, then-token, then-bad, then-on, then-list, of-mode, of-list, of-declaration, as-declaration, as-declarations}
 use Rattle.parser.proofs.Laws.{there, tokens-kept, given-put, is, is-not, passes, at-result, bind-ok, bind-bad, at-suc, within-ok, within-more, plus-two}
 use Rattle.parser.proofs.Postfix.{name-there}
 use Rattle.parser.proofs.Matched.{matched-there, all-matched, not-matched}
@@ -47,194 +51,169 @@ unfolding storeClass
 is-class k t = refl
 
 -- AFTER `return`
-module _ (ts : List Token) (head : Variable) (ps ls : List Variable) (ss : Part statements) (e : Expression) where
-  abbrev made : ℕ → Parsed Method
-  made j = ok (record { result = head .type; name = head .name; parameters = ps; locals = ls; body = ss; value = e }) j
+abbrev made : (head : Variable) (ps ls : List Variable) → Part statements → Expression → Method
+made head ps ls ss e = record { result = head .type; name = head .name; parameters = ps; locals = ls; body = ss; value = e }
 
-module _ {n name first second start j : ℕ} {T T₁ : List ℕ} {r₁ : Answer} (p : ModePost (operation (levelAt 0)) n n j T r₁ T₁) where
-  pub returned-bad : {y : ℕ} → r₁ ≡ Bad y → ReturnedPost n name first second start j T (Bad y) T₁
+module _ {n name first second start j : ℕ} {T T₁ : List ℕ} {r₁ r₂ r₃ : Answer} (few : n ≤ 2048) (p : ModePost (operation (levelAt 0)) n n j T r₁ T₁)
+    (s : Follows T₁ n 33 r₁ r₂) (s₂ : Follows T₁ n 39 r₂ r₃) where
+  pub returned-bad : {y : ℕ} → r₃ ≡ Bad y → ReturnedPost n name first second start j T (Bad y) T₁
   unfolding levelAt
   returned-bad e =
-      record { kept = p .kept; within = tt; says = λ hd ps ls ss base _ _ _ _ _ ts h f enough. bind-bad _ e (p .says ts h f (omega arith)) }
+      record {
+        kept = p .kept;
+        within = tt;
+        says = λ hd ps ls ss base _ _ _ _ _ ts h f en. at-result (regroup-two ts 33 39 (λ a j. ok (made hd ps ls ss a) j) (parseAs f ts anExpression j))
+            (bind-bad _ e (then-token few (then-token few (of-mode (16 * (n - j) + 6) (omega arith) p) (omega arith) s) (omega arith) s₂ .says ts h f en));
+      }
 
-  module _ {x m k : ℕ} (few : n ≤ 2048) (e : r₁ ≡ At x m) (em : k ≡ matchedIn T₁ n m methodEnd) where
-    pub returned-end : k < 2 → ReturnedPost n name first second start j T (Bad (m + k)) T₁
-    unfolding levelAt
-    returned-end lt =
-        record {
-          kept = p .kept;
-          within = tt;
-          says = λ hd ps ls ss base _ _ _ _ _ ts h f enough. bind-ok _ e (p .says ts h f (omega arith))
-              (λ a ea ta. at-result (not-matched (tokens-kept few (p .kept) h) m methodEnd (made ts hd ps ls ss a) (omega arith) ∙ ap bad (omega arith)) met-bad);
-        }
-
-    pub returned-ok : {T₂ : List ℕ} → name < n → 2 ≤ k → T₂ ≡ methodRow T₁ name first second start x
-        → ReturnedPost n name first second start j T (At name (m + 2)) T₂
-    unfolding levelAt
-    returned-ok {T₂} nl l eT =
-        let w = within-ok e (p .within) in
-        let ml = matched-there T₁ n m methodEnd (omega arith) (w .1) in
-        record {
-          kept = ap given eT ∙ given-method-row T₁ name first second start x ∙ p .kept;
-          within = (omega arith, omega arith, nl);
-          says = λ hd ps ls ss base en ep el es et ts h f enough. bind-ok _ e (p .says ts h f (omega arith))
-              (λ a ea ta. at-result (all-matched (tokens-kept few (p .kept) h) m methodEnd (made ts hd ps ls ss a) (omega arith))
-              (met-ok {a = record { result = hd .type; name = hd .name; parameters = ps; locals = ls; body = ss; value = a }} en
-              (eT ∙ cc (is-method (record { result = hd .type; name = hd .name; parameters = ps; locals = ls; body = ss; value = a }) base))));
-        }
+  pub returned-ok : {x m : ℕ} {T₂ : List ℕ} → name < n → r₃ ≡ At x m → T₂ ≡ methodRow T₁ name first second start x
+      → ReturnedPost n name first second start j T (At name m) T₂
+  unfolding levelAt
+  returned-ok {x} nl e eT =
+      let q = then-token few (then-token few (of-mode (16 * (n - j) + 6) (omega arith) p) (omega arith) s) (omega arith) s₂ in
+      let w = within-ok e (q .within) in
+      record {
+        kept = ap given eT ∙ given-method-row T₁ name first second start x ∙ p .kept;
+        within = (omega arith, omega arith, nl);
+        says = λ hd ps ls ss base en ep el es et ts h f enough. at-result (regroup-two ts 33 39 (λ a j. ok (made hd ps ls ss a) j) (parseAs f ts anExpression j))
+            (bind-ok _ e (q .says ts h f enough) (λ a ea ta. met-ok {a = made hd ps ls ss a} en (eT ∙ cc (is-method (made hd ps ls ss a) base))));
+      }
 
 -- AFTER THE LOCALS
-module _ {n name first second j : ℕ} {T T₁ : List ℕ} {r₁ : Answer} (p : ListPost n j T r₁ T₁) where
-  pub body-bad : {y : ℕ} → r₁ ≡ Bad y → BodyPost n name first second j T (Bad y) T₁
-  body-bad e = record { kept = p .kept; within = tt; says = λ hd ps ls base _ _ _ _ ts h f enough. bind-bad _ e (p .says ts h f (omega arith)) }
+module _ {n name first second j : ℕ} {T T₁ : List ℕ} {r₁ r₂ : Answer} (few : n ≤ 2048) (p : ListPost n j T r₁ T₁) (s : Follows T₁ n 16 r₁ r₂) where
+  pub body-bad : {y : ℕ} → r₂ ≡ Bad y → BodyPost n name first second j T (Bad y) T₁
+  body-bad e =
+      record {
+        kept = p .kept;
+        within = tt;
+        says = λ hd ps ls base _ _ _ _ ts h f en. at-result (regroup ts 16 (returnedFrom f ts hd ps ls) (parseAs f ts statementList j))
+            (bind-bad _ e (then-token few (of-list (16 * (n - j) + 1) (omega arith) p) (omega arith) s .says ts h f en));
+      }
 
-  module _ {x m k : ℕ} (few : n ≤ 2048) (e : r₁ ≡ At x m) (ek : k ≡ kindInTable T₁ n m) where
-    pub body-return : k ≢ 16 → BodyPost n name first second j T (Bad m) T₁
-    body-return z =
-        record {
-          kept = p .kept;
-          within = tt;
-          says = λ hd ps ls base _ _ _ _ ts h f enough. bind-ok _ e (p .says ts h f (omega arith)) (λ a ea ta. rw (is-not (tokens-kept few (p .kept) h) m ek z) met-bad);
-        }
-
-    pub body-ok : {T₂ : List ℕ} {r : Answer} → k ≡ 16 → ReturnedPost n name first second x (m + 1) T₁ r T₂ → BodyPost n name first second j T r T₂
-    body-ok {T₂} {r} z q =
-        let l = there T₁ n m k 16 ek z (omega arith) in
-        let w = within-ok e (p .within) in
-        record {
-          kept = q .kept ∙ p .kept;
-          within = within-more (m + 1 + 1) (j + 1) n n n r (omega arith) (omega arith) (q .within);
-          says = λ hd ps ls base en ep el et ts h f enough. bind-ok _ e (p .says ts h f (omega arith)) (λ a ea ta. rw (is (tokens-kept few (p .kept) h) m ek z)
-              (q .says hd ps ls a base en ep el ea (ta ∙ ap (store a) et) ts (tokens-kept few (p .kept) h) f (omega arith)));
-        }
+  pub body-ok : {x m : ℕ} {T₂ : List ℕ} {r : Answer} → r₂ ≡ At x m → ReturnedPost n name first second x m T₁ r T₂ → BodyPost n name first second j T r T₂
+  body-ok {x} {m} {r = r} e q =
+      let o = then-token few (of-list (16 * (n - j) + 1) (omega arith) p) (omega arith) s in
+      let w = within-ok e (o .within) in
+      record {
+        kept = q .kept ∙ p .kept;
+        within = within-more (m + 1) (j + 1) n n n r (omega arith) (omega arith) (q .within);
+        says = λ hd ps ls base en ep el et ts h f enough. at-result (regroup ts 16 (returnedFrom f ts hd ps ls) (parseAs f ts statementList j))
+            (bind-ok _ e (o .says ts h f enough)
+            (λ a ea ta. q .says hd ps ls a base en ep el ea (ta ∙ ap (store a) et) ts (tokens-kept few (p .kept) h) f (omega arith)));
+      }
 
 -- AFTER THE PARAMETERS
-module _ {n name first j k : ℕ} {T : List ℕ} (ek : k ≡ kindInTable T n j) where
-  pub locals-open : k ≢ 38 → LocalsPost n name first j T (Bad j) T
-  locals-open z = record { kept = refl; within = tt; says = λ hd ps base _ _ _ ts h f enough. rw (is-not h j ek z) met-bad }
 
-  module _ {T₁ : List ℕ} {r₁ : Answer} (z : k ≡ 38) (p : DeclPost (variableList false) n (j + 1) T r₁ T₁) where
-    pub locals-bad : {y : ℕ} → r₁ ≡ Bad y → LocalsPost n name first j T (Bad y) T₁
-    locals-bad e =
-        let l = there T n j k 38 ek z (omega arith) in
-        record { kept = p .kept; within = tt; says = λ hd ps base _ _ _ ts h f enough. rw (is h j ek z) (bind-bad _ e (p .says ts h f (omega arith))) }
+-- a token before a piece, and what goes on after it
+headed : {A B : Type 0} (ts : List Token) (q j : ℕ) (k : ℕ → Parsed A) (g : A → ℕ → Parsed B) → (expect ts q j λ j. bind (k j) g) ≡ bind (expect ts q j k) g
+headed {A} {B} ts q j k g = go (eqb (kindAt ts j) q)
+  where
+    go : (b : Bool) → (if b then (λ _. bind (k (j + 1)) g) else λ _. bad j) ≡ bind (if b then (λ _. k (j + 1)) else λ _. bad j) g
+    go true = refl
+    go false = refl
 
-    pub locals-ok : {x m : ℕ} {T₂ : List ℕ} {r : Answer} → n ≤ 2048 → r₁ ≡ At x m → BodyPost n name first x m T₁ r T₂ → LocalsPost n name first j T r T₂
-    locals-ok {x} {m} {T₂} {r} few e q =
-        let l = there T n j k 38 ek z (omega arith) in
-        let w = within-ok e (p .within) in
-        record {
-          kept = q .kept ∙ p .kept;
-          within = within-more (m + 1) (j + 1) n n n r (omega arith) (omega arith) (q .within);
-          says = λ hd ps base en ep et ts h f enough. rw (is h j ek z) (bind-ok _ e (p .says ts h f (omega arith))
-              (λ a ea ta. q .says hd ps a base en ep ea (ta ∙ ap (storeVariables a) et) ts (tokens-kept few (p .kept) h) f (omega arith)));
-        }
+module _ {n name first j : ℕ} {T T₁ : List ℕ} {r₁ : Answer} (p : OpenedPost false n j T r₁ T₁) where
+  pub locals-bad : {y : ℕ} → r₁ ≡ Bad y → LocalsPost n name first j T (Bad y) T₁
+  locals-bad e =
+      record {
+        kept = p .piece .kept;
+        within = tt;
+        says = λ hd ps base _ _ _ ts h f en. at-result (headed ts 38 j (variablesFrom f false ts) (bodyFrom f ts hd ps)) (bind-bad _ e (p .piece .says ts h f en));
+      }
+
+  pub locals-ok : {x m : ℕ} {T₂ : List ℕ} {r : Answer} → n ≤ 2048 → r₁ ≡ At x m → BodyPost n name first x m T₁ r T₂ → LocalsPost n name first j T r T₂
+  locals-ok {x} {m} {r = r} few e q =
+      let w = within-ok e (p .piece .within) in
+      record {
+        kept = q .kept ∙ p .piece .kept;
+        within = within-more (m + 1) (j + 1) n n n r (omega arith) (omega arith) (q .within);
+        says = λ hd ps base en ep et ts h f enough. at-result (headed ts 38 j (variablesFrom f false ts) (bodyFrom f ts hd ps)) (bind-ok _ e (p .piece .says ts h f enough)
+            (λ a ea ta. q .says hd ps a base en ep ea (ta ∙ ap (storeVariables a) et) ts (tokens-kept few (p .piece .kept) h) f (omega arith)));
+      }
 
 -- METHODS
 
 -- a head's name is followed by the token where the head ends
-pub ends-there : {x j : ℕ} {r : Answer} → r ≡ At x j → EndsThere r → x + 1 ≡ j
-ends-there e h = subst EndsThere e h
+pub ends-there : {T : List ℕ} {n q : ℕ} {x j : ℕ} {r r′ : Answer} → r′ ≡ At x j → Follows T n q r r′ → EndsThere r → x + 2 ≡ j
+ends-there e s h = subst EndsNext e (next s h)
+  where
+    EndsNext : Answer → Type 0
+    EndsNext (At x j) = x + 2 ≡ j
+    EndsNext (Bad k) = Unit {0}
 
-module _ {n i : ℕ} {T T₁ : List ℕ} {r₁ : Answer} (z : kindInTable T n i ≡ 15) (p : DeclPost aVariable n (i + 1) T r₁ T₁) where
-  pub method-bad : {y : ℕ} → r₁ ≡ Bad y → DeclPost aMethod n i T (Bad y) T₁
+    next : {T : List ℕ} {n q : ℕ} {r r′ : Answer} → Follows T n q r r′ → EndsThere r → EndsNext r′
+    next (present e) h = omega arith
+    next (missing e) h = tt
+    next nothing h = tt
+
+module _ {n i : ℕ} {T T₁ : List ℕ} {r₁ r₂ : Answer} (few : n ≤ 2048) (z : kindInTable T n i ≡ 15) (p : DeclPost aVariable n (i + 1) T r₁ T₁)
+    (s : Follows T₁ n 34 r₁ r₂) where
+  pub method-bad : {y : ℕ} → r₂ ≡ Bad y → DeclPost aMethod n i T (Bad y) T₁
   unfolding methodFrom
   method-bad e =
       let l = there T n i _ 15 refl z (omega arith) in
-      record { kept = p .kept; within = tt; says = λ ts h f enough. rw (is h i refl z) (bind-bad _ e (p .says ts h f (omega arith))) }
+      as-declaration (omega arith)
+      (then-bad few (then-token few (of-declaration (16 * (n - i)) (omega arith) p) (omega arith) s) (i + 1) n (λ f ts hd j. bind (parametersFrom f ts j) (localsFrom f ts hd)) e)
+      (omega arith) (λ f ts h. rw (is h i refl z) (regroup ts 34 (λ hd j. bind (parametersFrom f ts j) (localsFrom f ts hd)) (variableFrom ts (i + 1))))
 
-  module _ {x j k : ℕ} (few : n ≤ 2048) (e : r₁ ≡ At x j) (ek : k ≡ kindInTable T₁ n j) where
-    pub method-open : k ≢ 34 → DeclPost aMethod n i T (Bad j) T₁
+  module _ {x j : ℕ} {T₂ : List ℕ} {r₃ : Answer} (e : r₂ ≡ At x j) (q : DeclPost formals n j T₁ r₃ T₂) where
+    method-on : {T₃ : List ℕ} {r : Answer} → given T₃ ≡ given T₁ → Within (i + 1) n n r
+        → ((ts : List Token) → TokensIn T₁ n ts → (f : ℕ) → 16 * (n - i) < f → (hd : Variable) → x ≡ hd .name .row → T₁ ≡ storeVariable hd T
+        → Met (declarationStored aMethod) T T₃ r (bind (parametersFrom f ts j) (localsFrom f ts hd)))
+        → DeclPost aMethod n i T r T₃
     unfolding methodFrom
-    method-open z′ =
+    method-on same w on =
         let l = there T n i _ 15 refl z (omega arith) in
-        record {
-          kept = p .kept;
-          within = tt;
-          says = λ ts h f enough. rw (is h i refl z) (bind-ok _ e (p .says ts h f (omega arith)) (λ a ea ta. rw (is-not (tokens-kept few (p .kept) h) j ek z′) met-bad));
-        }
+        as-declaration (omega arith)
+        (then-on few (then-token few (of-declaration (16 * (n - i)) (omega arith) p) (omega arith) s) (λ f ts hd j. bind (parametersFrom f ts j) (localsFrom f ts hd)) e
+        same w on)
+        (omega arith) (λ f ts h. rw (is h i refl z) (regroup ts 34 (λ hd j. bind (parametersFrom f ts j) (localsFrom f ts hd)) (variableFrom ts (i + 1))))
 
-    module _ {T₂ : List ℕ} {r₂ : Answer} (z′ : k ≡ 34) (q : DeclPost formals n (j + 1) T₁ r₂ T₂) where
-      pub method-parameters : {y : ℕ} → r₂ ≡ Bad y → DeclPost aMethod n i T (Bad y) T₂
-      unfolding methodFrom
-      method-parameters e₂ =
-          let l = there T n i _ 15 refl z (omega arith) in
-          let jl = there T₁ n j k 34 ek z′ (omega arith) in
-          let w = within-ok e (p .within) in
-          record {
-            kept = q .kept ∙ p .kept;
-            within = tt;
-            says = λ ts h f enough. rw (is h i refl z) (bind-ok _ e (p .says ts h f (omega arith)) (λ a ea ta. rw (is (tokens-kept few (p .kept) h) j ek z′)
-                (bind-bad _ e₂ (q .says ts (tokens-kept few (p .kept) h) f (omega arith)))));
-          }
+    pub method-parameters : {y : ℕ} → r₃ ≡ Bad y → DeclPost aMethod n i T (Bad y) T₂
+    method-parameters e₂ =
+        let l = there T n i _ 15 refl z (omega arith) in
+        let w = follows-ok e s (lit< tt) (p .within) in
+        method-on (q .kept) tt (λ ts h f en hd ea ta. bind-bad _ e₂ (q .says ts h f (omega arith)))
 
-      pub method-ok : {y m : ℕ} {T₃ : List ℕ} {r : Answer} → r₂ ≡ At y m → LocalsPost n x y m T₂ r T₃ → DeclPost aMethod n i T r T₃
-      unfolding methodFrom
-      method-ok {y} {m} {T₃} {r} e₂ s =
-          let l = there T n i _ 15 refl z (omega arith) in
-          let jl = there T₁ n j k 34 ek z′ (omega arith) in
-          let w = within-ok e (p .within) in
-          let w₂ = within-ok e₂ (q .within) in
-          record {
-            kept = s .kept ∙ q .kept ∙ p .kept;
-            within = within-more (m + 1) (i + 1) n n n r (omega arith) (omega arith) (s .within);
-            says = λ ts h f enough. rw (is h i refl z) (bind-ok _ e (p .says ts h f (omega arith)) (λ a ea ta. rw (is (tokens-kept few (p .kept) h) j ek z′)
-                (bind-ok _ e₂ (q .says ts (tokens-kept few (p .kept) h) f (omega arith))
-                (λ b eb tb. s .says a b T ea eb (tb ∙ ap (storeVariables b) ta) ts (tokens-kept few (q .kept ∙ p .kept) h) f (omega arith)))));
-          }
+    pub method-ok : {y m : ℕ} {T₃ : List ℕ} {r : Answer} → r₃ ≡ At y m → LocalsPost n x y m T₂ r T₃ → DeclPost aMethod n i T r T₃
+    method-ok {y} {m} {r = r} e₂ o =
+        let l = there T n i _ 15 refl z (omega arith) in
+        let w = follows-ok e s (lit< tt) (p .within) in
+        let w₂ = within-ok e₂ (q .within) in
+        method-on (o .kept ∙ q .kept) (within-more (m + 1) (i + 1) n n n r (omega arith) (omega arith) (o .within))
+        (λ ts h f en hd ea ta. bind-ok _ e₂ (q .says ts h f (omega arith))
+        (λ b eb tb. o .says hd b T ea eb (tb ∙ ap (storeVariables b) ta) ts (tokens-kept few (q .kept) h) f (omega arith)))
 
-is-more-methods : (m : Method) (ms : List Method) (t : List ℕ) → storeMethods (m ∷ ms) t ≡ put (storeMethods ms (storeMethod m t)) 6 (m .name .row) (rowMethods ms)
+is-more-methods : (m : Method) (ms : List Method) (t : List ℕ)
+    → (m .name .row ≡ rowMethods (m ∷ ms)) × (put (storeMethods ms (storeMethod m t)) 6 (m .name .row) (rowMethods ms) ≡ storeMethods (m ∷ ms) t)
 unfolding storeMethods
-is-more-methods m ms t = refl
-
-is-no-method : (t : List ℕ) → storeMethods [] t ≡ t
-unfolding storeMethods
-is-no-method t = refl
+is-more-methods m ms t = (refl, refl)
 
 module _ {n i k : ℕ} {T : List ℕ} (ek : k ≡ kindInTable T n i) where
   pub methods-end : i ≤ n → k ≢ 15 → DeclPost methodList n i T (At 2048 i) T
-  unfolding methodsFrom
+  unfolding methodsFrom storeMethods
   methods-end le z =
       record {
         kept = refl;
         within = (omega arith, le, omega arith);
-        says = λ ts h. at-suc (λ f. methodsFrom f ts i) (λ f enough. rw (is-not h i ek z) (met-ok refl (sym (is-no-method T))));
+        says = λ ts h. at-suc (λ f. methodsFrom f ts i) (λ f enough. rw (is-not h i ek z) (met-ok refl refl));
       }
 
-  module _ {T₁ : List ℕ} {r₁ : Answer} (z : k ≡ 15) (p : DeclPost aMethod n i T r₁ T₁) where
+  module _ {T₁ : List ℕ} {r₁ : Answer} (few : n ≤ 2048) (z : k ≡ 15) (p : DeclPost aMethod n i T r₁ T₁) where
     pub methods-bad : {y : ℕ} → r₁ ≡ Bad y → DeclPost methodList n i T (Bad y) T₁
     unfolding methodsFrom
     methods-bad e =
-        record {
-          kept = p .kept;
-          within = tt;
-          says = λ ts h. at-suc (λ f. methodsFrom f ts i) (λ f enough. rw (is h i ek z) (bind-bad _ e (p .says ts h f (omega arith))));
-        }
+        as-declarations (omega arith)
+        (then-bad few (of-declaration (16 * (n - i) + 2) (omega arith) p) i 2049 (λ f ts m j. bind (methodsFrom f ts j) λ ms j. ok (m ∷ ms) j) e)
+        (omega arith) (λ f ts h. rw (is h i ek z) refl)
 
-    module _ {x j : ℕ} {T₂ : List ℕ} {r₂ : Answer} (few : n ≤ 2048) (e : r₁ ≡ At x j) (q : DeclPost methodList n j T₁ r₂ T₂) where
-      pub methods-more : {y m : ℕ} {T₃ : List ℕ} → r₂ ≡ At y m → T₃ ≡ put T₂ 6 x y → DeclPost methodList n i T (At x m) T₃
-      unfolding methodsFrom
-      methods-more {y} {m} {T₃} e₂ eT =
-          let w = within-ok e (p .within) in
-          let w₂ = within-ok e₂ (q .within) in
-          record {
-            kept = ap given eT ∙ given-put T₂ 6 x y (omega arith) ∙ q .kept ∙ p .kept;
-            within = (omega arith, omega arith, omega arith);
-            says = λ ts h. at-suc (λ f. methodsFrom f ts i) (λ f enough. rw (is h i ek z) (bind-ok _ e (p .says ts h f (omega arith))
-                (λ a ea ta. bind-ok _ e₂ (q .says ts (tokens-kept few (p .kept) h) f (omega arith))
-                (λ b eb tb. met-ok {a = a ∷ b} ea (eT ∙ cc (is-more-methods a b T))))));
-          }
-
-      pub methods-more-bad : {y : ℕ} → r₂ ≡ Bad y → DeclPost methodList n i T (Bad y) T₂
-      unfolding methodsFrom
-      methods-more-bad e₂ =
-          let w = within-ok e (p .within) in
-          record {
-            kept = q .kept ∙ p .kept;
-            within = tt;
-            says = λ ts h. at-suc (λ f. methodsFrom f ts i) (λ f enough. rw (is h i ek z) (bind-ok _ e (p .says ts h f (omega arith))
-                (λ a ea ta. bind-bad _ e₂ (q .says ts (tokens-kept few (p .kept) h) f (omega arith)))));
-          }
+    pub methods-more : {x j : ℕ} {T₂ T₃ : List ℕ} {r₂ r : Answer} → r₁ ≡ At x j → DeclPost methodList n j T₁ r₂ T₂ → Linked x T₂ r₂ r T₃ → DeclPost methodList n i T r T₃
+    unfolding methodsFrom
+    methods-more e q l =
+        let w = within-ok e (p .within) in
+        as-declarations (omega arith)
+        (then-list few (of-declaration (16 * (n - i) + 2) (omega arith) p) _∷_ is-more-methods (λ f ts j. methodsFrom f ts j) (omega arith) (w .0) e
+        (of-declaration (16 * (n - i) + 2) (omega arith) q) l) (omega arith) (λ f ts h. rw (is h i ek z) refl)
 
 -- CLASSES
 module _ {n i k : ℕ} {T : List ℕ} (ek : k ≡ kindInTable T n i) where
@@ -257,51 +236,49 @@ module _ {n i k : ℕ} {T : List ℕ} (ek : k ≡ kindInTable T n i) where
     unfolding parentFrom
     parent-name t = record { kept = refl; within = tt; says = λ ts h f enough. rw (is h i ek z, passes h isName (i + 1) ek₁ (sym eb ∙ t)) met-bad }
 
-module _ {n name above first j : ℕ} {T T₁ : List ℕ} {r₁ : Answer} (p : DeclPost methodList n j T r₁ T₁) where
-  pub class-methods-bad : {y : ℕ} → r₁ ≡ Bad y → ClassMethodsPost n name above first j T (Bad y) T₁
-  class-methods-bad e = record { kept = p .kept; within = tt; says = λ q fs base _ _ _ ts h f enough. bind-bad _ e (p .says ts h f (omega arith)) }
+module _ {n name above first j : ℕ} {T T₁ : List ℕ} {r₁ r₂ : Answer} (few : n ≤ 2048) (p : DeclPost methodList n j T r₁ T₁) (s : Follows T₁ n 39 r₁ r₂) where
+  pub class-methods-bad : {y : ℕ} → r₂ ≡ Bad y → ClassMethodsPost n name above first j T (Bad y) T₁
+  class-methods-bad e =
+      record {
+        kept = p .kept;
+        within = tt;
+        says = λ q fs base _ _ _ ts h f en. at-result
+            (regroup ts 39 (λ ms j. ok (record { name = nameAt ts name; parent = q; fields = fs; methods = ms }) j) (methodsFrom f ts j))
+            (bind-bad _ e (then-token few (of-declaration (16 * (n - j) + 3) (omega arith) p) (omega arith) s .says ts h f en));
+      }
 
-  module _ {x m k : ℕ} (few : n ≤ 2048) (e : r₁ ≡ At x m) (ek : k ≡ kindInTable T₁ n m) where
-    pub class-close : k ≢ 39 → ClassMethodsPost n name above first j T (Bad m) T₁
-    class-close z =
-        record {
-          kept = p .kept;
-          within = tt;
-          says = λ q fs base _ _ _ ts h f enough. bind-ok _ e (p .says ts h f (omega arith)) (λ a ea ta. rw (is-not (tokens-kept few (p .kept) h) m ek z) met-bad);
-        }
+  pub class-methods-ok : {x m : ℕ} {T₂ : List ℕ} → name < n → r₂ ≡ At x m → T₂ ≡ classRow T₁ name above first x → ClassMethodsPost n name above first j T (At name m) T₂
+  class-methods-ok {x} nl e eT =
+      let o = then-token few (of-declaration (16 * (n - j) + 3) (omega arith) p) (omega arith) s in
+      let w = within-ok e (o .within) in
+      record {
+        kept = ap given eT ∙ given-class-row T₁ name above first x ∙ p .kept;
+        within = (omega arith, omega arith, nl);
+        says = λ q fs base ea ef et ts h f enough. at-result
+            (regroup ts 39 (λ ms j. ok (record { name = nameAt ts name; parent = q; fields = fs; methods = ms }) j) (methodsFrom f ts j))
+            (bind-ok _ e (o .says ts h f enough)
+            (λ a eb ta. met-ok {a = record { name = nameAt ts name; parent = q; fields = fs; methods = a }} refl
+            (eT ∙ cc (is-class (record { name = nameAt ts name; parent = q; fields = fs; methods = a }) base))));
+      }
 
-    pub class-methods-ok : {T₂ : List ℕ} → name < n → k ≡ 39 → T₂ ≡ classRow T₁ name above first x → ClassMethodsPost n name above first j T (At name (m + 1)) T₂
-    class-methods-ok {T₂} nl z eT =
-        let l = there T₁ n m k 39 ek z (omega arith) in
-        let w = within-ok e (p .within) in
-        record {
-          kept = ap given eT ∙ given-class-row T₁ name above first x ∙ p .kept;
-          within = (omega arith, omega arith, nl);
-          says = λ q fs base ea ef et ts h f enough. bind-ok _ e (p .says ts h f (omega arith)) (λ a eb ta. rw (is (tokens-kept few (p .kept) h) m ek z)
-              (met-ok {a = record { name = nameAt ts name; parent = q; fields = fs; methods = a }} refl
-              (eT ∙ cc (is-class (record { name = nameAt ts name; parent = q; fields = fs; methods = a }) base))));
-        }
+module _ {n name above j : ℕ} {T T₁ : List ℕ} {r₁ : Answer} (p : OpenedPost true n j T r₁ T₁) where
+  pub members-bad : {y : ℕ} → r₁ ≡ Bad y → MembersPost n name above j T (Bad y) T₁
+  members-bad e =
+      record {
+        kept = p .piece .kept;
+        within = tt;
+        says = λ q _ ts h f en. at-result (headed ts 38 j (variablesFrom f true ts) (classMethodsFrom f ts (nameAt ts name) q)) (bind-bad _ e (p .piece .says ts h f en));
+      }
 
-module _ {n name above j k : ℕ} {T : List ℕ} (ek : k ≡ kindInTable T n j) where
-  pub members-open : k ≢ 38 → MembersPost n name above j T (Bad j) T
-  members-open z = record { kept = refl; within = tt; says = λ q _ ts h f enough. rw (is-not h j ek z) met-bad }
-
-  module _ {T₁ : List ℕ} {r₁ : Answer} (z : k ≡ 38) (p : DeclPost (variableList true) n (j + 1) T r₁ T₁) where
-    pub members-bad : {y : ℕ} → r₁ ≡ Bad y → MembersPost n name above j T (Bad y) T₁
-    members-bad e =
-        let l = there T n j k 38 ek z (omega arith) in
-        record { kept = p .kept; within = tt; says = λ q _ ts h f enough. rw (is h j ek z) (bind-bad _ e (p .says ts h f (omega arith))) }
-
-    pub members-ok : {x m : ℕ} {T₂ : List ℕ} {r : Answer} → n ≤ 2048 → r₁ ≡ At x m → ClassMethodsPost n name above x m T₁ r T₂ → MembersPost n name above j T r T₂
-    members-ok {x} {m} {T₂} {r} few e s =
-        let l = there T n j k 38 ek z (omega arith) in
-        let w = within-ok e (p .within) in
-        record {
-          kept = s .kept ∙ p .kept;
-          within = within-more (m + 1) (j + 1) n n n r (omega arith) (omega arith) (s .within);
-          says = λ q eq ts h f enough. rw (is h j ek z) (bind-ok _ e (p .says ts h f (omega arith))
-              (λ a ea ta. s .says q a T eq ea ta ts (tokens-kept few (p .kept) h) f (omega arith)));
-        }
+  pub members-ok : {x m : ℕ} {T₂ : List ℕ} {r : Answer} → n ≤ 2048 → r₁ ≡ At x m → ClassMethodsPost n name above x m T₁ r T₂ → MembersPost n name above j T r T₂
+  members-ok {x} {m} {r = r} few e s =
+      let w = within-ok e (p .piece .within) in
+      record {
+        kept = s .kept ∙ p .piece .kept;
+        within = within-more (m + 1) (j + 1) n n n r (omega arith) (omega arith) (s .within);
+        says = λ q eq ts h f enough. at-result (headed ts 38 j (variablesFrom f true ts) (classMethodsFrom f ts (nameAt ts name) q))
+            (bind-ok _ e (p .piece .says ts h f enough) (λ a ea ta. s .says q a T eq ea ta ts (tokens-kept few (p .piece .kept) h) f (omega arith)));
+      }
 
 module _ {n i k : ℕ} {T : List ℕ} (ek : k ≡ kindInTable T n i) where
   pub class-missing : k ≢ 6 → DeclPost aClass n i T (Bad i) T
@@ -336,58 +313,36 @@ module _ {n i k : ℕ} {T : List ℕ} (ek : k ≡ kindInTable T n i) where
                 (λ a ea ta. s .says a ea ts h f (omega arith)));
           }
 
-is-more-classes : (k : Class) (ks : List Class) (t : List ℕ) → storeClasses (k ∷ ks) t ≡ put (storeClasses ks (storeClass k t)) 6 (k .name .row) (rowClasses ks)
+is-more-classes : (k : Class) (ks : List Class) (t : List ℕ)
+    → (k .name .row ≡ rowClasses (k ∷ ks)) × (put (storeClasses ks (storeClass k t)) 6 (k .name .row) (rowClasses ks) ≡ storeClasses (k ∷ ks) t)
 unfolding storeClasses
-is-more-classes k ks t = refl
-
-is-no-class : (t : List ℕ) → storeClasses [] t ≡ t
-unfolding storeClasses
-is-no-class t = refl
+is-more-classes k ks t = (refl, refl)
 
 module _ {n i k : ℕ} {T : List ℕ} (ek : k ≡ kindInTable T n i) where
   pub classes-end : i ≤ n → k ≡ 0 → DeclPost classList n i T (At 2048 i) T
-  unfolding classesFrom
+  unfolding classesFrom storeClasses
   classes-end le z =
       record {
         kept = refl;
         within = (omega arith, le, omega arith);
-        says = λ ts h. at-suc (λ f. classesFrom f ts i) (λ f enough. rw (is h i ek z) (met-ok refl (sym (is-no-class T))));
+        says = λ ts h. at-suc (λ f. classesFrom f ts i) (λ f enough. rw (is h i ek z) (met-ok refl refl));
       }
 
-  module _ {T₁ : List ℕ} {r₁ : Answer} (z : k ≢ 0) (p : DeclPost aClass n i T r₁ T₁) where
+  module _ {T₁ : List ℕ} {r₁ : Answer} (few : n ≤ 2048) (z : k ≢ 0) (p : DeclPost aClass n i T r₁ T₁) where
     pub classes-bad : {y : ℕ} → r₁ ≡ Bad y → DeclPost classList n i T (Bad y) T₁
     unfolding classesFrom
     classes-bad e =
-        record {
-          kept = p .kept;
-          within = tt;
-          says = λ ts h. at-suc (λ f. classesFrom f ts i) (λ f enough. rw (is-not h i ek z) (bind-bad _ e (p .says ts h f (omega arith))));
-        }
+        as-declarations (omega arith)
+        (then-bad few (of-declaration (16 * (n - i) + 3) (omega arith) p) i 2049 (λ f ts c j. bind (classesFrom f ts j) λ cs j. ok (c ∷ cs) j) e)
+        (omega arith) (λ f ts h. rw (is-not h i ek z) refl)
 
-    module _ {x j : ℕ} {T₂ : List ℕ} {r₂ : Answer} (few : n ≤ 2048) (e : r₁ ≡ At x j) (q : DeclPost classList n j T₁ r₂ T₂) where
-      pub classes-more : {y m : ℕ} {T₃ : List ℕ} → r₂ ≡ At y m → T₃ ≡ put T₂ 6 x y → DeclPost classList n i T (At x m) T₃
-      unfolding classesFrom
-      classes-more {y} {m} {T₃} e₂ eT =
-          let w = within-ok e (p .within) in
-          let w₂ = within-ok e₂ (q .within) in
-          record {
-            kept = ap given eT ∙ given-put T₂ 6 x y (omega arith) ∙ q .kept ∙ p .kept;
-            within = (omega arith, omega arith, omega arith);
-            says = λ ts h. at-suc (λ f. classesFrom f ts i) (λ f enough. rw (is-not h i ek z) (bind-ok _ e (p .says ts h f (omega arith))
-                (λ a ea ta. bind-ok _ e₂ (q .says ts (tokens-kept few (p .kept) h) f (omega arith))
-                (λ b eb tb. met-ok {a = a ∷ b} ea (eT ∙ cc (is-more-classes a b T))))));
-          }
-
-      pub classes-more-bad : {y : ℕ} → r₂ ≡ Bad y → DeclPost classList n i T (Bad y) T₂
-      unfolding classesFrom
-      classes-more-bad e₂ =
-          let w = within-ok e (p .within) in
-          record {
-            kept = q .kept ∙ p .kept;
-            within = tt;
-            says = λ ts h. at-suc (λ f. classesFrom f ts i) (λ f enough. rw (is-not h i ek z) (bind-ok _ e (p .says ts h f (omega arith))
-                (λ a ea ta. bind-bad _ e₂ (q .says ts (tokens-kept few (p .kept) h) f (omega arith)))));
-          }
+    pub classes-more : {x j : ℕ} {T₂ T₃ : List ℕ} {r₂ r : Answer} → r₁ ≡ At x j → DeclPost classList n j T₁ r₂ T₂ → Linked x T₂ r₂ r T₃ → DeclPost classList n i T r T₃
+    unfolding classesFrom
+    classes-more e q l =
+        let w = within-ok e (p .within) in
+        as-declarations (omega arith)
+        (then-list few (of-declaration (16 * (n - i) + 3) (omega arith) p) _∷_ is-more-classes (λ f ts j. classesFrom f ts j) (omega arith) (w .0) e
+        (of-declaration (16 * (n - i) + 3) (omega arith) q) l) (omega arith) (λ f ts h. rw (is-not h i ek z) refl)
 
 -- THE PROGRAM
 is-program : (p : Program) (t : List ℕ) → storeProgram p t ≡ put (storeClasses (p .classes) (store (p .statement) t)) 6 0 (rowClasses (p .classes))
@@ -412,51 +367,39 @@ module _ {n k : ℕ} {T : List ℕ} (em : k ≡ matchedIn T n 0 mainHead) where
         says = λ ts h f enough. at-result (not-matched h 0 mainHead (mains f ts) (omega arith) ∙ ap bad (omega arith)) met-bad;
       }
 
-  module _ {T₁ : List ℕ} {r₁ : Answer} (l : 14 ≤ k) (p : ModePost aStatement n n 14 T r₁ T₁) where
-    pub program-bad : {y : ℕ} → r₁ ≡ Bad y → ProgramPost n T (Bad y) T₁
-    unfolding programFrom
-    program-bad e =
-        record {
-          kept = p .kept;
-          within = tt;
-          says = λ ts h f enough. at-result (all-matched h 0 mainHead (mains f ts) (omega arith)) (bind-bad _ e (p .says ts h f (omega arith)));
-        }
+  module _ {T₁ : List ℕ} {r₁ r₂ r₃ : Answer} (few : n ≤ 2048) (l : 14 ≤ k) (p : ModePost aStatement n n 14 T r₁ T₁) (s : Follows T₁ n 39 r₁ r₂)
+      (s₂ : Follows T₁ n 39 r₂ r₃) where
+    main-part : PiecePost (part statement) (λ f ts. andToken ts 39 (andToken ts 39 (parseAs f ts aStatement 14))) (16 * n) 17 n n T r₃ T₁
+    main-part = then-token few (then-token few (of-mode (16 * n) (omega arith) p) (omega arith) s) (omega arith) s₂
 
-    module _ {x j m : ℕ} (few : n ≤ 2048) (e : r₁ ≡ At x j) (em₂ : m ≡ matchedIn T₁ n j mainEnd) where
-      pub program-end : m < 2 → ProgramPost n T (Bad (j + m)) T₁
-      unfolding programFrom
-      program-end lt =
+    main-is : (f : ℕ) (ts : List Token) → TokensIn T n ts → programFrom f ts ≡ bind (andToken ts 39 (andToken ts 39 (parseAs f ts aStatement 14))) (others f ts)
+    unfolding programFrom
+    main-is f ts h = all-matched h 0 mainHead (mains f ts) (omega arith) ∙ regroup-two ts 39 39 (others f ts) (parseAs f ts aStatement 14)
+
+    pub program-bad : {y : ℕ} → r₃ ≡ Bad y → ProgramPost n T (Bad y) T₁
+    program-bad e =
+        record { kept = p .kept; within = tt; says = λ ts h f enough. at-result (main-is f ts h) (bind-bad _ e (main-part .says ts h f (omega arith))) }
+
+    module _ {x j : ℕ} {T₂ : List ℕ} {r₄ : Answer} (e : r₃ ≡ At x j) (q : DeclPost classList n j T₁ r₄ T₂) where
+      pub program-classes : {y : ℕ} → r₄ ≡ Bad y → ProgramPost n T (Bad y) T₂
+      program-classes e₂ =
+          let w = within-ok e (main-part .within) in
           record {
-            kept = p .kept;
+            kept = q .kept ∙ p .kept;
             within = tt;
-            says = λ ts h f enough. at-result (all-matched h 0 mainHead (mains f ts) (omega arith)) (bind-ok _ e (p .says ts h f (omega arith))
-                (λ a ea ta. at-result (not-matched (tokens-kept few (p .kept) h) j mainEnd (others f ts a) (omega arith) ∙ ap bad (omega arith)) met-bad));
+            says = λ ts h f enough. at-result (main-is f ts h) (bind-ok _ e (main-part .says ts h f (omega arith))
+                (λ a ea ta. bind-bad _ e₂ (q .says ts (tokens-kept few (p .kept) h) f (omega arith))));
           }
 
-      module _ {T₂ : List ℕ} {r₂ : Answer} (l₂ : 2 ≤ m) (q : DeclPost classList n (j + 2) T₁ r₂ T₂) where
-        pub program-classes : {y : ℕ} → r₂ ≡ Bad y → ProgramPost n T (Bad y) T₂
-        unfolding programFrom
-        program-classes e₂ =
-            let w = within-ok e (p .within) in
-            record {
-              kept = q .kept ∙ p .kept;
-              within = tt;
-              says = λ ts h f enough. at-result (all-matched h 0 mainHead (mains f ts) (omega arith)) (bind-ok _ e (p .says ts h f (omega arith))
-                  (λ a ea ta. at-result (all-matched (tokens-kept few (p .kept) h) j mainEnd (others f ts a) (omega arith))
-                  (bind-bad _ e₂ (q .says ts (tokens-kept few (p .kept) h) f (omega arith)))));
-            }
-
-        pub program-ok : {y u : ℕ} {T₃ : List ℕ} → r₂ ≡ At y u → T₃ ≡ put T₂ 6 0 y → ProgramPost n T (At y u) T₃
-        unfolding programFrom
-        program-ok {y} {u} {T₃} e₂ eT =
-            let w = within-ok e (p .within) in
-            let w₂ = within-ok e₂ (q .within) in
-            record {
-              kept = ap given eT ∙ given-put T₂ 6 0 y (omega arith) ∙ q .kept ∙ p .kept;
-              within = (omega arith, omega arith, omega arith);
-              says = λ ts h f enough. at-result (all-matched h 0 mainHead (mains f ts) (omega arith)) (bind-ok _ e (p .says ts h f (omega arith))
-                  (λ a ea ta. at-result (all-matched (tokens-kept few (p .kept) h) j mainEnd (others f ts a) (omega arith))
-                  (bind-ok _ e₂ (q .says ts (tokens-kept few (p .kept) h) f (omega arith))
-                  (λ b eb tb. met-ok {a = record { main = nameAt ts 1; parameter = nameAt ts 11; statement = a; classes = b }} eb
-                  (eT ∙ cc (is-program (record { main = nameAt ts 1; parameter = nameAt ts 11; statement = a; classes = b }) T))))));
-            }
+      pub program-ok : {y u : ℕ} {T₃ : List ℕ} → r₄ ≡ At y u → T₃ ≡ put T₂ 6 0 y → ProgramPost n T (At y u) T₃
+      program-ok {y} {u} {T₃} e₂ eT =
+          let w = within-ok e (main-part .within) in
+          let w₂ = within-ok e₂ (q .within) in
+          record {
+            kept = ap given eT ∙ given-put T₂ 6 0 y (omega arith) ∙ q .kept ∙ p .kept;
+            within = (omega arith, omega arith, omega arith);
+            says = λ ts h f enough. at-result (main-is f ts h) (bind-ok _ e (main-part .says ts h f (omega arith))
+                (λ a ea ta. bind-ok _ e₂ (q .says ts (tokens-kept few (p .kept) h) f (omega arith))
+                (λ b eb tb. met-ok {a = record { main = nameAt ts 1; parameter = nameAt ts 11; statement = a; classes = b }} eb
+                (eT ∙ cc (is-program (record { main = nameAt ts 1; parameter = nameAt ts 11; statement = a; classes = b }) T)))));
+          }

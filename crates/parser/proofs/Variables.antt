@@ -1,6 +1,6 @@
 -- What each return of the functions on types, variables and lists of variables shows: from what the callees ensure and the kinds of the tokens read, what
 -- the function ensures.
-use Prim.Native.Nat.{ℕ, suc, _+_, _-_, _≤_}
+use Prim.Native.Nat.{ℕ, _*_, suc, _+_, _-_, _≤_}
 use mathlib.Core.Path.{_≡_, refl, sym, ap, _∙_}
 use mathlib.Core.List.{List, [], _∷_}
 use mathlib.Core.Logic.{_≢_}
@@ -14,10 +14,12 @@ use Rattle.parser.specs.declared.answer.Answer.{Answer}
 use Rattle.parser.specs.declared.answer.Answer.the-variants.{At, Bad}
 use Rattle.parser.specs.Tree.{Variable}
 use Rattle.parser.specs.Stream.{nameAt}
-use Rattle.parser.specs.Parse.{typeFrom, variableFrom, beginsVariable, variablesFrom, someParameters, parametersFrom}
+use Rattle.parser.specs.Parse.{ok, bind, typeFrom, variableFrom, beginsVariable, variablesFrom, someParameters, parametersFrom}
 use Rattle.parser.specs.contracts.Layout.{given, rowVariables, storeVariable, storeVariables}
 use Rattle.parser.specs.contracts.Post.{kindInTable, TokensIn, met-ok, met-bad}
-use Rattle.parser.specs.contracts.DeclarationPost.{aType, aVariable, variableList, parameterList, formals, DeclPost, startsVariable}
+use Rattle.parser.specs.contracts.DeclarationPost.{declarationStored, OpenedPost, aType, aVariable, variableList, parameterList, formals, DeclPost, startsVariable}
+use Rattle.parser.specs.contracts.Parts.{Follows, Linked, PiecePost}
+use Rattle.parser.proofs.Pieces.{andToken, regroup, member, then-token, then-bad, then-list, last-member, no-member, more-members, of-declaration, as-declarations, as-piece}
 use Rattle.parser.proofs.Laws.{there, tokens-kept, given-put, is, is-not, passes, bind-ok, bind-bad, at-suc, within-ok, plus-three}
 use Rattle.parser.proofs.Postfix.{name-there}
 
@@ -126,13 +128,23 @@ unfolding beginsVariable startsVariable
 begins T c n i h = rw (h .kinds i, h .kinds (i + 1)) refl
 
 -- LISTS
-is-more : (v : Variable) (vs : List Variable) (t : List ℕ) → storeVariables (v ∷ vs) t ≡ put (storeVariables vs (storeVariable v t)) 6 (v .name .row) (rowVariables vs)
+is-more : (v : Variable) (vs : List Variable) (t : List ℕ)
+    → (v .name .row ≡ rowVariables (v ∷ vs)) × (put (storeVariables vs (storeVariable v t)) 6 (v .name .row) (rowVariables vs) ≡ storeVariables (v ∷ vs) t)
 unfolding storeVariables
-is-more v vs t = refl
+is-more v vs t = (refl, refl)
 
-is-none : (t : List ℕ) → storeVariables [] t ≡ t
+is-none : (t : List ℕ) → (rowVariables [] ≡ 2048) × (storeVariables [] t ≡ t)
 unfolding storeVariables
-is-none t = refl
+is-none t = (refl, refl)
+
+first-variable : {n i : ℕ} {T T₁ : List ℕ} {r₁ r₂ : Answer} → n ≤ 2048 → DeclPost aVariable n i T r₁ T₁ → Follows T₁ n 33 r₁ r₂
+    → PiecePost (declarationStored aVariable) (λ f ts. andToken ts 33 (variableFrom ts i)) (16 * (n - i)) (i + 2 + 1) n n T r₂ T₁
+first-variable {n} {i} few p s = then-token few (of-declaration (16 * (n - i)) (omega arith) p) (omega arith) s
+
+more-variables : (T : List ℕ) (c : Bool) (n i : ℕ) → startsVariable T c n i ≡ true → (f : ℕ) (ts : List Token) → TokensIn T n ts
+    → variablesFrom (suc f) c ts i ≡ bind (andToken ts 33 (variableFrom ts i)) (λ v j. bind (variablesFrom f c ts j) λ vs j. ok (v ∷ vs) j)
+unfolding variablesFrom
+more-variables T c n i t f ts h = rw (begins T c n i h ∙ t) (regroup ts 33 (λ v j. bind (variablesFrom f c ts j) λ vs j. ok (v ∷ vs) j) (variableFrom ts i))
 
 module _ {n i : ℕ} {T : List ℕ} {c : Bool} where
   pub variables-end : {b : Bool} → i ≤ n → b ≡ startsVariable T c n i → b ≡ false → DeclPost (variableList c) n i T (At 2048 i) T
@@ -141,117 +153,65 @@ module _ {n i : ℕ} {T : List ℕ} {c : Bool} where
       record {
         kept = refl;
         within = (omega arith, le, omega arith);
-        says = λ ts h. at-suc (λ f. variablesFrom f c ts i) (λ f enough. rw (begins T c n i h ∙ sym eb ∙ t) (met-ok refl (sym (is-none T))));
+        says = λ ts h. at-suc (λ f. variablesFrom f c ts i) (λ f enough. rw (begins T c n i h ∙ sym eb ∙ t) (met-ok refl (sym (is-none T .1))));
       }
 
-  module _ {T₁ : List ℕ} {r₁ : Answer} (s : startsVariable T c n i ≡ true) (p : DeclPost aVariable n i T r₁ T₁) where
-    pub variables-bad : {y : ℕ} → r₁ ≡ Bad y → DeclPost (variableList c) n i T (Bad y) T₁
-    unfolding variablesFrom
+  module _ {T₁ : List ℕ} {r₁ r₂ : Answer} {b : Bool} (few : n ≤ 2048) (eb : b ≡ startsVariable T c n i) (t : b ≡ true)
+      (p : DeclPost aVariable n i T r₁ T₁) (s : Follows T₁ n 33 r₁ r₂) where
+    pub variables-bad : {y : ℕ} → r₂ ≡ Bad y → DeclPost (variableList c) n i T (Bad y) T₁
     variables-bad e =
-        record {
-          kept = p .kept;
-          within = tt;
-          says = λ ts h. at-suc (λ f. variablesFrom f c ts i) (λ f enough. rw (begins T c n i h ∙ s) (bind-bad _ e (p .says ts h (suc f) (omega arith))));
-        }
+        as-declarations (omega arith) (then-bad few (first-variable few p s) i 2049 (λ f ts v j. bind (variablesFrom f c ts j) λ vs j. ok (v ∷ vs) j) e)
+        (omega arith) (more-variables T c n i (sym eb ∙ t))
 
-    module _ {x j k : ℕ} (few : n ≤ 2048) (e : r₁ ≡ At x j) (ek : k ≡ kindInTable T₁ n j) where
-      pub variables-semicolon : k ≢ 33 → DeclPost (variableList c) n i T (Bad j) T₁
-      unfolding variablesFrom
-      variables-semicolon z =
-          record {
-            kept = p .kept;
-            within = tt;
-            says = λ ts h. at-suc (λ f. variablesFrom f c ts i) (λ f enough. rw (begins T c n i h ∙ s) (bind-ok _ e (p .says ts h (suc f) (omega arith))
-                (λ u eu tu. rw (is-not (tokens-kept few (p .kept) h) j ek z) met-bad)));
-          }
+    pub variables-more : {x j : ℕ} {T₂ T₃ : List ℕ} {r₃ r : Answer} → r₂ ≡ At x j → DeclPost (variableList c) n j T₁ r₃ T₂ → Linked x T₂ r₃ r T₃
+        → DeclPost (variableList c) n i T r T₃
+    variables-more e q l =
+        let w = within-ok e (first-variable few p s .within) in
+        as-declarations (omega arith)
+        (then-list few (first-variable few p s) _∷_ is-more (λ f ts j. variablesFrom f c ts j) (omega arith) (omega arith) e
+        (of-declaration (16 * (n - i)) (omega arith) q) l) (omega arith) (more-variables T c n i (sym eb ∙ t))
 
-      module _ {T₂ : List ℕ} {r₂ : Answer} (z : k ≡ 33) (q : DeclPost (variableList c) n (j + 1) T₁ r₂ T₂) where
-        pub variables-more : {y m : ℕ} {T₃ : List ℕ} → r₂ ≡ At y m → T₃ ≡ put T₂ 6 x y → DeclPost (variableList c) n i T (At x m) T₃
-        unfolding variablesFrom
-        variables-more {y} {m} {T₃} e₂ eT =
-            let l = there T₁ n j k 33 ek z (omega arith) in
-            let w = within-ok e (p .within) in
-            let w₂ = within-ok e₂ (q .within) in
-            record {
-              kept = ap given eT ∙ given-put T₂ 6 x y (omega arith) ∙ q .kept ∙ p .kept;
-              within = (omega arith, omega arith, omega arith);
-              says = λ ts h. at-suc (λ f. variablesFrom f c ts i) (λ f enough. rw (begins T c n i h ∙ s) (bind-ok _ e (p .says ts h (suc f) (omega arith))
-                  (λ u eu tu. rw (is (tokens-kept few (p .kept) h) j ek z) (bind-ok _ e₂ (q .says ts (tokens-kept few (p .kept) h) f (omega arith))
-                  (λ v ev tv. met-ok {a = u ∷ v} eu (eT ∙ cc (is-more u v T)))))));
-            }
+-- `{` and variables
+module _ {c : Bool} {n j k : ℕ} {T : List ℕ} (ek : k ≡ kindInTable T n j) where
+  pub opened-not : k ≢ 38 → OpenedPost c n j T (Bad j) T
+  opened-not z = record { piece = record { kept = refl; within = tt; says = λ ts h f enough. rw (is-not h j ek z) met-bad } }
 
-        pub variables-more-bad : {y : ℕ} → r₂ ≡ Bad y → DeclPost (variableList c) n i T (Bad y) T₂
-        unfolding variablesFrom
-        variables-more-bad e₂ =
-            let l = there T₁ n j k 33 ek z (omega arith) in
-            let w = within-ok e (p .within) in
-            record {
-              kept = q .kept ∙ p .kept;
-              within = tt;
-              says = λ ts h. at-suc (λ f. variablesFrom f c ts i) (λ f enough. rw (begins T c n i h ∙ s) (bind-ok _ e (p .says ts h (suc f) (omega arith))
-                  (λ u eu tu. rw (is (tokens-kept few (p .kept) h) j ek z) (bind-bad _ e₂ (q .says ts (tokens-kept few (p .kept) h) f (omega arith))))));
-            }
+  pub opened-ok : {T₁ : List ℕ} {r : Answer} → k ≡ 38 → DeclPost (variableList c) n (j + 1) T r T₁ → OpenedPost c n j T r T₁
+  opened-ok z p =
+      let l = there T n j k 38 ek z (omega arith) in
+      record { piece = as-piece (omega arith) (omega arith) (λ f ts h. rw (is h j ek z) refl) (of-declaration (16 * (n - j)) (omega arith) p) }
 
 -- PARAMETERS
-module _ {n i : ℕ} {T T₁ : List ℕ} {r₁ : Answer} (p : DeclPost aVariable n i T r₁ T₁) where
-  pub parameter-bad : {y : ℕ} → r₁ ≡ Bad y → DeclPost parameterList n i T (Bad y) T₁
-  unfolding someParameters
-  parameter-bad e =
-      record {
-        kept = p .kept;
-        within = tt;
-        says = λ ts h. at-suc (λ f. someParameters f ts i) (λ f enough. bind-bad _ e (p .says ts h (suc f) (omega arith)));
-      }
+some-parameters : (f : ℕ) (ts : List Token) (i : ℕ) → someParameters (suc f) ts i ≡ bind (variableFrom ts i) (member ts _∷_ [] (someParameters f ts))
+unfolding someParameters
+some-parameters f ts i = refl
 
-  module _ {x j k : ℕ} (few : n ≤ 2048) (e : r₁ ≡ At x j) (ek : k ≡ kindInTable T₁ n j) where
+module _ {n i : ℕ} {T T₁ : List ℕ} {r₁ : Answer} (few : n ≤ 2048) (p : DeclPost aVariable n i T r₁ T₁) where
+  pub parameter-bad : {y : ℕ} → r₁ ≡ Bad y → DeclPost parameterList n i T (Bad y) T₁
+  parameter-bad e =
+      as-declarations (omega arith) (then-bad few (of-declaration (16 * (n - i)) (omega arith) p) (i + 1) 2049 (λ f ts. member ts _∷_ [] (someParameters f ts)) e)
+      (omega arith) (λ f ts h. some-parameters f ts i)
+
+  module _ {x j k : ℕ} (e : r₁ ≡ At x j) (ek : k ≡ kindInTable T₁ n j) where
     pub parameter-last : {T₂ : List ℕ} → k ≡ 35 → T₂ ≡ put T₁ 6 x 2048 → DeclPost parameterList n i T (At x (j + 1)) T₂
-    unfolding someParameters
-    parameter-last {T₂} z eT =
-        let l = there T₁ n j k 35 ek z (omega arith) in
-        let w = within-ok e (p .within) in
-        record {
-          kept = ap given eT ∙ given-put T₁ 6 x 2048 (omega arith) ∙ p .kept;
-          within = (omega arith, omega arith, omega arith);
-          says = λ ts h. at-suc (λ f. someParameters f ts i) (λ f enough. bind-ok _ e (p .says ts h (suc f) (omega arith))
-              (λ u eu tu. rw (is (tokens-kept few (p .kept) h) j ek z) (met-ok {a = u ∷ []} eu (eT ∙ cc (is-more u [] T, is-none (storeVariable u T))))));
-        }
+    parameter-last z eT =
+        as-declarations (omega arith)
+        (last-member few (of-declaration (16 * (n - i)) (omega arith) p) _∷_ [] is-more is-none (λ f ts j. someParameters f ts j) (omega arith) e ek z eT)
+        (omega arith) (λ f ts h. some-parameters f ts i)
 
     pub parameter-other : k ≢ 35 → k ≢ 32 → DeclPost parameterList n i T (Bad j) T₁
-    unfolding someParameters
     parameter-other z z′ =
-        record {
-          kept = p .kept;
-          within = tt;
-          says = λ ts h. at-suc (λ f. someParameters f ts i) (λ f enough. bind-ok _ e (p .says ts h (suc f) (omega arith))
-              (λ u eu tu. rw (is-not (tokens-kept few (p .kept) h) j ek z, is-not (tokens-kept few (p .kept) h) j ek z′) met-bad));
-        }
+        as-declarations (omega arith)
+        (no-member few (of-declaration (16 * (n - i)) (omega arith) p) _∷_ [] is-more is-none (λ f ts j. someParameters f ts j) (omega arith) e ek z z′)
+        (omega arith) (λ f ts h. some-parameters f ts i)
 
-    module _ {T₂ : List ℕ} {r₂ : Answer} (z : k ≡ 32) (q : DeclPost parameterList n (j + 1) T₁ r₂ T₂) where
-      pub parameters-more : {y m : ℕ} {T₃ : List ℕ} → r₂ ≡ At y m → T₃ ≡ put T₂ 6 x y → DeclPost parameterList n i T (At x m) T₃
-      unfolding someParameters
-      parameters-more {y} {m} {T₃} e₂ eT =
-          let l = there T₁ n j k 32 ek z (omega arith) in
-          let w = within-ok e (p .within) in
-          let w₂ = within-ok e₂ (q .within) in
-          record {
-            kept = ap given eT ∙ given-put T₂ 6 x y (omega arith) ∙ q .kept ∙ p .kept;
-            within = (omega arith, omega arith, omega arith);
-            says = λ ts h. at-suc (λ f. someParameters f ts i) (λ f enough. bind-ok _ e (p .says ts h (suc f) (omega arith))
-                (λ u eu tu. rw (is (tokens-kept few (p .kept) h) j ek z) (bind-ok _ e₂ (q .says ts (tokens-kept few (p .kept) h) f (omega arith))
-                (λ v ev tv. met-ok {a = u ∷ v} eu (eT ∙ cc (is-more u v T))))));
-          }
-
-      pub parameters-more-bad : {y : ℕ} → r₂ ≡ Bad y → DeclPost parameterList n i T (Bad y) T₂
-      unfolding someParameters
-      parameters-more-bad e₂ =
-          let l = there T₁ n j k 32 ek z (omega arith) in
-          let w = within-ok e (p .within) in
-          record {
-            kept = q .kept ∙ p .kept;
-            within = tt;
-            says = λ ts h. at-suc (λ f. someParameters f ts i) (λ f enough. bind-ok _ e (p .says ts h (suc f) (omega arith))
-                (λ u eu tu. rw (is (tokens-kept few (p .kept) h) j ek z) (bind-bad _ e₂ (q .says ts (tokens-kept few (p .kept) h) f (omega arith)))));
-          }
+    pub parameters-more : {T₂ T₃ : List ℕ} {r₂ r : Answer} → k ≡ 32 → DeclPost parameterList n (j + 1) T₁ r₂ T₂ → Linked x T₂ r₂ r T₃
+        → DeclPost parameterList n i T r T₃
+    parameters-more z q l =
+        let w = within-ok e (p .within) in
+        as-declarations (omega arith)
+        (more-members few (of-declaration (16 * (n - i)) (omega arith) p) _∷_ [] is-more is-none (λ f ts j. someParameters f ts j) (omega arith) e ek z (omega arith)
+        (of-declaration (16 * (n - i)) (omega arith) q) l) (omega arith) (λ f ts h. some-parameters f ts i)
 
 module _ {n i k : ℕ} {T : List ℕ} (ek : k ≡ kindInTable T n i) where
   pub formals-none : k ≡ 35 → DeclPost formals n i T (At 2048 (i + 1)) T
@@ -261,7 +221,7 @@ module _ {n i k : ℕ} {T : List ℕ} (ek : k ≡ kindInTable T n i) where
       record {
         kept = refl;
         within = (omega arith, omega arith, omega arith);
-        says = λ ts h f enough. rw (is h i ek z) (met-ok refl (sym (is-none T)));
+        says = λ ts h f enough. rw (is h i ek z) (met-ok refl (sym (is-none T .1)));
       }
 
   pub formals-some : {T₁ : List ℕ} {r : Answer} → k ≢ 35 → DeclPost parameterList n i T r T₁ → DeclPost formals n i T r T₁

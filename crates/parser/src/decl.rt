@@ -3,6 +3,8 @@ use crate::answer::Answer;
 use crate::columns;
 use crate::expr::operation;
 use crate::kinds::is_name;
+use crate::parts::followed;
+use crate::parts::linked;
 use crate::stmt::list;
 use crate::stmt::single;
 use crate::table::kind;
@@ -15,6 +17,7 @@ use lexer::kinds::CLOSE;
 use lexer::kinds::CLOSE_BRACE;
 use lexer::kinds::CLOSE_BRACKET;
 use lexer::kinds::COMMA;
+use lexer::kinds::END;
 use lexer::kinds::EXTENDS;
 use lexer::kinds::INT;
 use lexer::kinds::MAIN;
@@ -34,7 +37,7 @@ ghost use Prim.Native.Nat.{_+_, _<_, _≤_};
 ghost use lib.ListN.{length};
 ghost use Rattle.parser.specs.contracts.Layout.{methodRow, classRow};
 ghost use Rattle.parser.specs.contracts.Post.{Parsable, kindInTable};
-ghost use Rattle.parser.specs.contracts.DeclarationPost.{DeclPost, LocalsPost, BodyPost, ReturnedPost, MembersPost, ClassMethodsPost, ProgramPost};
+ghost use Rattle.parser.specs.contracts.DeclarationPost.{DeclPost, OpenedPost, LocalsPost, BodyPost, ReturnedPost, MembersPost, ClassMethodsPost, ProgramPost};
 ghost use Rattle.parser.specs.contracts.DeclarationPost.{startsVariable, EndsThere};
 ghost use Rattle.parser.specs.contracts.DeclarationPost.{aType, aVariable, variableList, parameterList, formals, aMethod, methodList, aParent, aClass, classList};
 
@@ -107,35 +110,30 @@ fn variables(table: &mut [u32], in_class: bool, n: usize, i: usize) -> Answer
     ensures { λ r. ⌜ DeclPost (variableList «in_class») n i (now (table .entry)) r (now (table .exit)) ⌝ }
 {
     if starts_variable(table, in_class, n, i) {
-        return some_variables(table, in_class, n, i);
+        let a = variable(table, n, i);
+        let b = followed(table, n, a, SEMICOLON);
+        match b {
+            Answer::At(row, next) => {
+                let c = variables(table, in_class, n, next);
+                return linked(table, row, c);
+            }
+            Answer::Bad(at) => {
+                return Answer::Bad(at);
+            }
+        }
     }
     Answer::At(columns::ABSENT, i)
 }
 
-// One or more of them.
-fn some_variables(table: &mut [u32], in_class: bool, n: usize, i: usize) -> Answer
-    requires { ⌜ Parsable (now table) n i × (startsVariable (now table) «in_class» n i ≡ true) ⌝ }
-    ensures { λ r. ⌜ DeclPost (variableList «in_class») n i (now (table .entry)) r (now (table .exit)) ⌝ }
+// `{` and fields or locals.
+fn opened(table: &mut [u32], in_class: bool, n: usize, j: usize) -> Answer
+    requires { ⌜ Parsable (now table) n j ⌝ }
+    ensures { λ r. ⌜ OpenedPost «in_class» n j (now (table .entry)) r (now (table .exit)) ⌝ }
 {
-    let a = variable(table, n, i);
-    match a {
-        Answer::At(row, next) => {
-            if kind(table, n, next) == SEMICOLON {
-                let b = variables(table, in_class, n, next + 1);
-                match b {
-                    Answer::At(more, end) => {
-                        link(table, row, more);
-                        return Answer::At(row, end);
-                    }
-                    Answer::Bad(at) => {
-                        return Answer::Bad(at);
-                    }
-                }
-            }
-            Answer::Bad(next)
-        }
-        Answer::Bad(at) => Answer::Bad(at),
+    if kind(table, n, j) == OPEN_BRACE {
+        return variables(table, in_class, n, j + 1);
     }
+    Answer::Bad(j)
 }
 
 // Parameters, with the `)` that ends them.
@@ -164,15 +162,7 @@ fn some_parameters(table: &mut [u32], n: usize, i: usize) -> Answer
             }
             if k == COMMA {
                 let b = some_parameters(table, n, next + 1);
-                match b {
-                    Answer::At(more, end) => {
-                        link(table, row, more);
-                        return Answer::At(row, end);
-                    }
-                    Answer::Bad(at) => {
-                        return Answer::Bad(at);
-                    }
-                }
+                return linked(table, row, b);
             }
             Answer::Bad(next)
         }
@@ -186,20 +176,14 @@ fn method(table: &mut [u32], n: usize, i: usize) -> Answer
     ensures { λ r. ⌜ DeclPost aMethod n i (now (table .entry)) r (now (table .exit)) ⌝ }
 {
     let a = variable(table, n, i + 1);
-    match a {
+    let b = followed(table, n, a, OPEN);
+    match b {
         Answer::At(name, next) => {
-            if kind(table, n, next) == OPEN {
-                let b = parameters(table, n, next + 1);
-                match b {
-                    Answer::At(first, end) => {
-                        return locals(table, n, name, first, end);
-                    }
-                    Answer::Bad(at) => {
-                        return Answer::Bad(at);
-                    }
-                }
+            let c = parameters(table, n, next);
+            match c {
+                Answer::At(first, end) => locals(table, n, name, first, end),
+                Answer::Bad(at) => Answer::Bad(at),
             }
-            Answer::Bad(next)
         }
         Answer::Bad(at) => Answer::Bad(at),
     }
@@ -210,18 +194,11 @@ fn locals(table: &mut [u32], n: usize, name: usize, first: usize, j: usize) -> A
     requires { ⌜ Parsable (now table) n j × (name + 1 < n) × (first ≤ 2048) ⌝ }
     ensures { λ r. ⌜ LocalsPost n name first j (now (table .entry)) r (now (table .exit)) ⌝ }
 {
-    if kind(table, n, j) == OPEN_BRACE {
-        let a = variables(table, false, n, j + 1);
-        match a {
-            Answer::At(second, next) => {
-                return body(table, n, name, first, second, next);
-            }
-            Answer::Bad(at) => {
-                return Answer::Bad(at);
-            }
-        }
+    let a = opened(table, false, n, j);
+    match a {
+        Answer::At(second, next) => body(table, n, name, first, second, next),
+        Answer::Bad(at) => Answer::Bad(at),
     }
-    Answer::Bad(j)
 }
 
 // A method after its locals.
@@ -230,13 +207,9 @@ fn body(table: &mut [u32], n: usize, name: usize, first: usize, second: usize, j
     ensures { λ r. ⌜ BodyPost n name first second j (now (table .entry)) r (now (table .exit)) ⌝ }
 {
     let a = list(table, n, j);
-    match a {
-        Answer::At(start, next) => {
-            if kind(table, n, next) == RETURN {
-                return returned(table, n, name, first, second, start, next + 1);
-            }
-            Answer::Bad(next)
-        }
+    let b = followed(table, n, a, RETURN);
+    match b {
+        Answer::At(start, next) => returned(table, n, name, first, second, start, next),
         Answer::Bad(at) => Answer::Bad(at),
     }
 }
@@ -255,15 +228,12 @@ fn returned(
     ensures { λ r. ⌜ ReturnedPost n name first second start j (now (table .entry)) r (now (table .exit)) ⌝ }
 {
     let a = operation(table, n, 0, j);
-    match a {
+    let b = followed(table, n, a, SEMICOLON);
+    let c = followed(table, n, b, CLOSE_BRACE);
+    match c {
         Answer::At(value, next) => {
-            let end = [SEMICOLON, CLOSE_BRACE];
-            let m = matched(table, n, next, &end);
-            if m < 2 {
-                return Answer::Bad(next + m);
-            }
             method_row(table, name, first, second, start, value);
-            Answer::At(name, next + 2)
+            Answer::At(name, next)
         }
         Answer::Bad(at) => Answer::Bad(at),
     }
@@ -297,15 +267,7 @@ fn methods(table: &mut [u32], n: usize, i: usize) -> Answer
         match a {
             Answer::At(row, next) => {
                 let b = methods(table, n, next);
-                match b {
-                    Answer::At(more, end) => {
-                        link(table, row, more);
-                        return Answer::At(row, end);
-                    }
-                    Answer::Bad(at) => {
-                        return Answer::Bad(at);
-                    }
-                }
+                return linked(table, row, b);
             }
             Answer::Bad(at) => {
                 return Answer::Bad(at);
@@ -356,18 +318,11 @@ fn members(table: &mut [u32], n: usize, name: usize, above: usize, j: usize) -> 
     requires { ⌜ Parsable (now table) n j × (name < n) × (above ≤ 2048) ⌝ }
     ensures { λ r. ⌜ MembersPost n name above j (now (table .entry)) r (now (table .exit)) ⌝ }
 {
-    if kind(table, n, j) == OPEN_BRACE {
-        let a = variables(table, true, n, j + 1);
-        match a {
-            Answer::At(first, next) => {
-                return class_methods(table, n, name, above, first, next);
-            }
-            Answer::Bad(at) => {
-                return Answer::Bad(at);
-            }
-        }
+    let a = opened(table, true, n, j);
+    match a {
+        Answer::At(first, next) => class_methods(table, n, name, above, first, next),
+        Answer::Bad(at) => Answer::Bad(at),
     }
-    Answer::Bad(j)
 }
 
 // A class after its fields.
@@ -383,13 +338,11 @@ fn class_methods(
     ensures { λ r. ⌜ ClassMethodsPost n name above first j (now (table .entry)) r (now (table .exit)) ⌝ }
 {
     let a = methods(table, n, j);
-    match a {
+    let b = followed(table, n, a, CLOSE_BRACE);
+    match b {
         Answer::At(second, next) => {
-            if kind(table, n, next) == CLOSE_BRACE {
-                class_row(table, name, above, first, second);
-                return Answer::At(name, next + 1);
-            }
-            Answer::Bad(next)
+            class_row(table, name, above, first, second);
+            Answer::At(name, next)
         }
         Answer::Bad(at) => Answer::Bad(at),
     }
@@ -410,20 +363,14 @@ fn classes(table: &mut [u32], n: usize, i: usize) -> Answer
     requires { ⌜ Parsable (now table) n i ⌝ }
     ensures { λ r. ⌜ DeclPost classList n i (now (table .entry)) r (now (table .exit)) ⌝ }
 {
-    if kind(table, n, i) == 0 {
+    if kind(table, n, i) == END {
         return Answer::At(columns::ABSENT, i);
     }
     let a = class(table, n, i);
     match a {
         Answer::At(row, next) => {
             let b = classes(table, n, next);
-            match b {
-                Answer::At(more, end) => {
-                    link(table, row, more);
-                    Answer::At(row, end)
-                }
-                Answer::Bad(at) => Answer::Bad(at),
-            }
+            linked(table, row, b)
         }
         Answer::Bad(at) => Answer::Bad(at),
     }
@@ -455,15 +402,12 @@ pub fn program(table: &mut [u32], n: usize) -> Answer
         return Answer::Bad(m);
     }
     let a = single(table, n, columns::MAIN_STATEMENT);
-    match a {
+    let b = followed(table, n, a, CLOSE_BRACE);
+    let c = followed(table, n, b, CLOSE_BRACE);
+    match c {
         Answer::At(_, next) => {
-            let end = [CLOSE_BRACE, CLOSE_BRACE];
-            let e = matched(table, n, next, &end);
-            if e < 2 {
-                return Answer::Bad(next + e);
-            }
-            let b = classes(table, n, next + 2);
-            match b {
+            let d = classes(table, n, next);
+            match d {
                 Answer::At(first, last) => {
                     link(table, 0, first);
                     Answer::At(first, last)

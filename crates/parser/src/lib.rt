@@ -4,5 +4,6 @@ pub mod columns;
 pub mod decl;
 pub mod expr;
 pub mod kinds;
+pub mod parts;
 pub mod stmt;
 pub mod table;

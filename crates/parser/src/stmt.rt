@@ -4,8 +4,11 @@ use crate::columns;
 use crate::expr::operation;
 use crate::kinds::begins_statement;
 use crate::kinds::is_name;
+use crate::parts::followed;
+use crate::parts::linked;
+use crate::parts::one_part;
+use crate::parts::two_parts;
 use crate::table::kind;
-use crate::table::link;
 use crate::table::matched;
 use crate::table::node;
 use crate::table::third;
@@ -29,7 +32,8 @@ ghost use mathlib.Core.Bool.{true};
 ghost use Prim.Native.Nat.{_+_, _<_};
 ghost use Rattle.lexer.specs.Kinds.{isName};
 ghost use Rattle.parser.specs.Parse.{aStatement};
-ghost use Rattle.parser.specs.contracts.Post.{Parsable, ModePost, ListPost, TailPost, branching, repeating, kindInTable};
+ghost use Rattle.parser.specs.contracts.Post.{Parsable, ModePost, ListPost, BranchesPost, kindInTable};
+ghost use Rattle.parser.specs.contracts.Parts.{TestPost};
 
 // One statement.
 pub fn single(table: &mut [u32], n: usize, i: usize) -> Answer
@@ -65,15 +69,7 @@ pub fn list(table: &mut [u32], n: usize, i: usize) -> Answer
         match a {
             Answer::At(row, next) => {
                 let b = list(table, n, next);
-                match b {
-                    Answer::At(more, end) => {
-                        link(table, row, more);
-                        return Answer::At(row, end);
-                    }
-                    Answer::Bad(at) => {
-                        return Answer::Bad(at);
-                    }
-                }
+                return linked(table, row, b);
             }
             Answer::Bad(at) => {
                 return Answer::Bad(at);
@@ -89,16 +85,20 @@ fn block(table: &mut [u32], n: usize, i: usize) -> Answer
     ensures { λ r. ⌜ ModePost aStatement n n i (now (table .entry)) r (now (table .exit)) ⌝ }
 {
     let a = list(table, n, i + 1);
-    match a {
-        Answer::At(row, next) => {
-            if kind(table, n, next) == CLOSE_BRACE {
-                node(table, i, i, row, columns::ABSENT);
-                return Answer::At(i, next + 1);
-            }
-            Answer::Bad(next)
-        }
-        Answer::Bad(at) => Answer::Bad(at),
+    let b = followed(table, n, a, CLOSE_BRACE);
+    one_part(table, i, b)
+}
+
+// `(e)`, after `if` or `while`
+fn test(table: &mut [u32], n: usize, i: usize) -> Answer
+    requires { ⌜ Parsable (now table) n i ⌝ }
+    ensures { λ r. ⌜ TestPost n i (now (table .entry)) r (now (table .exit)) ⌝ }
+{
+    if kind(table, n, i + 1) == OPEN {
+        let a = operation(table, n, 0, i + 2);
+        return followed(table, n, a, CLOSE);
     }
+    Answer::Bad(i + 1)
 }
 
 // `if (e) s else t`
@@ -106,45 +106,31 @@ fn conditional(table: &mut [u32], n: usize, i: usize) -> Answer
     requires { ⌜ Parsable (now table) n i × (kindInTable (now table) n i ≡ 10) ⌝ }
     ensures { λ r. ⌜ ModePost aStatement n n i (now (table .entry)) r (now (table .exit)) ⌝ }
 {
-    if kind(table, n, i + 1) == OPEN {
-        let a = operation(table, n, 0, i + 2);
-        match a {
-            Answer::At(test, j) => {
-                if kind(table, n, j) == CLOSE {
-                    return branches(table, n, i, test, j + 1);
-                }
-                return Answer::Bad(j);
-            }
-            Answer::Bad(at) => {
-                return Answer::Bad(at);
-            }
-        }
+    let a = test(table, n, i);
+    match a {
+        Answer::At(row, next) => branches(table, n, i, row, next),
+        Answer::Bad(at) => Answer::Bad(at),
     }
-    Answer::Bad(i + 1)
 }
 
 // `s else t`, after a test
 fn branches(table: &mut [u32], n: usize, i: usize, test: usize, j: usize) -> Answer
     requires { ⌜ Parsable (now table) n j × (i < j) × (test < n) ⌝ }
-    ensures { λ r. ⌜ TailPost branching n i test j (now (table .entry)) r (now (table .exit)) ⌝ }
+    ensures { λ r. ⌜ BranchesPost n i test j (now (table .entry)) r (now (table .exit)) ⌝ }
 {
     let a = single(table, n, j);
-    match a {
+    let b = followed(table, n, a, ELSE);
+    match b {
         Answer::At(yes, k) => {
-            if kind(table, n, k) == ELSE {
-                let b = single(table, n, k + 1);
-                match b {
-                    Answer::At(no, end) => {
-                        node(table, i, i, test, yes);
-                        third(table, i, no);
-                        return Answer::At(i, end);
-                    }
-                    Answer::Bad(at) => {
-                        return Answer::Bad(at);
-                    }
+            let c = single(table, n, k);
+            match c {
+                Answer::At(no, end) => {
+                    node(table, i, i, test, yes);
+                    third(table, i, no);
+                    Answer::At(i, end)
                 }
+                Answer::Bad(at) => Answer::Bad(at),
             }
-            Answer::Bad(k)
         }
         Answer::Bad(at) => Answer::Bad(at),
     }
@@ -155,33 +141,11 @@ fn while_loop(table: &mut [u32], n: usize, i: usize) -> Answer
     requires { ⌜ Parsable (now table) n i × (kindInTable (now table) n i ≡ 23) ⌝ }
     ensures { λ r. ⌜ ModePost aStatement n n i (now (table .entry)) r (now (table .exit)) ⌝ }
 {
-    if kind(table, n, i + 1) == OPEN {
-        let a = operation(table, n, 0, i + 2);
-        match a {
-            Answer::At(test, j) => {
-                if kind(table, n, j) == CLOSE {
-                    return repeated(table, n, i, test, j + 1);
-                }
-                return Answer::Bad(j);
-            }
-            Answer::Bad(at) => {
-                return Answer::Bad(at);
-            }
-        }
-    }
-    Answer::Bad(i + 1)
-}
-
-// `s`, after the test of a `while`
-fn repeated(table: &mut [u32], n: usize, i: usize, test: usize, j: usize) -> Answer
-    requires { ⌜ Parsable (now table) n j × (i < j) × (test < n) ⌝ }
-    ensures { λ r. ⌜ TailPost repeating n i test j (now (table .entry)) r (now (table .exit)) ⌝ }
-{
-    let a = single(table, n, j);
+    let a = test(table, n, i);
     match a {
-        Answer::At(body, end) => {
-            node(table, i, i, test, body);
-            Answer::At(i, end)
+        Answer::At(row, next) => {
+            let b = single(table, n, next);
+            two_parts(table, i, i, row, b)
         }
         Answer::Bad(at) => Answer::Bad(at),
     }
@@ -198,18 +162,9 @@ fn print(table: &mut [u32], n: usize, i: usize) -> Answer
         return Answer::Bad(i + 1 + m);
     }
     let a = operation(table, n, 0, i + 6);
-    match a {
-        Answer::At(row, next) => {
-            let end = [CLOSE, SEMICOLON];
-            let e = matched(table, n, next, &end);
-            if e < 2 {
-                return Answer::Bad(next + e);
-            }
-            node(table, i, i, row, columns::ABSENT);
-            Answer::At(i, next + 2)
-        }
-        Answer::Bad(at) => Answer::Bad(at),
-    }
+    let b = followed(table, n, a, CLOSE);
+    let c = followed(table, n, b, SEMICOLON);
+    one_part(table, i, c)
 }
 
 // `x = e;` or `x[e] = e;`
@@ -223,18 +178,8 @@ fn assignment(table: &mut [u32], n: usize, i: usize) -> Answer
     }
     if k == ASSIGN {
         let a = operation(table, n, 0, i + 2);
-        match a {
-            Answer::At(row, next) => {
-                if kind(table, n, next) == SEMICOLON {
-                    node(table, i, i, row, columns::ABSENT);
-                    return Answer::At(i, next + 1);
-                }
-                return Answer::Bad(next);
-            }
-            Answer::Bad(at) => {
-                return Answer::Bad(at);
-            }
-        }
+        let b = followed(table, n, a, SEMICOLON);
+        return one_part(table, i, b);
     }
     Answer::Bad(i + 1)
 }
@@ -245,24 +190,13 @@ fn assign_element(table: &mut [u32], n: usize, i: usize) -> Answer
     ensures { λ r. ⌜ ModePost aStatement n n i (now (table .entry)) r (now (table .exit)) ⌝ }
 {
     let a = operation(table, n, 0, i + 2);
-    match a {
+    let b = followed(table, n, a, CLOSE_BRACKET);
+    let c = followed(table, n, b, ASSIGN);
+    match c {
         Answer::At(index, j) => {
-            let end = [CLOSE_BRACKET, ASSIGN];
-            let m = matched(table, n, j, &end);
-            if m < 2 {
-                return Answer::Bad(j + m);
-            }
-            let b = operation(table, n, 0, j + 2);
-            match b {
-                Answer::At(row, next) => {
-                    if kind(table, n, next) == SEMICOLON {
-                        node(table, i, i, index, row);
-                        return Answer::At(i, next + 1);
-                    }
-                    Answer::Bad(next)
-                }
-                Answer::Bad(at) => Answer::Bad(at),
-            }
+            let d = operation(table, n, 0, j);
+            let e = followed(table, n, d, SEMICOLON);
+            two_parts(table, i, i, index, e)
         }
         Answer::Bad(at) => Answer::Bad(at),
     }

@@ -5,15 +5,16 @@ use mathlib.Core.List.{List}
 use mathlib.Core.Bool.{Bool, _||_, _&&_}
 use mathlib.Core.Option.{Option}
 use lib.Dec.{eqb}
-use Rattle.lexer.specs.Kinds.{isName, kInt, kBoolean}
+use Rattle.lexer.specs.Kinds.{isName, kInt, kBoolean, kOpenBrace}
 use Rattle.lexer.specs.Tokens.{Token}
 use Rattle.parser.specs.declared.answer.Answer.{Answer}
 use Rattle.parser.specs.declared.answer.Answer.the-variants.{At, Bad}
 use Rattle.parser.specs.Tree.{Name, Sort.statements, Part, TypeUse, Variable, Method, Class, Program}
 use Rattle.parser.specs.Stream.{nameAt}
-use Rattle.parser.specs.Parse.{Parsed, typeFrom, variableFrom, variablesFrom, someParameters, parametersFrom, methodFrom, methodsFrom, parentFrom, classFrom, classesFrom, programFrom, localsFrom, bodyFrom, returnedFrom, membersFrom, classMethodsFrom}
+use Rattle.parser.specs.Parse.{Parsed, expect, typeFrom, variableFrom, variablesFrom, someParameters, parametersFrom, methodFrom, methodsFrom, parentFrom, classFrom, classesFrom, programFrom, localsFrom, bodyFrom, returnedFrom, membersFrom, classMethodsFrom}
 use Rattle.parser.specs.contracts.Layout.{given, rowOf, store, storeVariable, storeVariables, rowVariables, storeMethod, rowMethods, storeMethods, rowParent, storeClass, rowClasses, storeClasses, storeProgram}
 use Rattle.parser.specs.contracts.Post.{kindInTable, TokensIn, Stored, Met, Within}
+use Rattle.parser.specs.contracts.Parts.{PiecePost}
 
 -- the kinds of declarations
 pub data Declaration : Type 0 where
@@ -111,6 +112,13 @@ EndsThere (Bad k) = Unit {0}
 unfoldable pub startsVariable : List ℕ → (inClass : Bool) → (n i : ℕ) → Bool
 startsVariable tab inClass n i =
     eqb (kindInTable tab n i) kInt || eqb (kindInTable tab n i) kBoolean || isName (kindInTable tab n i) && (inClass || isName (kindInTable tab n (i + 1)))
+
+-- `{` and fields or locals
+abbrev pub openedFrom : (inClass : Bool) (j : ℕ) → (fuel : ℕ) → List Token → Parsed (List Variable)
+openedFrom inClass j f ts = expect ts kOpenBrace j λ j. variablesFrom f inClass ts j
+
+pub record OpenedPost (inClass : Bool) (n j : ℕ) (before : List ℕ) (r : Answer) (after : List ℕ) : Type 0 where
+  pub piece : PiecePost (declarationStored (variableList inClass)) (openedFrom inClass j) (16 * (n - j)) (j + 1) n 2049 before r after
 
 -- a method after its parameters, after its locals, and after its `return`; `base` is the table before its head was written
 pub record LocalsPost (n name parameters j : ℕ) (before : List ℕ) (r : Answer) (after : List ℕ) : Type 0 where

@@ -7,13 +7,13 @@ use lib.ListN.{length}
 use lib.Dec.{eqb, ltb}
 use Rattle.base.specs.Choice.{if_then_else_, option}
 use Rattle.base.specs.contracts.Table.{col}
-use Rattle.lexer.specs.Kinds.{isName, kLiteral, kTrue, kFalse, kThis, kNew, kInt, kIf, kWhile}
+use Rattle.lexer.specs.Kinds.{isName, kLiteral, kTrue, kFalse, kThis, kNew, kInt}
 use Rattle.lexer.specs.Tokens.{Token}
 use Rattle.parser.specs.declared.answer.Answer.{Answer}
 use Rattle.parser.specs.declared.answer.Answer.the-variants.{At, Bad}
 use Rattle.parser.specs.Tree.{Sort, Sort.expression, Sort.statement, Sort.statements, Part, Expression, Statement}
 use Rattle.parser.specs.Stream.{kindAt, startAt, Level, Level.conjunction, Level.comparison, Level.sum, Level.product, operatorOf}
-use Rattle.parser.specs.Parse.{Parsed, ok, bad, Mode, operation, operations, operand, unary, postfix, primary, suffixes, argumentList, someArguments, aStatement, statementList, accepts, parseAs, branchesFrom, repeatedFrom}
+use Rattle.parser.specs.Parse.{Parsed, ok, bad, Mode, operation, operations, operand, unary, postfix, primary, suffixes, argumentList, someArguments, aStatement, statementList, accepts, parseAs, branchesFrom}
 use Rattle.parser.specs.contracts.Layout.{rowOf, store, given}
 
 -- THE TOKENS IN THE TABLE
@@ -133,21 +133,9 @@ pub record ListPost (n i : ℕ) (before : List ℕ) (r : Answer) (after : List �
   pub within : Within i n 2049 r
   pub says : (ts : List Token) → TokensIn before n ts → (f : ℕ) → fuel statementList n i < f → Met (part statements) before after r (parseAs f ts statementList i)
 
--- what follows the test of an `if` or of a `while`
-pub data Tail : Type 0 where
-  branching repeating : Tail
-
--- the kind of the token that such a statement begins with
-abbrev pub tailKind : Tail → ℕ
-tailKind branching = kIf
-tailKind repeating = kWhile
-
-abbrev pub tailFrom : Tail → List Token → ((s : Sort) → Mode s → ℕ → Parsed (Part s)) → (i : ℕ) → Expression → ℕ → Parsed Statement
-tailFrom branching ts P i e j = branchesFrom ts P i e j
-tailFrom repeating ts P i e j = repeatedFrom ts P i e j
-
-pub record TailPost (t : Tail) (n i test j : ℕ) (before : List ℕ) (r : Answer) (after : List ℕ) : Type 0 where
+-- what ensures the parser that goes on after the test of an `if`, which was written over `base`
+pub record BranchesPost (n i test j : ℕ) (before : List ℕ) (r : Answer) (after : List ℕ) : Type 0 where
   pub kept : given after ≡ given before
   pub within : Within (j + 1) n n r
   pub says : (e : Expression) (base : List ℕ) → test ≡ rowOf e → before ≡ store e base → (ts : List Token) → TokensIn before n ts → (f : ℕ) → 16 * (n - j) < f
-      → Met (part statement) base after r (tailFrom t ts (λ s m j. parseAs f ts m j) i e j)
+      → Met (part statement) base after r (branchesFrom ts (λ s m j. parseAs f ts m j) i e j)

@@ -6,15 +6,16 @@ use Rattle.parser.proofs.decl.classes.Reads as classes
 use Rattle.parser.proofs.decl.classes.Kinds as classes-kinds
 use Rattle.parser.proofs.decl.+classes.Lts-classes as classes-lts
 use Rattle.parser.proofs.decl.class.Reads as class-reads
+use Rattle.parser.proofs.parts.linked.Reads as linked-reads
 use Rattle.parser.proofs.table.kind.Reads as kind-reads
-use Rattle.parser.proofs.table.link.Reads as link-reads
 use Rattle.parser.proofs.decl.+classes.{statement}
 use Rattle.parser.proofs.decl.+classes.Tie.{close}
-use Prim.Native.Nat.{_+_, _-_}
+use Prim.Native.Nat.{_+_, _*_, _-_}
 use borrow.Author.Needs.{needs}
 use native.Mathlib.Omega.{arith}
 use Rattle.parser.proofs.Laws.{within-ok}
-use Rattle.parser.proofs.Methods.{classes-end, classes-bad, classes-more, classes-more-bad}
+use Rattle.parser.proofs.Pieces.{declared-fits}
+use Rattle.parser.proofs.Methods.{classes-end, classes-bad, classes-more}
 
 abbrev μ-classes : Measures 1 classes-kinds.ps ℕ
 μ-classes κs a = a .1 .0 - a .1 .1 .0
@@ -26,7 +27,16 @@ abbrev classes-below : ℕ → In 1 classes-kinds.ps
 classes-below t = and 1 classes-kinds.ps (falls 1 classes-kinds.ps _<_ μ-classes t) classes.Pre
 
 abbrev classes-calls : ℕ → classes-lts.Claims
-classes-calls t = (kind-reads.Asked, kind-reads.Learnt, class-reads.Asked, class-reads.Learnt, classes-below t, classes.Post, link-reads.Asked, link-reads.Learnt)
+classes-calls t = (
+  kind-reads.Asked,
+  kind-reads.Learnt,
+  class-reads.Asked,
+  class-reads.Learnt,
+  classes-below t,
+  classes.Post,
+  linked-reads.Asked,
+  linked-reads.Learnt,
+)
 
 module _ (t : ℕ) where
   classes-kind-requires : classes-lts.Need-kind-requires (classes-calls t) (classes-at t) classes.Post
@@ -45,16 +55,24 @@ module _ (t : ℕ) where
   classes-enum-known-a c = search needs
 
   classes-classes-requires : classes-lts.Need-classes-requires (classes-calls t) (classes-at t) classes.Post
-  classes-classes-requires c κs = omega (arith, within-ok (c .before .before .a .given .1) (c .before .before .before .before .before .before .class .ensures .within))
+  classes-classes-requires c κs =
+      omega (
+        arith,
+        within-ok (c .before .before .a .given .1)
+            (c .before .before .before .before .before .before .class .ensures .within),
+      )
 
-  classes-enum-known-b : classes-lts.Need-enum-known-b (classes-calls t) (classes-at t) classes.Post
-  classes-enum-known-b c = search needs
-
-  classes-link-requires : classes-lts.Need-link-requires (classes-calls t) (classes-at t) classes.Post
-  classes-link-requires c κs = omega (arith, within-ok (c .before .before .before .before .before .before .before .before .before .a .given .1) (c .before .before .before .before .before .before .before .before .before .before .before .before .before .class .ensures .within), within-ok (c .before .before .b .given .1) (c .before .before .before .before .before .before .classes .ensures .within))
-
-  classes-enum-known-b-2 : classes-lts.Need-enum-known-b-2 (classes-calls t) (classes-at t) classes.Post
-  classes-enum-known-b-2 c = search needs
+  classes-linked-requires : classes-lts.Need-linked-requires (classes-calls t) (classes-at t) classes.Post
+  classes-linked-requires c κs = (
+    omega arith,
+    omega (
+      arith,
+      within-ok (c .before .before .before .before .before .before .a .given .1)
+          (c .before .before .before .before .before .before .before .before .before .before .class .ensures .within),
+    ),
+    declared-fits
+        (c .before .before .before .classes .ensures) (omega arith),
+  )
 
   classes-enum-known-a-2 : classes-lts.Need-enum-known-a-2 (classes-calls t) (classes-at t) classes.Post
   classes-enum-known-a-2 c = search needs
@@ -69,15 +87,11 @@ module _ (t : ℕ) where
   classes-same-length-3 c = search needs
 
   classes-returns-3 : classes-lts.Need-returns-3 (classes-calls t) (classes-at t) classes.Post
-  classes-returns-3 c = search classes-more-bad
-
-  classes-same-length-4 : classes-lts.Need-same-length-4 (classes-calls t) (classes-at t) classes.Post
-  classes-same-length-4 c = search needs
-
-  classes-returns-4 : classes-lts.Need-returns-4 (classes-calls t) (classes-at t) classes.Post
-  classes-returns-4 c = search classes-bad
+  classes-returns-3 c = search classes-bad
 
 pub +classes-spec : {M : Type 1} → statement M
 +classes-spec =
     close μ-classes
-    (λ t. classes-lts.spec (classes-calls t) (classes-at t) classes.Post (classes-kind-requires t) (classes-same-length t) (classes-returns t) (classes-class-requires t) (classes-enum-known-a t) (classes-classes-requires t) (classes-enum-known-b t) (classes-link-requires t) (classes-enum-known-b-2 t) (classes-enum-known-a-2 t) (classes-same-length-2 t) (classes-returns-2 t) (classes-same-length-3 t) (classes-returns-3 t) (classes-same-length-4 t) (classes-returns-4 t))
+    (λ t. classes-lts.spec (classes-calls t) (classes-at t) classes.Post (classes-kind-requires t) (classes-same-length t)
+    (classes-returns t) (classes-class-requires t) (classes-enum-known-a t) (classes-classes-requires t) (classes-linked-requires t)
+    (classes-enum-known-a-2 t) (classes-same-length-2 t) (classes-returns-2 t) (classes-same-length-3 t) (classes-returns-3 t))

@@ -6,16 +6,17 @@ use Rattle.parser.proofs.decl.methods.Reads as methods
 use Rattle.parser.proofs.decl.methods.Kinds as methods-kinds
 use Rattle.parser.proofs.decl.+methods.Lts-methods as methods-lts
 use Rattle.parser.proofs.decl.method.Reads as method-reads
+use Rattle.parser.proofs.parts.linked.Reads as linked-reads
 use Rattle.parser.proofs.table.kind.Reads as kind-reads
-use Rattle.parser.proofs.table.link.Reads as link-reads
 use Rattle.parser.proofs.decl.+methods.{statement}
 use Rattle.parser.proofs.decl.+methods.Tie.{close}
-use Prim.Native.Nat.{_+_, _-_}
+use Prim.Native.Nat.{_+_, _*_, _-_}
 use borrow.Author.Needs.{needs}
 use native.Mathlib.Omega.{arith}
 use lib.Dec.{lit<}
 use Rattle.parser.proofs.Laws.{there, within-ok}
-use Rattle.parser.proofs.Methods.{methods-end, methods-bad, methods-more, methods-more-bad}
+use Rattle.parser.proofs.Pieces.{declared-fits}
+use Rattle.parser.proofs.Methods.{methods-end, methods-bad, methods-more}
 
 abbrev μ-methods : Measures 1 methods-kinds.ps ℕ
 μ-methods κs a = a .1 .0 - a .1 .1 .0
@@ -27,7 +28,16 @@ abbrev methods-below : ℕ → In 1 methods-kinds.ps
 methods-below t = and 1 methods-kinds.ps (falls 1 methods-kinds.ps _<_ μ-methods t) methods.Pre
 
 abbrev methods-calls : ℕ → methods-lts.Claims
-methods-calls t = (kind-reads.Asked, kind-reads.Learnt, method-reads.Asked, method-reads.Learnt, methods-below t, methods.Post, link-reads.Asked, link-reads.Learnt)
+methods-calls t = (
+  kind-reads.Asked,
+  kind-reads.Learnt,
+  method-reads.Asked,
+  method-reads.Learnt,
+  methods-below t,
+  methods.Post,
+  linked-reads.Asked,
+  linked-reads.Learnt,
+)
 
 module _ (t : ℕ) where
   methods-kind-requires : methods-lts.Need-kind-requires (methods-calls t) (methods-at t) methods.Post
@@ -40,13 +50,28 @@ module _ (t : ℕ) where
   methods-enum-known-a c = search needs
 
   methods-methods-requires : methods-lts.Need-methods-requires (methods-calls t) (methods-at t) methods.Post
-  methods-methods-requires c κs = omega (arith, within-ok (c .before .before .a .given .1) (c .before .before .before .before .before .before .method .ensures .within), there (c .before .before .before .before .before .before .before .before .before .before .before .before .args .table .now) (c .before .before .before .before .before .before .before .before .before .before .before .before .args .n) (c .before .before .before .before .before .before .before .before .before .before .before .before .args .i) _ 15 (c .before .before .before .before .before .before .before .before .before .kind .ensures) (c .before .before .before .before .before .before .before .before .if1 .taken) (lit< tt))
+  methods-methods-requires c κs =
+      let g = c .before .before .before .before .before .before .before .before .before .before .before .before in
+      omega (
+        arith,
+        within-ok (c .before .before .a .given .1)
+            (c .before .before .before .before .before .before .method .ensures .within),
+        there (g .args .table .now) (g .args .n)
+            (g .args .i) _ 15 (c .before .before .before .before .before .before .before .before .before .kind .ensures)
+            (c .before .before .before .before .before .before .before .before .if1 .taken) (lit< tt),
+      )
 
-  methods-enum-known-b : methods-lts.Need-enum-known-b (methods-calls t) (methods-at t) methods.Post
-  methods-enum-known-b c = search needs
-
-  methods-link-requires : methods-lts.Need-link-requires (methods-calls t) (methods-at t) methods.Post
-  methods-link-requires c κs = omega (arith, within-ok (c .before .before .before .before .before .before .before .before .before .a .given .1) (c .before .before .before .before .before .before .before .before .before .before .before .before .before .method .ensures .within), within-ok (c .before .before .b .given .1) (c .before .before .before .before .before .before .methods .ensures .within))
+  methods-linked-requires : methods-lts.Need-linked-requires (methods-calls t) (methods-at t) methods.Post
+  methods-linked-requires c κs = (
+    omega arith,
+    omega (
+      arith,
+      within-ok (c .before .before .before .before .before .before .a .given .1)
+          (c .before .before .before .before .before .before .before .before .before .before .method .ensures .within),
+    ),
+    declared-fits
+        (c .before .before .before .methods .ensures) (omega arith),
+  )
 
   methods-same-length : methods-lts.Need-same-length (methods-calls t) (methods-at t) methods.Post
   methods-same-length c = search needs
@@ -54,31 +79,24 @@ module _ (t : ℕ) where
   methods-returns : methods-lts.Need-returns (methods-calls t) (methods-at t) methods.Post
   methods-returns c = search methods-more
 
-  methods-enum-known-b-2 : methods-lts.Need-enum-known-b-2 (methods-calls t) (methods-at t) methods.Post
-  methods-enum-known-b-2 c = search needs
+  methods-enum-known-a-2 : methods-lts.Need-enum-known-a-2 (methods-calls t) (methods-at t) methods.Post
+  methods-enum-known-a-2 c = search needs
 
   methods-same-length-2 : methods-lts.Need-same-length-2 (methods-calls t) (methods-at t) methods.Post
   methods-same-length-2 c = search needs
 
   methods-returns-2 : methods-lts.Need-returns-2 (methods-calls t) (methods-at t) methods.Post
-  methods-returns-2 c = search methods-more-bad
-
-  methods-enum-known-a-2 : methods-lts.Need-enum-known-a-2 (methods-calls t) (methods-at t) methods.Post
-  methods-enum-known-a-2 c = search needs
+  methods-returns-2 c = search methods-bad
 
   methods-same-length-3 : methods-lts.Need-same-length-3 (methods-calls t) (methods-at t) methods.Post
   methods-same-length-3 c = search needs
 
   methods-returns-3 : methods-lts.Need-returns-3 (methods-calls t) (methods-at t) methods.Post
-  methods-returns-3 c = search methods-bad
-
-  methods-same-length-4 : methods-lts.Need-same-length-4 (methods-calls t) (methods-at t) methods.Post
-  methods-same-length-4 c = search needs
-
-  methods-returns-4 : methods-lts.Need-returns-4 (methods-calls t) (methods-at t) methods.Post
-  methods-returns-4 c = search methods-end
+  methods-returns-3 c = search methods-end
 
 pub +methods-spec : {M : Type 1} → statement M
 +methods-spec =
     close μ-methods
-    (λ t. methods-lts.spec (methods-calls t) (methods-at t) methods.Post (methods-kind-requires t) (methods-method-requires t) (methods-enum-known-a t) (methods-methods-requires t) (methods-enum-known-b t) (methods-link-requires t) (methods-same-length t) (methods-returns t) (methods-enum-known-b-2 t) (methods-same-length-2 t) (methods-returns-2 t) (methods-enum-known-a-2 t) (methods-same-length-3 t) (methods-returns-3 t) (methods-same-length-4 t) (methods-returns-4 t))
+    (λ t. methods-lts.spec (methods-calls t) (methods-at t) methods.Post (methods-kind-requires t) (methods-method-requires t)
+    (methods-enum-known-a t) (methods-methods-requires t) (methods-linked-requires t) (methods-same-length t) (methods-returns t)
+    (methods-enum-known-a-2 t) (methods-same-length-2 t) (methods-returns-2 t) (methods-same-length-3 t) (methods-returns-3 t))

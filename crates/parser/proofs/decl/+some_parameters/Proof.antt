@@ -6,16 +6,18 @@ use Rattle.parser.proofs.decl.some_parameters.Reads as some-parameters
 use Rattle.parser.proofs.decl.some_parameters.Kinds as some-parameters-kinds
 use Rattle.parser.proofs.decl.+some_parameters.Lts-some_parameters as some-parameters-lts
 use Rattle.parser.proofs.decl.variable.Reads as variable-reads
+use Rattle.parser.proofs.parts.linked.Reads as linked-reads
 use Rattle.parser.proofs.table.kind.Reads as kind-reads
 use Rattle.parser.proofs.table.link.Reads as link-reads
 use Rattle.parser.proofs.decl.+some_parameters.{statement}
 use Rattle.parser.proofs.decl.+some_parameters.Tie.{close}
-use Prim.Native.Nat.{_+_, _-_}
+use Prim.Native.Nat.{_+_, _*_, _-_}
 use borrow.Author.Needs.{needs}
 use native.Mathlib.Omega.{arith}
 use lib.Dec.{lit<}
 use Rattle.parser.proofs.Laws.{there, within-ok}
-use Rattle.parser.proofs.Variables.{parameter-bad, parameter-last, parameter-other, parameters-more, parameters-more-bad}
+use Rattle.parser.proofs.Pieces.{declared-fits}
+use Rattle.parser.proofs.Variables.{parameter-bad, parameter-last, parameter-other, parameters-more}
 
 abbrev μ-some-parameters : Measures 1 some-parameters-kinds.ps ℕ
 μ-some-parameters κs a = a .1 .0 - a .1 .1 .0
@@ -27,7 +29,18 @@ abbrev some-parameters-below : ℕ → In 1 some-parameters-kinds.ps
 some-parameters-below t = and 1 some-parameters-kinds.ps (falls 1 some-parameters-kinds.ps _<_ μ-some-parameters t) some-parameters.Pre
 
 abbrev some-parameters-calls : ℕ → some-parameters-lts.Claims
-some-parameters-calls t = (variable-reads.Asked, variable-reads.Learnt, kind-reads.Asked, kind-reads.Learnt, link-reads.Asked, link-reads.Learnt, some-parameters-below t, some-parameters.Post)
+some-parameters-calls t = (
+  variable-reads.Asked,
+  variable-reads.Learnt,
+  kind-reads.Asked,
+  kind-reads.Learnt,
+  link-reads.Asked,
+  link-reads.Learnt,
+  some-parameters-below t,
+  some-parameters.Post,
+  linked-reads.Asked,
+  linked-reads.Learnt,
+)
 
 module _ (t : ℕ) where
   some-parameters-variable-requires : some-parameters-lts.Need-variable-requires (some-parameters-calls t) (some-parameters-at t) some-parameters.Post
@@ -40,60 +53,107 @@ module _ (t : ℕ) where
   some-parameters-kind-requires c κs = search needs
 
   some-parameters-link-requires : some-parameters-lts.Need-link-requires (some-parameters-calls t) (some-parameters-at t) some-parameters.Post
-  some-parameters-link-requires c κs = omega (arith, within-ok (c .before .before .before .before .before .a .given .1) (c .before .before .before .before .before .before .before .before .before .variable .ensures .0 .within))
+  some-parameters-link-requires c κs =
+      omega (
+        arith,
+        within-ok (c .before .before .before .before .before .a .given .1)
+            (c .before .before .before .before .before .before .before .before .before .variable .ensures .0 .within),
+      )
 
-  some-parameters-add-t22 : some-parameters-lts.Need-add-t22 (some-parameters-calls t) (some-parameters-at t) some-parameters.Post
-  some-parameters-add-t22 c = omega (arith, within-ok (c .before .before .before .before .before .before .before .before .a .given .1) (c .before .before .before .before .before .before .before .before .before .before .before .before .variable .ensures .0 .within))
+  some-parameters-add-t19 : some-parameters-lts.Need-add-t19 (some-parameters-calls t) (some-parameters-at t) some-parameters.Post
+  some-parameters-add-t19 c =
+      omega (
+        arith,
+        within-ok (c .before .before .before .before .before .before .before .before .a .given .1)
+            (c .before .before .before .before .before .before .before .before .before .before .before .before .variable .ensures .0 .within),
+      )
 
   some-parameters-same-length : some-parameters-lts.Need-same-length (some-parameters-calls t) (some-parameters-at t) some-parameters.Post
   some-parameters-same-length c = search needs
 
   some-parameters-returns : some-parameters-lts.Need-returns (some-parameters-calls t) (some-parameters-at t) some-parameters.Post
-  some-parameters-returns c = search parameter-last
+  some-parameters-returns c =
+      let g = c .before .before .before .before .before .before .before .before .before .before .before .before .before .before .before in
+      parameter-last (g .pre .1 .few)
+      (c .before .before .before .before .before .before .before .before .before .before .before .before .variable .ensures .0)
+      (c .before .before .before .before .before .before .before .before .a .given .1)
+      (c .before .before .before .before .before .kind .ensures) (c .before .before .before .before .if1 .taken)
+      (c .before .before .link .ensures)
 
   some-parameters-add-some-parameters : some-parameters-lts.Need-add-some-parameters (some-parameters-calls t) (some-parameters-at t) some-parameters.Post
-  some-parameters-add-some-parameters c = omega (arith, within-ok (c .before .before .before .before .before .before .a .given .1) (c .before .before .before .before .before .before .before .before .before .before .variable .ensures .0 .within))
+  some-parameters-add-some-parameters c =
+      omega (
+        arith,
+        within-ok (c .before .before .before .before .before .before .a .given .1)
+            (c .before .before .before .before .before .before .before .before .before .before .variable .ensures .0 .within),
+      )
 
   some-parameters-some-parameters-requires : some-parameters-lts.Need-some-parameters-requires (some-parameters-calls t) (some-parameters-at t) some-parameters.Post
-  some-parameters-some-parameters-requires c κs = omega (arith, within-ok (c .before .before .before .before .before .before .a .given .1) (c .before .before .before .before .before .before .before .before .before .before .variable .ensures .0 .within), there (c .before .before .before .before .before .before .before .before .before .before .variable .last .0) (c .before .before .before .before .before .before .before .before .before .before .before .before .before .args .n) (c .before .before .before .before .before .before .a .given .0 .1 .0) _ 32 (c .before .before .before .kind .ensures) (c .before .if2 .taken) (lit< tt))
+  some-parameters-some-parameters-requires c κs =
+      let g = c .before .before .before .before .before .before .before .before .before .before .before .before .before in
+      omega (
+        arith,
+        within-ok (c .before .before .before .before .before .before .a .given .1)
+            (c .before .before .before .before .before .before .before .before .before .before .variable .ensures .0 .within),
+        there
+            (c .before .before .before .before .before .before .before .before .before .before .variable .last .0) (g .args .n)
+            (c .before .before .before .before .before .before .a .given .0 .1 .0) _ 32 (c .before .before .before .kind .ensures)
+            (c .before .if2 .taken) (lit< tt),
+      )
 
-  some-parameters-enum-known-b : some-parameters-lts.Need-enum-known-b (some-parameters-calls t) (some-parameters-at t) some-parameters.Post
-  some-parameters-enum-known-b c = search needs
-
-  some-parameters-link-requires-2 : some-parameters-lts.Need-link-requires-2 (some-parameters-calls t) (some-parameters-at t) some-parameters.Post
-  some-parameters-link-requires-2 c κs = omega (arith, within-ok (c .before .before .before .before .before .before .before .before .before .before .before .before .before .a .given .1) (c .before .before .before .before .before .before .before .before .before .before .before .before .before .before .before .before .before .variable .ensures .0 .within), within-ok (c .before .before .b .given .1) (c .before .before .before .before .before .before .some-parameters .ensures .within))
+  some-parameters-linked-requires : some-parameters-lts.Need-linked-requires (some-parameters-calls t) (some-parameters-at t) some-parameters.Post
+  some-parameters-linked-requires c κs = (
+    omega arith,
+    omega (
+      arith,
+      within-ok
+          (c .before .before .before .before .before .before .before .before .before .before .a .given .1)
+          (c .before .before .before .before .before .before .before .before .before .before .before .before .before .before .variable
+          .ensures .0 .within),
+    ),
+    declared-fits (c .before .before .before .some-parameters .ensures) (omega arith),
+  )
 
   some-parameters-same-length-2 : some-parameters-lts.Need-same-length-2 (some-parameters-calls t) (some-parameters-at t) some-parameters.Post
   some-parameters-same-length-2 c = search needs
 
   some-parameters-returns-2 : some-parameters-lts.Need-returns-2 (some-parameters-calls t) (some-parameters-at t) some-parameters.Post
-  some-parameters-returns-2 c = search parameters-more
+  some-parameters-returns-2 c =
+      let g = c .before .before .before .before .before .before .before .before .before .before .before .before .before .before .before .before .before .before .before .before in
+      parameters-more (g .pre .1 .few)
+      (c .before .before .before .before .before .before .before .before .before .before .before .before .before .before .before .before
+      .before .variable .ensures .0)
+      (c .before .before .before .before .before .before .before .before .before .before .before .before .before .a .given .1)
+      (c .before .before .before .before .before .before .before .before .before .before .kind .ensures)
+      (c .before .before .before .before .before .before .before .before .if2 .taken)
+      (c .before .before .before .before .before .before .some-parameters .ensures) (c .before .before .linked .ensures)
 
-  some-parameters-enum-known-b-2 : some-parameters-lts.Need-enum-known-b-2 (some-parameters-calls t) (some-parameters-at t) some-parameters.Post
-  some-parameters-enum-known-b-2 c = search needs
+  some-parameters-enum-known-a-2 : some-parameters-lts.Need-enum-known-a-2 (some-parameters-calls t) (some-parameters-at t) some-parameters.Post
+  some-parameters-enum-known-a-2 c = search needs
 
   some-parameters-same-length-3 : some-parameters-lts.Need-same-length-3 (some-parameters-calls t) (some-parameters-at t) some-parameters.Post
   some-parameters-same-length-3 c = search needs
 
   some-parameters-returns-3 : some-parameters-lts.Need-returns-3 (some-parameters-calls t) (some-parameters-at t) some-parameters.Post
-  some-parameters-returns-3 c = search parameters-more-bad
-
-  some-parameters-enum-known-a-2 : some-parameters-lts.Need-enum-known-a-2 (some-parameters-calls t) (some-parameters-at t) some-parameters.Post
-  some-parameters-enum-known-a-2 c = search needs
+  some-parameters-returns-3 c =
+      let g = c .before .before .before .before .before .before .before .before .before .before .before .before in
+      parameter-other (g .pre .1 .few) (c .before .before .before .before .before .before .before .before .before .variable .ensures .0)
+      (c .before .before .before .before .before .a .given .1) (c .before .before .kind .ensures) (c .before .if1 .left) (c .if2 .left)
 
   some-parameters-same-length-4 : some-parameters-lts.Need-same-length-4 (some-parameters-calls t) (some-parameters-at t) some-parameters.Post
   some-parameters-same-length-4 c = search needs
 
   some-parameters-returns-4 : some-parameters-lts.Need-returns-4 (some-parameters-calls t) (some-parameters-at t) some-parameters.Post
-  some-parameters-returns-4 c = search parameter-other
-
-  some-parameters-same-length-5 : some-parameters-lts.Need-same-length-5 (some-parameters-calls t) (some-parameters-at t) some-parameters.Post
-  some-parameters-same-length-5 c = search needs
-
-  some-parameters-returns-5 : some-parameters-lts.Need-returns-5 (some-parameters-calls t) (some-parameters-at t) some-parameters.Post
-  some-parameters-returns-5 c = search parameter-bad
+  some-parameters-returns-4 c =
+      let g = c .before .before .before .before .before .before .before .before in
+      parameter-bad (g .pre .1 .few) (c .before .before .before .before .before .variable .ensures .0) (c .before .a2 .given .1)
 
 pub +some-parameters-spec : {M : Type 1} → statement M
 +some-parameters-spec =
     close μ-some-parameters
-    (λ t. some-parameters-lts.spec (some-parameters-calls t) (some-parameters-at t) some-parameters.Post (some-parameters-variable-requires t) (some-parameters-enum-known-a t) (some-parameters-kind-requires t) (some-parameters-link-requires t) (some-parameters-add-t22 t) (some-parameters-same-length t) (some-parameters-returns t) (some-parameters-add-some-parameters t) (some-parameters-some-parameters-requires t) (some-parameters-enum-known-b t) (some-parameters-link-requires-2 t) (some-parameters-same-length-2 t) (some-parameters-returns-2 t) (some-parameters-enum-known-b-2 t) (some-parameters-same-length-3 t) (some-parameters-returns-3 t) (some-parameters-enum-known-a-2 t) (some-parameters-same-length-4 t) (some-parameters-returns-4 t) (some-parameters-same-length-5 t) (some-parameters-returns-5 t))
+    (λ t. some-parameters-lts.spec (some-parameters-calls t) (some-parameters-at t) some-parameters.Post
+    (some-parameters-variable-requires t) (some-parameters-enum-known-a t) (some-parameters-kind-requires t)
+    (some-parameters-link-requires t) (some-parameters-add-t19 t) (some-parameters-same-length t) (some-parameters-returns t)
+    (some-parameters-add-some-parameters t) (some-parameters-some-parameters-requires t) (some-parameters-linked-requires t)
+    (some-parameters-same-length-2 t) (some-parameters-returns-2 t) (some-parameters-enum-known-a-2 t) (some-parameters-same-length-3 t)
+    (some-parameters-returns-3 t) (some-parameters-same-length-4 t) (some-parameters-returns-4 t))

@@ -1,10 +1,11 @@
--- `method` meets its contract: each return is a law of `Methods`.
+-- `method` meets its contract. Each return is a law of `Methods`.
 use mathlib.Core.Path.{refl}
+use borrow.Author.Needs.{needs}
 use native.Mathlib.Omega.{arith}
 use lib.Dec.{lit<}
 use Rattle.parser.proofs.Laws.{there, within-ok}
-use Rattle.parser.proofs.Methods.{ends-there, method-bad, method-open, method-parameters, method-ok}
-use borrow.Author.Needs.{needs}
+use Rattle.parser.proofs.Pieces.{follows-ok}
+use Rattle.parser.proofs.Methods.{ends-there, method-bad, method-parameters, method-ok}
 use Rattle.parser.proofs.decl.method.Statement.{statement}
 use Rattle.parser.proofs.decl.method.Tie as tie
 
@@ -12,55 +13,89 @@ add-variable : tie.Need-add-variable
 add-variable c = search needs
 
 variable-requires : tie.Need-variable-requires
-variable-requires c κs = omega (arith, there (c .before .before .args .table .now) (c .before .before .args .n) (c .before .before .args .i) _ 15 refl (c .before .before .pre .1) (lit< tt))
+variable-requires c κs =
+    omega (
+      arith,
+      there (c .before .before .args .table .now) (c .before .before .args .n) (c .before .before .args .i) _ 15 refl
+          (c .before .before .pre .1) (lit< tt),
+    )
 
-enum-known-a : tie.Need-enum-known-a
-enum-known-a c = search needs
-
-kind-requires : tie.Need-kind-requires
-kind-requires c κs = search needs
-
-add-parameters : tie.Need-add-parameters
-add-parameters c = omega (arith, within-ok (c .before .before .before .before .before .a .given .1) (c .before .before .before .before .before .before .before .before .before .variable .ensures .0 .within))
-
-parameters-requires : tie.Need-parameters-requires
-parameters-requires c κs = omega (arith, within-ok (c .before .before .before .before .before .a .given .1) (c .before .before .before .before .before .before .before .before .before .variable .ensures .0 .within), there (c .before .before .before .before .before .before .before .before .before .variable .last .0) (c .before .before .before .before .before .before .before .before .before .before .before .before .args .n) (c .before .before .before .before .before .a .given .0 .1 .0) _ 34 (c .before .before .kind .ensures) (c .before .if1 .taken) (lit< tt))
+followed-requires : tie.Need-followed-requires
+followed-requires c κs = search needs
 
 enum-known-b : tie.Need-enum-known-b
 enum-known-b c = search needs
 
+parameters-requires : tie.Need-parameters-requires
+parameters-requires c κs =
+    omega (
+      arith,
+      follows-ok (c .before .before .b .given .1) (c .before .before .before .before .followed .ensures) (lit< tt)
+          (c .before .before .before .before .before .before .before .before .variable .ensures .0 .within),
+    )
+
+enum-known-c : tie.Need-enum-known-c
+enum-known-c c = search needs
+
 locals-requires : tie.Need-locals-requires
-locals-requires c κs = omega (arith, within-ok (c .before .before .before .before .before .before .before .before .before .before .before .before .a .given .1) (c .before .before .before .before .before .before .before .before .before .before .before .before .before .before .before .before .variable .ensures .0 .within), there (c .before .before .before .before .before .before .before .before .before .before .before .before .before .before .before .before .variable .last .0) (c .before .before .before .before .before .before .before .before .before .before .before .before .before .before .before .before .before .before .before .args .n) (c .before .before .before .before .before .before .before .before .before .before .before .before .a .given .0 .1 .0) _ 34 (c .before .before .before .before .before .before .before .before .before .kind .ensures) (c .before .before .before .before .before .before .before .before .if1 .taken) (lit< tt), ends-there (c .before .before .before .before .before .before .before .before .before .before .before .before .a .given .1) (c .before .before .before .before .before .before .before .before .before .before .before .before .before .before .before .before .variable .ensures .1), within-ok (c .before .before .b .given .1) (c .before .before .before .before .before .before .parameters .ensures .within))
+locals-requires c κs =
+    let g = c .before .before .before .before .before .before .before .before .before .before .before .before .before .before .before .before .before .before in
+    omega (
+      arith,
+      follows-ok (c .before .before .before .before .before .before .before .before .before .b .given .1)
+          (c .before .before .before .before .before .before .before .before .before .before .before .followed .ensures) (lit< tt)
+          (c .before .before .before .before .before .before .before .before .before .before .before .before .before .before .before .variable
+          .ensures .0 .within),
+      within-ok (c .before .before .c .given .1)
+          (c .before .before .before .before .before .before .parameters .ensures .within),
+      ends-there
+          (c .before .before .before .before .before .before .before .before .before .b .given .1)
+          (c .before .before .before .before .before .before .before .before .before .before .before .followed .ensures)
+          (c .before .before .before .before .before .before .before .before .before .before .before .before .before .before .before .variable
+          .ensures .1),
+      g .pre .0,
+    )
+
+enum-known-c-2 : tie.Need-enum-known-c-2
+enum-known-c-2 c = search needs
+
+enum-known-b-2 : tie.Need-enum-known-b-2
+enum-known-b-2 c = search needs
 
 same-length : tie.Need-same-length
 same-length c = search needs
 
 returns : tie.Need-returns
-returns c = search method-ok
-
-enum-known-b-2 : tie.Need-enum-known-b-2
-enum-known-b-2 c = search needs
+returns c =
+    let g = c .before .before .before .before .before .before .before .before .before .before .before .before .before .before .before .before .before .before .before .before .before in
+    method-ok (g .pre .0 .few) (g .pre .1)
+    (c .before .before .before .before .before .before .before .before .before .before .before .before .before .before .before .before
+    .before .before .variable .ensures .0)
+    (c .before .before .before .before .before .before .before .before .before .before .before .before .before .before .followed .ensures)
+    (c .before .before .before .before .before .before .before .before .before .before .before .before .b .given .1)
+    (c .before .before .before .before .before .before .before .before .before .parameters .ensures)
+    (c .before .before .before .before .before .c .given .1) (c .before .before .locals .ensures)
 
 same-length-2 : tie.Need-same-length-2
 same-length-2 c = search needs
 
 returns-2 : tie.Need-returns-2
-returns-2 c = search method-parameters
-
-enum-known-a-2 : tie.Need-enum-known-a-2
-enum-known-a-2 c = search needs
+returns-2 c =
+    let g = c .before .before .before .before .before .before .before .before .before .before .before .before .before .before .before .before .before in
+    method-parameters (g .pre .0 .few) (g .pre .1)
+    (c .before .before .before .before .before .before .before .before .before .before .before .before .before .before .variable .ensures
+    .0) (c .before .before .before .before .before .before .before .before .before .before .followed .ensures)
+    (c .before .before .before .before .before .before .before .before .b .given .1)
+    (c .before .before .before .before .before .parameters .ensures) (c .before .c2 .given .1)
 
 same-length-3 : tie.Need-same-length-3
 same-length-3 c = search needs
 
 returns-3 : tie.Need-returns-3
-returns-3 c = search method-open
-
-same-length-4 : tie.Need-same-length-4
-same-length-4 c = search needs
-
-returns-4 : tie.Need-returns-4
-returns-4 c = search method-bad
+returns-3 c =
+    let g = c .before .before .before .before .before .before .before .before .before .before in
+    method-bad (g .pre .0 .few) (g .pre .1) (c .before .before .before .before .before .before .before .variable .ensures .0)
+    (c .before .before .before .followed .ensures) (c .before .b2 .given .1)
 
 pub method-spec : {M : Type 1} → statement M
 method-spec =
@@ -68,19 +103,16 @@ method-spec =
     (tie.spec
     add-variable
     variable-requires
-    enum-known-a
-    kind-requires
-    add-parameters
-    parameters-requires
+    followed-requires
     enum-known-b
+    parameters-requires
+    enum-known-c
     locals-requires
+    enum-known-c-2
+    enum-known-b-2
     same-length
     returns
-    enum-known-b-2
     same-length-2
     returns-2
-    enum-known-a-2
     same-length-3
-    returns-3
-    same-length-4
-    returns-4)
+    returns-3)

@@ -1,68 +1,69 @@
--- `returned` meets its contract: each return is a law of `Methods`.
-use native.Mathlib.Omega.{arith}
-use Rattle.parser.proofs.Laws.{within-ok}
-use Rattle.parser.proofs.Methods.{returned-bad, returned-end, returned-ok}
+-- `returned` meets its contract. Each return is a law of `Methods`.
 use borrow.Author.Needs.{needs}
+use native.Mathlib.Omega.{arith}
+use lib.Dec.{lit<}
+use Rattle.parser.proofs.Laws.{within-ok}
+use Rattle.parser.proofs.Pieces.{follows-within}
+use Rattle.parser.proofs.Methods.{returned-bad, returned-ok}
 use Rattle.parser.proofs.decl.returned.Statement.{statement}
 use Rattle.parser.proofs.decl.returned.Tie as tie
 
 operation-requires : tie.Need-operation-requires
 operation-requires c κs = search needs
 
-enum-known-a : tie.Need-enum-known-a
-enum-known-a c = search needs
+followed-requires : tie.Need-followed-requires
+followed-requires c κs = search needs
 
-slice-aggregate-matched : tie.Need-slice-aggregate-matched
-slice-aggregate-matched c = search needs
+followed-requires-2 : tie.Need-followed-requires-2
+followed-requires-2 c κs = search needs
 
-matched-requires : tie.Need-matched-requires
-matched-requires c κs = omega (arith, within-ok (c .before .before .before .a .given .1) (c .before .before .before .before .before .before .before .operation .ensures .within))
+enum-known-c : tie.Need-enum-known-c
+enum-known-c c = search needs
 
-add-t22 : tie.Need-add-t22
-add-t22 c = omega (arith, within-ok (c .before .before .before .before .before .a .given .1) (c .before .before .before .before .before .before .before .before .before .operation .ensures .within))
+method-row-requires : tie.Need-method-row-requires
+method-row-requires c κs =
+    let g = c .before .before .before .before .before .before .before .before .before .before .before .before .before in
+    omega (
+      arith,
+      within-ok (c .before .before .c .given .1)
+          (follows-within _ _ _ (c .before .before .before .before .followed2 .ensures) (lit< tt)
+          (follows-within _ _ _ (c .before .before .before .before .before .before .followed .ensures) (lit< tt)
+          (c .before .before .before .before .before .before .before .before .before .before .operation .ensures .within))),
+      g .pre,
+    )
+
+enum-known-c-2 : tie.Need-enum-known-c-2
+enum-known-c-2 c = search needs
 
 same-length : tie.Need-same-length
 same-length c = search needs
 
 returns : tie.Need-returns
-returns c = search returned-end
-
-method-row-requires : tie.Need-method-row-requires
-method-row-requires c κs = omega (arith, within-ok (c .before .before .before .before .before .before .a .given .1) (c .before .before .before .before .before .before .before .before .before .before .operation .ensures .within))
-
-add-t26 : tie.Need-add-t26
-add-t26 c = omega (arith, within-ok (c .before .before .before .before .before .before .before .before .before .a .given .1) (c .before .before .before .before .before .before .before .before .before .before .before .before .before .operation .ensures .within))
-
-enum-known-a-2 : tie.Need-enum-known-a-2
-enum-known-a-2 c = search needs
+returns c =
+    let g = c .before .before .before .before .before .before .before .before .before .before .before .before .before .before .before .before in
+    returned-ok (g .pre .0 .few)
+    (c .before .before .before .before .before .before .before .before .before .before .before .before .before .operation .ensures)
+    (c .before .before .before .before .before .before .before .before .before .followed .ensures)
+    (c .before .before .before .before .before .before .before .followed2 .ensures) (omega (arith, g .pre .1))
+    (c .before .before .before .before .before .c .given .1) (c .before .before .method-row .ensures)
 
 same-length-2 : tie.Need-same-length-2
 same-length-2 c = search needs
 
 returns-2 : tie.Need-returns-2
-returns-2 c = returned-ok (c .before .before .before .before .before .before .before .before .before .before .before .before .before .operation .ensures) (c .before .before .before .before .before .before .before .before .before .before .before .before .before .before .before .before .pre .0 .few) (c .before .before .before .before .before .before .before .before .before .a .given .1) (c .before .before .before .before .before .matched .ensures) (omega (arith, c .before .before .before .before .before .before .before .before .before .before .before .before .before .before .before .before .pre)) (c .before .before .before .before .if1 .left) (c .before .before .method-row .ensures)
-
-same-length-3 : tie.Need-same-length-3
-same-length-3 c = search needs
-
-returns-3 : tie.Need-returns-3
-returns-3 c = search returned-bad
+returns-2 c = search returned-bad
 
 pub returned-spec : {M : Type 1} → statement M
 returned-spec =
     tie.close
     (tie.spec
     operation-requires
-    enum-known-a
-    slice-aggregate-matched
-    matched-requires
-    add-t22
+    followed-requires
+    followed-requires-2
+    enum-known-c
+    method-row-requires
+    enum-known-c-2
     same-length
     returns
-    method-row-requires
-    add-t26
-    enum-known-a-2
     same-length-2
-    returns-2
-    same-length-3
-    returns-3)
+    returns-2)

@@ -1,10 +1,11 @@
--- `assignment` meets its contract: each return is a law of `Statements`.
+-- `assignment` meets its contract. Each return is a law of `Statements`.
 use Prim.Native.Nat.{_+_}
+use borrow.Author.Needs.{needs}
 use native.Mathlib.Omega.{arith}
 use lib.Dec.{lit<}
-use Rattle.parser.proofs.Laws.{there, within-ok}
-use Rattle.parser.proofs.Statements.{assign-missing, assign-bad, assign-end, assign-ok}
-use borrow.Author.Needs.{needs}
+use Rattle.parser.proofs.Laws.{there}
+use Rattle.parser.proofs.Statements.{assign-missing, assign-ok}
+use Rattle.parser.proofs.Pieces.{mode-fits, follows-fits}
 use Rattle.parser.proofs.stmt.assignment.Statement.{statement}
 use Rattle.parser.proofs.stmt.assignment.Tie as tie
 
@@ -27,49 +28,45 @@ add-operation : tie.Need-add-operation
 add-operation c = search needs
 
 operation-requires : tie.Need-operation-requires
-operation-requires c κs = omega (arith, there (c .before .before .before .before .before .before .args .table .now) (c .before .before .before .before .before .before .args .n) (c .before .before .before .before .before .before .args .i + 1) _ 30 (c .before .before .before .kind .ensures) (c .before .if2 .taken) (lit< tt))
+operation-requires c κs =
+    let g = c .before .before .before .before .before .before in
+    omega (
+      arith,
+      there (g .args .table .now) (g .args .n) (g .args .i + 1) _ 30 (c .before .before .before .kind .ensures)
+          (c .before .if2 .taken) (lit< tt),
+    )
 
-enum-known-a : tie.Need-enum-known-a
-enum-known-a c = search needs
+followed-requires : tie.Need-followed-requires
+followed-requires c κs = search needs
 
-kind-requires-2 : tie.Need-kind-requires-2
-kind-requires-2 c κs = search needs
-
-node-requires : tie.Need-node-requires
-node-requires c κs = omega (arith, there (c .before .before .before .before .before .before .before .before .before .before .before .before .before .before .before .before .args .table .now) (c .before .before .before .before .before .before .before .before .before .before .before .before .before .before .before .before .args .n) (c .before .before .before .before .before .before .before .before .before .before .before .before .before .before .before .before .args .i + 1) _ 30 (c .before .before .before .before .before .before .before .before .before .before .before .before .before .kind .ensures) (c .before .before .before .before .before .before .before .before .before .before .before .if2 .taken) (lit< tt), within-ok (c .before .before .before .before .before .a .given .1) (c .before .before .before .before .before .before .before .before .before .operation .ensures .within))
-
-add-t25 : tie.Need-add-t25
-add-t25 c = omega (arith, within-ok (c .before .before .before .before .before .before .before .before .a .given .1) (c .before .before .before .before .before .before .before .before .before .before .before .before .operation .ensures .within))
+one-part-requires : tie.Need-one-part-requires
+one-part-requires c κs =
+    let g = c .before .before .before .before .before .before .before .before .before .before .before .before in (
+      omega arith,
+      omega (
+        arith,
+        there (g .args .table .now) (g .args .n) (g .args .i + 1) _ 30
+            (c .before .before .before .before .before .before .before .before .before .kind .ensures)
+            (c .before .before .before .before .before .before .before .if2 .taken) (lit< tt),
+      ),
+      follows-fits (c .before .followed .ensures)
+          (mode-fits (g .pre .0 .few) (c .before .before .before .before .before .operation .ensures)),
+    )
 
 same-length-2 : tie.Need-same-length-2
 same-length-2 c = search needs
 
 returns-2 : tie.Need-returns-2
-returns-2 c = assign-ok (c .before .before .before .before .before .before .before .before .before .before .before .before .before .before .before .before .before .before .before .pre .1) (c .before .before .before .before .before .before .before .before .before .before .before .before .before .before .before .before .kind .ensures) (c .before .before .before .before .before .before .before .before .before .before .before .before .before .before .if2 .taken) (c .before .before .before .before .before .before .before .before .before .before .before .before .operation .ensures) (c .before .before .before .before .before .before .before .before .before .before .before .before .before .before .before .before .before .before .before .pre .0 .few) (c .before .before .before .before .before .before .before .before .a .given .1) (c .before .before .before .before .before .kind2 .ensures) (c .before .before .before .before .if3 .taken) (c .before .before .node .ensures)
+returns-2 c = search assign-ok
+
+add-t9 : tie.Need-add-t9
+add-t9 c = search needs
 
 same-length-3 : tie.Need-same-length-3
 same-length-3 c = search needs
 
 returns-3 : tie.Need-returns-3
-returns-3 c = search assign-end
-
-enum-known-a-2 : tie.Need-enum-known-a-2
-enum-known-a-2 c = search needs
-
-same-length-4 : tie.Need-same-length-4
-same-length-4 c = search needs
-
-returns-4 : tie.Need-returns-4
-returns-4 c = search assign-bad
-
-add-t11 : tie.Need-add-t11
-add-t11 c = search needs
-
-same-length-5 : tie.Need-same-length-5
-same-length-5 c = search needs
-
-returns-5 : tie.Need-returns-5
-returns-5 c = search assign-missing
+returns-3 c = search assign-missing
 
 pub assignment-spec : {M : Type 1} → statement M
 assignment-spec =
@@ -82,17 +79,10 @@ assignment-spec =
     returns
     add-operation
     operation-requires
-    enum-known-a
-    kind-requires-2
-    node-requires
-    add-t25
+    followed-requires
+    one-part-requires
     same-length-2
     returns-2
+    add-t9
     same-length-3
-    returns-3
-    enum-known-a-2
-    same-length-4
-    returns-4
-    add-t11
-    same-length-5
-    returns-5)
+    returns-3)

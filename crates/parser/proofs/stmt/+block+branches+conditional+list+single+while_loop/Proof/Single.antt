@@ -1,12 +1,12 @@
 -- The answers of `single`.
-use Prim.Native.Nat.{ℕ}
+use Prim.Native.Nat.{ℕ, _<_}
 use Rattle.parser.proofs.stmt.single.Reads as single
-use Rattle.parser.proofs.stmt.+block+branches+conditional+list+repeated+single+while_loop.Lts-single as single-lts
+use Rattle.parser.proofs.stmt.+block+branches+conditional+list+single+while_loop.Lts-single as single-lts
 use mathlib.Core.Path.{sym, ap, _∙_}
-use borrow.Author.Needs.{needs}
 use Rattle.lexer.specs.Kinds.{isName}
+use borrow.Author.Needs.{needs}
 use Rattle.parser.proofs.Statements.{no-statement}
-use Rattle.parser.proofs.stmt.+block+branches+conditional+list+repeated+single+while_loop.Proof.At.{single-at, single-calls}
+use Rattle.parser.proofs.stmt.+block+branches+conditional+list+single+while_loop.Proof.At.{single-at, single-calls}
 
 module _ (t : ℕ) where
   pub single-kind-requires : single-lts.Need-kind-requires (single-calls t) (single-at t) single.Post
@@ -52,7 +52,11 @@ module _ (t : ℕ) where
   single-is-name-requires c κs = search needs
 
   pub single-assignment-requires : single-lts.Need-assignment-requires (single-calls t) (single-at t) single.Post
-  single-assignment-requires c κs = (search needs, ap isName (sym (c .before .before .before .before .before .before .before .kind .ensures)) ∙ sym (c .before .before .is-name .ensures) ∙ c .before .if5 .taken)
+  single-assignment-requires c κs = (
+    search needs,
+    ap isName (sym (c .before .before .before .before .before .before .before .kind .ensures)) ∙ sym
+        (c .before .before .is-name .ensures) ∙ c .before .if5 .taken,
+  )
 
   pub single-same-length-5 : single-lts.Need-same-length-5 (single-calls t) (single-at t) single.Post
   single-same-length-5 c = search needs
