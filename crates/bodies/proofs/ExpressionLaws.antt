@@ -24,7 +24,8 @@ use Rattle.reader.specs.laws.Counting.{covers}
 use Rattle.parser.specs.contracts.Post.{isAtom, kindInTable}
 use Rattle.reader.specs.contracts.Holds.{Holds}
 use Rattle.reader.specs.contracts.Matches.{Matches, NameIs}
-use Rattle.typesystem.specs.ClassTable.{Found, Context, Meaning, meaningType, chain, methodOf, meaning}
+use Rattle.typesystem.specs.ClassTable.{fits, sameType, onChain, Found, Context, Meaning, meaningType, chain, methodOf, meaning}
+use Rattle.typesystem.specs.Operators.{resultIn, operation}
 use Rattle.typesystem.specs.Judge.{judge, must, receiver, arity, invocation}
 use Rattle.base.specs.laws.Tests.{apart, or-neither}
 use Rattle.typing.specs.laws.Choices.{bind-assoc}
@@ -54,6 +55,61 @@ judged-refused e = rw e ill
 
 judged-fine : {ts : List Token} {o : Outcome Ty} {t : Ty} {w : ℕ} → o ≡ accepted t → Codes ts t w → Judges ts o (Fine w)
 judged-fine e c = rw e (well c)
+
+judge-and : (G : List Class) (Γ : Context) (p : Place) (l r : Expression) → (judge G Γ l >>= λ t. must G l boolean t >>= λ _. judge G Γ r >>= λ u. must G r boolean u >>= λ _. accepted boolean) ≡ judge G Γ (binary p and l r)
+unfolding judge resultIn fits sameType onChain
+judge-and G Γ p l r = go (judge G Γ l)
+  where
+    go : (x : Outcome Ty) → (x >>= λ t. must G l boolean t >>= λ _. judge G Γ r >>= λ u. must G r boolean u >>= λ _. accepted boolean) ≡ (x >>= λ s. option (operation and s) (refused wrongType (placeE l .start)) λ t. judge G Γ r >>= λ u. must G r s u >>= λ _. accepted t)
+    go (refused n q) = refl
+    go (accepted int) = refl
+    go (accepted boolean) = refl
+    go (accepted intArray) = refl
+    go (accepted (class c)) = refl
+
+judge-less : (G : List Class) (Γ : Context) (p : Place) (l r : Expression) → (judge G Γ l >>= λ t. must G l int t >>= λ _. judge G Γ r >>= λ u. must G r int u >>= λ _. accepted boolean) ≡ judge G Γ (binary p less l r)
+unfolding judge resultIn fits sameType onChain
+judge-less G Γ p l r = go (judge G Γ l)
+  where
+    go : (x : Outcome Ty) → (x >>= λ t. must G l int t >>= λ _. judge G Γ r >>= λ u. must G r int u >>= λ _. accepted boolean) ≡ (x >>= λ s. option (operation less s) (refused wrongType (placeE l .start)) λ t. judge G Γ r >>= λ u. must G r s u >>= λ _. accepted t)
+    go (refused n q) = refl
+    go (accepted int) = refl
+    go (accepted boolean) = refl
+    go (accepted intArray) = refl
+    go (accepted (class c)) = refl
+
+judge-plus : (G : List Class) (Γ : Context) (p : Place) (l r : Expression) → (judge G Γ l >>= λ t. must G l int t >>= λ _. judge G Γ r >>= λ u. must G r int u >>= λ _. accepted int) ≡ judge G Γ (binary p plus l r)
+unfolding judge resultIn fits sameType onChain
+judge-plus G Γ p l r = go (judge G Γ l)
+  where
+    go : (x : Outcome Ty) → (x >>= λ t. must G l int t >>= λ _. judge G Γ r >>= λ u. must G r int u >>= λ _. accepted int) ≡ (x >>= λ s. option (operation plus s) (refused wrongType (placeE l .start)) λ t. judge G Γ r >>= λ u. must G r s u >>= λ _. accepted t)
+    go (refused n q) = refl
+    go (accepted int) = refl
+    go (accepted boolean) = refl
+    go (accepted intArray) = refl
+    go (accepted (class c)) = refl
+
+judge-minus : (G : List Class) (Γ : Context) (p : Place) (l r : Expression) → (judge G Γ l >>= λ t. must G l int t >>= λ _. judge G Γ r >>= λ u. must G r int u >>= λ _. accepted int) ≡ judge G Γ (binary p minus l r)
+unfolding judge resultIn fits sameType onChain
+judge-minus G Γ p l r = go (judge G Γ l)
+  where
+    go : (x : Outcome Ty) → (x >>= λ t. must G l int t >>= λ _. judge G Γ r >>= λ u. must G r int u >>= λ _. accepted int) ≡ (x >>= λ s. option (operation minus s) (refused wrongType (placeE l .start)) λ t. judge G Γ r >>= λ u. must G r s u >>= λ _. accepted t)
+    go (refused n q) = refl
+    go (accepted int) = refl
+    go (accepted boolean) = refl
+    go (accepted intArray) = refl
+    go (accepted (class c)) = refl
+
+judge-times : (G : List Class) (Γ : Context) (p : Place) (l r : Expression) → (judge G Γ l >>= λ t. must G l int t >>= λ _. judge G Γ r >>= λ u. must G r int u >>= λ _. accepted int) ≡ judge G Γ (binary p times l r)
+unfolding judge resultIn fits sameType onChain
+judge-times G Γ p l r = go (judge G Γ l)
+  where
+    go : (x : Outcome Ty) → (x >>= λ t. must G l int t >>= λ _. judge G Γ r >>= λ u. must G r int u >>= λ _. accepted int) ≡ (x >>= λ s. option (operation times s) (refused wrongType (placeE l .start)) λ t. judge G Γ r >>= λ u. must G r s u >>= λ _. accepted t)
+    go (refused n q) = refl
+    go (accepted int) = refl
+    go (accepted boolean) = refl
+    go (accepted intArray) = refl
+    go (accepted (class c)) = refl
 
 -- KINDS
 
@@ -461,7 +517,7 @@ module _ {tab : List ℕ} {s : Scope} {left row : ℕ} where
         go ts G Γ i (newArray p e) q at h m few = absurd (omega (arith, q, is, m .0 .is))
         go ts G Γ i (newObject p c) q at h m few = absurd (omega (arith, q, is, m .0 .is))
         go ts G Γ i (negation p e) q at h m few = absurd (omega (arith, q, is, m .0 .is))
-        go ts G Γ i (binary p and l r) q at h m few = f .says ts G Γ i l r (part-in 4 row (p .row) at (row-there (i .world .tokens) (p .row) (m .0 .there)) (h .0 .first) (h .1) (m .1) (omega arith)) (part-in 5 row (p .row) at (row-there (i .world .tokens) (p .row) (m .0 .there)) (h .0 .second) (h .2) (m .2) (omega arith)) boolean boolean boolean (code-boolean refl) (code-boolean refl) (code-boolean refl)
+        go ts G Γ i (binary p and l r) q at h m few = subst (λ (o : Outcome Ty). Judges ts o a) (judge-and G Γ p l r) (f .says ts G Γ i l r (part-in 4 row (p .row) at (row-there (i .world .tokens) (p .row) (m .0 .there)) (h .0 .first) (h .1) (m .1) (omega arith)) (part-in 5 row (p .row) at (row-there (i .world .tokens) (p .row) (m .0 .there)) (h .0 .second) (h .2) (m .2) (omega arith)) boolean boolean boolean (code-boolean refl) (code-boolean refl) (code-boolean refl))
         go ts G Γ i (binary p less l r) q at h m few = absurd (omega (arith, q, is, m .0 .is))
         go ts G Γ i (binary p plus l r) q at h m few = absurd (omega (arith, q, is, m .0 .is))
         go ts G Γ i (binary p minus l r) q at h m few = absurd (omega (arith, q, is, m .0 .is))
@@ -485,7 +541,7 @@ module _ {tab : List ℕ} {s : Scope} {left row : ℕ} where
         go ts G Γ i (newObject p c) q at h m few = absurd (omega (arith, q, is, m .0 .is))
         go ts G Γ i (negation p e) q at h m few = absurd (omega (arith, q, is, m .0 .is))
         go ts G Γ i (binary p and l r) q at h m few = absurd (omega (arith, q, is, m .0 .is))
-        go ts G Γ i (binary p less l r) q at h m few = f .says ts G Γ i l r (part-in 4 row (p .row) at (row-there (i .world .tokens) (p .row) (m .0 .there)) (h .0 .first) (h .1) (m .1) (omega arith)) (part-in 5 row (p .row) at (row-there (i .world .tokens) (p .row) (m .0 .there)) (h .0 .second) (h .2) (m .2) (omega arith)) int int boolean (code-int refl) (code-int refl) (code-boolean refl)
+        go ts G Γ i (binary p less l r) q at h m few = subst (λ (o : Outcome Ty). Judges ts o a) (judge-less G Γ p l r) (f .says ts G Γ i l r (part-in 4 row (p .row) at (row-there (i .world .tokens) (p .row) (m .0 .there)) (h .0 .first) (h .1) (m .1) (omega arith)) (part-in 5 row (p .row) at (row-there (i .world .tokens) (p .row) (m .0 .there)) (h .0 .second) (h .2) (m .2) (omega arith)) int int boolean (code-int refl) (code-int refl) (code-boolean refl))
         go ts G Γ i (binary p plus l r) q at h m few = absurd (omega (arith, q, is, m .0 .is))
         go ts G Γ i (binary p minus l r) q at h m few = absurd (omega (arith, q, is, m .0 .is))
         go ts G Γ i (binary p times l r) q at h m few = absurd (omega (arith, q, is, m .0 .is))
@@ -509,9 +565,9 @@ module _ {tab : List ℕ} {s : Scope} {left row : ℕ} where
         go ts G Γ i (negation p e) q at h m few = absurd (n₃ (q ∙ m .0 .is))
         go ts G Γ i (binary p and l r) q at h m few = absurd (n₅ (q ∙ m .0 .is))
         go ts G Γ i (binary p less l r) q at h m few = absurd (n₆ (q ∙ m .0 .is))
-        go ts G Γ i (binary p plus l r) q at h m few = f .says ts G Γ i l r (part-in 4 row (p .row) at (row-there (i .world .tokens) (p .row) (m .0 .there)) (h .0 .first) (h .1) (m .1) (omega arith)) (part-in 5 row (p .row) at (row-there (i .world .tokens) (p .row) (m .0 .there)) (h .0 .second) (h .2) (m .2) (omega arith)) int int int (code-int refl) (code-int refl) (code-int refl)
-        go ts G Γ i (binary p minus l r) q at h m few = f .says ts G Γ i l r (part-in 4 row (p .row) at (row-there (i .world .tokens) (p .row) (m .0 .there)) (h .0 .first) (h .1) (m .1) (omega arith)) (part-in 5 row (p .row) at (row-there (i .world .tokens) (p .row) (m .0 .there)) (h .0 .second) (h .2) (m .2) (omega arith)) int int int (code-int refl) (code-int refl) (code-int refl)
-        go ts G Γ i (binary p times l r) q at h m few = f .says ts G Γ i l r (part-in 4 row (p .row) at (row-there (i .world .tokens) (p .row) (m .0 .there)) (h .0 .first) (h .1) (m .1) (omega arith)) (part-in 5 row (p .row) at (row-there (i .world .tokens) (p .row) (m .0 .there)) (h .0 .second) (h .2) (m .2) (omega arith)) int int int (code-int refl) (code-int refl) (code-int refl)
+        go ts G Γ i (binary p plus l r) q at h m few = subst (λ (o : Outcome Ty). Judges ts o a) (judge-plus G Γ p l r) (f .says ts G Γ i l r (part-in 4 row (p .row) at (row-there (i .world .tokens) (p .row) (m .0 .there)) (h .0 .first) (h .1) (m .1) (omega arith)) (part-in 5 row (p .row) at (row-there (i .world .tokens) (p .row) (m .0 .there)) (h .0 .second) (h .2) (m .2) (omega arith)) int int int (code-int refl) (code-int refl) (code-int refl))
+        go ts G Γ i (binary p minus l r) q at h m few = subst (λ (o : Outcome Ty). Judges ts o a) (judge-minus G Γ p l r) (f .says ts G Γ i l r (part-in 4 row (p .row) at (row-there (i .world .tokens) (p .row) (m .0 .there)) (h .0 .first) (h .1) (m .1) (omega arith)) (part-in 5 row (p .row) at (row-there (i .world .tokens) (p .row) (m .0 .there)) (h .0 .second) (h .2) (m .2) (omega arith)) int int int (code-int refl) (code-int refl) (code-int refl))
+        go ts G Γ i (binary p times l r) q at h m few = subst (λ (o : Outcome Ty). Judges ts o a) (judge-times G Γ p l r) (f .says ts G Γ i l r (part-in 4 row (p .row) at (row-there (i .world .tokens) (p .row) (m .0 .there)) (h .0 .first) (h .1) (m .1) (omega arith)) (part-in 5 row (p .row) at (row-there (i .world .tokens) (p .row) (m .0 .there)) (h .0 .second) (h .2) (m .2) (omega arith)) int int int (code-int refl) (code-int refl) (code-int refl))
         go ts G Γ i (element p a j) q at h m few = absurd (n₄ (q ∙ m .0 .is))
         go ts G Γ i (arrayLength p a) q at h m few = absurd (n₂ (q ∙ m .0 .is))
         go ts G Γ i (call p e f es) q at h m few = absurd (n₂ (q ∙ m .0 .is))
