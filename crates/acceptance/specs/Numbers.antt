@@ -1,6 +1,7 @@
 -- Document 01, "What each operation refuses", with 60 of document 02, (i): the numbers with which Read and Check refuse a source.
 use Prim.Native.Nat.{ℕ}
-use Rattle.base.specs.Codes.{sourceTooLong, noToken, commentNotClosed, nameTooLong, literalTooLarge, tooManyTokens, leadingZero, notInGrammar, tooDeep}
+use Rattle.base.specs.Codes.{sourceTooLong, noToken, commentNotClosed, nameTooLong, literalTooLarge, tooManyTokens, leadingZero}
+use Rattle.base.specs.Codes.{notInGrammar, tooDeep}
 use Rattle.base.specs.Codes.{classRepeated, parentUnknown, chainEndless, fieldRepeated, typeUnknown, methodRepeated, badRedeclaration}
 use Rattle.base.specs.Codes.{variableRepeated, tooManyVariables, nameUnknown, wrongType, methodUnknown, argumentCount, thisInMain}
 

@@ -19,7 +19,8 @@ use Rattle.parser.specs.Read.{Reading, reading, ReadAnswer, readAnswer, read, t
 use Rattle.reader.specs.laws.ReadingLaws.{too-long, not-lexed}
 use Rattle.acceptance.specs.Numbers.{of-read}
 use Rattle.acceptance.specs.Refusals.{read-refusal, not-success}
-use Rattle.acceptance.specs.laws.ReadLaws.{at-token, at-end, deep-program, good-program, by-grammar, token-at, end-at, deep-at, program-of, by-tokens, read-whole}
+use Rattle.acceptance.specs.laws.ReadLaws.{at-token, at-end, deep-program, good-program, by-grammar, token-at, end-at, deep-at}
+use Rattle.acceptance.specs.laws.ReadLaws.{program-of, by-tokens, read-whole}
 
 -- WHAT IS FOUND IN A SOURCE
 

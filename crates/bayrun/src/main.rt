@@ -1,4 +1,5 @@
-// Runs the lesson on standard input under the limits of document 01: prints each number that the lesson prints on a line, then how the run ended.
+// Runs the lesson on standard input under the limits of document 01: prints each number that the lesson prints on a line, then how the
+// run ended.
 mod input;
 mod output;
 

@@ -12,7 +12,8 @@ pub enum Number {
     Malformed,
 }
 
-// The largest number that a case can hold. It stands for all larger ones too: every bound of what is lent lies below it, and Run refuses it as a call limit.
+// The largest number that a case can hold. It stands for all larger ones too: every bound of what is lent lies below it, and Run refuses
+// it as a call limit.
 const NUMBER_MOST: usize = 4294967296;
 
 // The byte at an index, or a blank past the end.

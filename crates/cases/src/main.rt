@@ -102,7 +102,8 @@ fn take_all(
     waiting
 }
 
-// Reads once, and takes what came. At the end of the input the last line may lack its line feed; where the input fails, a line that has only begun is no case.
+// Reads once, and takes what came. At the end of the input the last line may lack its line feed; where the input fails, a line that has
+// only begun is no case.
 fn take_some(
     line: &mut [u8],
     n: usize,
@@ -124,7 +125,8 @@ fn take_some(
     Taken::Some(take_all(&chunk[..count], line, n, source, table, strip))
 }
 
-// Answers every line of the input; one that is empty from the begin is given the usage. Nothing says that the input ends, so the loop counts its turns down, from a number that no run uses up.
+// Answers every line of the input; one that is empty from the begin is given the usage. Nothing says that the input ends, so the loop
+// counts its turns down, from a number that no run uses up.
 fn serve(line: &mut [u8], source: &mut [u8], table: &mut [u32], strip: &mut [u32]) {
     let mut waiting: usize = 0;
     let mut turns = u64::MAX;

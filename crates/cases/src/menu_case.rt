@@ -1,5 +1,5 @@
-// The operation menu: `menu TABLE STRIP HEX` is answered by `NUMBER POSITION CLASSES`, and where there are classes by ` :` and the positions of their names,
-// in the order in which they stand in the strip.
+// The operation menu: `menu TABLE STRIP HEX` is answered by `NUMBER POSITION CLASSES`, and where there are classes by ` :` and the
+// positions of their names, in the order in which they stand in the strip.
 use crate::output;
 use crate::strip;
 use menu::menu::menu;

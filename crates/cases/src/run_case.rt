@@ -1,4 +1,5 @@
-// The operation run: `run TABLE BUDGET CALLS HEAP OUT HEX` is answered by `NUMBER POSITION STEPS WORDS`, and where numbers were printed by ` :` and these.
+// The operation run: `run TABLE BUDGET CALLS HEAP OUT HEX` is answered by `NUMBER POSITION STEPS WORDS`, and where numbers were printed
+// by ` :` and these.
 use crate::numbers;
 use crate::output;
 use crate::page;

@@ -1,4 +1,5 @@
--- What the functions over the tree of rows return meets their contracts. A word is set, and the nodes above it anew: of the others none has it below.
+-- What the functions over the tree of rows return meets their contracts. A word is set, and the nodes above it anew: of the others none
+-- has it below.
 use Prim.Native.Nat.{ℕ, zero, suc, _+_, _-_, _*_, _/_, _≤_, _<_, min}
 use native.Mathlib.Omega.{arith}
 use native.Mathlib.Decide.{ℕ-discrete, decLt}

@@ -1,4 +1,5 @@
--- What the functions of the operation Menu return meets their contracts: the strip is filled in the order of the definition, for an accepted source.
+-- What the functions of the operation Menu return meets their contracts: the strip is filled in the order of the definition, for an
+-- accepted source.
 use Prim.Native.Nat.{ℕ, suc, _+_, _*_, _≤_, _<_}
 use native.Mathlib.Omega.{arith}
 use mathlib.Core.Path.{_≡_, refl, sym, ap, _∙_, subst}

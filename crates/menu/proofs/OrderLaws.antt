@@ -1,5 +1,5 @@
--- What the functions of Menu's order return meets their contracts: the set has the classes that may stand, and its least is the earliest of them; a class that is
--- written leaves the set, and its children, which could not stand before, join it.
+-- What the functions of Menu's order return meets their contracts: the set has the classes that may stand, and its least is the earliest
+-- of them; a class that is written leaves the set, and its children, which could not stand before, join it.
 use Prim.Native.Nat.{ℕ, zero, suc, _+_, _-_, _≤_, _<_}
 use native.Mathlib.Omega.{arith}
 use native.Mathlib.Decide.{ℕ-discrete}
@@ -119,7 +119,8 @@ module _ (w : List Class) where
 
 -- ONE CLASS MORE
 
--- a: the class was written; s: it is the one that is written now; m: its parent was written or absent; c: its parent is the one that is written now
+-- a: the class was written; s: it is the one that is written now; m: its parent was written or absent; c: its parent is the one that is
+-- written now
 may-truth : (a s m c : Bool) → (c ≡ true → (a ≡ false) × (s ≡ false)) → (not (a || s) && (m || c)) ≡ ((not s && (not a && m)) || c)
 may-truth true s m true h = absurd (true≢false (h refl .0))
 may-truth false true m true h = absurd (true≢false (h refl .1))
@@ -131,7 +132,8 @@ may-truth false true m false h = refl
 may-truth false false true false h = refl
 may-truth false false false false h = refl
 
--- e: the class stands in a row; x: that is the row of the one that is written; t: a later class of the row may stand; r: the row is that of a later child
+-- e: the class stands in a row; x: that is the row of the one that is written; t: a later class of the row may stand; r: the row is that
+-- of a later child
 row-truth : (e s m c r t x : Bool) → (e ≡ true → x ≡ s) → ((e && ((not s && m) || c)) || (r || (not x && t))) ≡ (((c && e) || r) || (not x && ((e && m) || t)))
 row-truth false s m true r t x h = refl
 row-truth false s m false r t x h = refl

@@ -1,5 +1,5 @@
--- Document 02, (ii), Menu's order said without computing it: each class exactly one time, and in each place the earliest class that may stand
--- there.
+-- Document 02, (ii), Menu's order said without computing it: each class exactly one time, and in each place the earliest class that may
+-- stand there.
 use mathlib.Core.Path.{_≡_}
 use mathlib.Core.List.{List, _∷_, _++_, List·Permᴰ}
 use mathlib.Core.Bool.{true, false}

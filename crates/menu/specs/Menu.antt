@@ -50,7 +50,8 @@ listing (refused n p) before = record { answer = checkRefusal n p; strip = befor
 
 unfoldable pub menu : List ℕ → (table : ℕ) → (before : List ℕ) → Listing
 menu s table before =
-    if ltb table tableLeast then (λ _. record { answer = checkRefusal tableTooShort 0; strip = before }) else λ _. listing (checking s) before
+    if ltb table tableLeast then (λ _. record { answer = checkRefusal tableTooShort 0; strip = before }) else λ _.
+    listing (checking s) before
 
 -- the answer, the work table and the strip that are right for a source and what the work table and the strip held before
 pub record Menus (s table before : List ℕ) (a : CheckAnswer) (tableExit after : List ℕ) : Type 0 where

@@ -1,5 +1,5 @@
-// A set of rows with its least at hand: a tree of 4,096 words, in which each node has the lesser of the two words below it. Node 1 is the top, node v stands
-// over 2 * v and 2 * v + 1, and leaf 2048 + r has the row r where that is in the set, else ABSENT.
+// A set of rows with its least at hand: a tree of 4,096 words, in which each node has the lesser of the two words below it. Node 1 is the
+// top, node v stands over 2 * v and 2 * v + 1, and leaf 2048 + r has the row r where that is in the set, else ABSENT.
 use parser::columns::ABSENT;
 ghost use mathlib.Core.Path.{_≡_};
 ghost use Prim.Native.Nat.{_<_, min};
@@ -24,6 +24,7 @@ pub fn put(words: &mut [u32], i: usize, v: usize)
     words[i] = v as u32;
 }
 
+// The lesser of two words.
 fn lesser(a: usize, b: usize) -> usize
     ensures { λ r. ⌜ r ≡ min a b ⌝ }
 {

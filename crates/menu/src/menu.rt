@@ -74,7 +74,8 @@ fn answer(source: &[u8], table: &mut [u32], strip: &mut [u32]) -> CheckAnswer
 
 // The operation Menu.
 pub fn menu(source: &[u8], table: &mut [u32], strip: &mut [u32]) -> CheckAnswer
-    ensures { λ r. ⌜ Menus (now (source .entry)) (now (table .entry)) (now (strip .entry)) (checkAnswerOf r) (now (table .exit)) (now (strip .exit)) ⌝ }
+    ensures { λ r. ⌜ Menus (now (source .entry)) (now (table .entry)) (now (strip .entry)) (checkAnswerOf r) (now (table .exit))
+        (now (strip .exit)) ⌝ }
 {
     if table.len() < codes::TABLE_LEAST {
         return CheckAnswer {

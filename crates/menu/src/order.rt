@@ -1,5 +1,5 @@
-// The order in which Menu writes: the classes that may stand are a set of rows, of which the least is the earliest in the lesson. When a class is written, it
-// leaves the set and its children join it.
+// The order in which Menu writes: the classes that may stand are a set of rows, of which the least is the earliest in the lesson. When a
+// class is written, it leaves the set and its children join it.
 use crate::least::cell;
 use crate::least::enter;
 use crate::least::put;
@@ -32,7 +32,8 @@ pub fn gather(
     row: usize,
 )
     requires { ⌜ (16384 ≤ length (now table)) × (length (now tree) ≡ 4096) × (length (now first) ≡ 2048) × (length (now next) ≡ 2048) ⌝ }
-    ensures { λ _. ⌜ Gathered (now (table .entry)) left row (now (tree .entry)) (now (first .entry)) (now (tree .exit)) (now (first .exit)) (now (next .exit)) ⌝ }
+    ensures { λ _. ⌜ Gathered (now (table .entry)) left row (now (tree .entry)) (now (first .entry)) (now (tree .exit))
+        (now (first .exit)) (now (next .exit)) ⌝ }
 {
     if left == 0 {
         return;
@@ -86,7 +87,8 @@ pub fn write(
     left: usize,
 ) -> usize
     requires { ⌜ (16384 ≤ length (now table)) × (length (now tree) ≡ 4096) × (i + left ≤ length (now strip)) ⌝ }
-    ensures { λ r. ⌜ Written (now (table .entry)) (now (tree .entry)) (now (first .entry)) (now (next .entry)) i left (now (strip .entry)) (now (strip .exit)) r ⌝ }
+    ensures { λ r. ⌜ Written (now (table .entry)) (now (tree .entry)) (now (first .entry)) (now (next .entry)) i left (now (strip .entry))
+        (now (strip .exit)) r ⌝ }
 {
     if left == 0 {
         return 0;

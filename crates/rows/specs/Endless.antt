@@ -21,8 +21,10 @@ endlessRows =
     -- it leads there by way of others
     row (declaring (bytes " class E{} class D extends C{} class C extends B{} class B extends B{}")) usual (refusedAt 22 85) ∷
     -- two loops, and a class that leads into the second of them
-    row (declaring (bytes " class A extends E{} class B extends C{} class C extends B{} class D extends D{} class E{}")) usual (refusedAt 22 95) ∷
-    row (declaring (bytes " class E{} class A extends D{} class B extends C{} class C extends B{} class D extends D{}")) usual (refusedAt 22 85) ∷
+    row (declaring (bytes " class A extends E{} class B extends C{} class C extends B{} class D extends D{} class E{}"))
+    usual (refusedAt 22 95) ∷
+    row (declaring (bytes " class E{} class A extends D{} class B extends C{} class C extends B{} class D extends D{}"))
+    usual (refusedAt 22 85) ∷
     -- 21 and 20 come first, wherever they stand
     row (declaring (bytes " class A extends A{} class B extends X{}")) usual (refusedAt 21 105) ∷
     row (declaring (bytes " class B extends X{} class A extends A{}")) usual (refusedAt 21 85) ∷

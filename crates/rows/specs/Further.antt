@@ -50,7 +50,8 @@ furtherRows =
     row (declaring (bytes " class A{M x;}")) usual (refusedAt 24 77) ∷
     -- a field may share a method's name
     row (declaring (bytes " class A{int m;public int m(){return 1;}public int m(){return 2;}}")) usual (refusedAt 25 119) ∷
-    row (declaring (bytes " class A{public int m(int x){return x;}} class B extends A{public int m(boolean y){return 1;}}")) usual (refusedAt 26 138) ∷
+    row (declaring (bytes " class A{public int m(int x){return x;}} class B extends A{public int m(boolean y){return 1;}}"))
+    usual (refusedAt 26 138) ∷
     row (declaring (bytes " class A{public int m(int x,int x){return x;}}")) usual (refusedAt 27 100) ∷
     row (declaring (bytes " class A{public int m(" ++ parameters 32 ++ bytes "){return a;}}")) usual (refusedAt 28 782) ∷
     row (printing (bytes "new A().m()") ++ bytes " class A{}") usual (refusedAt 32 71) ∷

@@ -1,5 +1,5 @@
--- Document 02, (ii): Menu writes, again and again, the unwritten class earliest in the lesson whose parent is already written or absent. The
--- orders are worked out by hand; " class A{}" is 10 bytes long, " class A extends B{}" 20, and the first class's name stands at 75.
+-- Document 02, (ii): Menu writes, again and again, the unwritten class earliest in the lesson whose parent is already written or absent.
+-- The orders are worked out by hand; " class A{}" is 10 bytes long, " class A extends B{}" 20, and the first class's name stands at 75.
 use Prim.Native.Nat.{ℕ}
 use mathlib.Core.Path.{_≡_, refl}
 use mathlib.Core.List.{List, [], _∷_, map}

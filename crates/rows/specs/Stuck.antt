@@ -1,5 +1,6 @@
--- Document 01, "Stuck means": lessons for each clause of the sentence, and for each place where a value of some kind is needed. Run as they are read, without
--- Check, all get stuck, in one theorem closed by computation: so a machine that never says stuck, of which demand 3 would hold, is not this one.
+-- Document 01, "Stuck means": lessons for each clause of the sentence, and for each place where a value of some kind is needed. Run as
+-- they are read, without Check, all get stuck, in one theorem closed by computation: so a machine that never says stuck, of which demand
+-- 3 would hold, is not this one.
 use Prim.Native.Nat.{ℕ}
 use mathlib.Core.Path.{_≡_, refl}
 use mathlib.Core.List.{List, [], _∷_, _++_, map}
@@ -11,7 +12,8 @@ use Rattle.semantics.specs.Ends.{uncheckedOf, usual, printing}
 -- main prints what the method m of an object returns; the object's field z is null
 abbrev pub calling : (fields body methods : List ℕ) → List ℕ
 calling fields body methods =
-    printing (bytes "new A().m()") ++ bytes " class A{int[] z;" ++ fields ++ bytes "public int m(){" ++ body ++ bytes "return 1;}" ++ methods ++ bytes "}"
+    printing (bytes "new A().m()") ++ bytes " class A{int[] z;" ++ fields ++ bytes "public int m(){" ++ body ++ bytes "return 1;}"
+    ++ methods ++ bytes "}"
 
 abbrev pub doing : List ℕ → List ℕ
 doing body = calling [] body []
@@ -38,7 +40,8 @@ array = record { type = bytes "int[]"; value = bytes "(new int[1])" }
 abbrev pub object : Sample
 object = record { type = bytes "A"; value = bytes "this" }
 
--- given to a local, a field and a parameter of type t, and as the result of a method of type t; what it is in truth fits the local that takes the result
+-- given to a local, a field and a parameter of type t, and as the result of a method of type t; what it is in truth fits the local that
+-- takes the result
 abbrev pub toLocal : (t : List ℕ) → Sample → List ℕ
 toLocal t g = doing (t ++ bytes " x;x=" ++ g .value ++ bytes ";")
 
@@ -46,7 +49,8 @@ abbrev pub toField : (t : List ℕ) → Sample → List ℕ
 toField t g = calling (t ++ bytes " f;") (bytes "f=" ++ g .value ++ bytes ";") []
 
 abbrev pub toParameter : (t : List ℕ) → Sample → List ℕ
-toParameter t g = calling [] (bytes "System.out.println(this.k(" ++ g .value ++ bytes "));") (bytes "public int k(" ++ t ++ bytes " p){return 1;}")
+toParameter t g =
+    calling [] (bytes "System.out.println(this.k(" ++ g .value ++ bytes "));") (bytes "public int k(" ++ t ++ bytes " p){return 1;}")
 
 abbrev pub asResult : (t : List ℕ) → Sample → List ℕ
 asResult t g = calling [] (g .type ++ bytes " y;y=this.r();") (bytes "public " ++ t ++ bytes " r(){return " ++ g .value ++ bytes ";}")

@@ -17,7 +17,8 @@ refutingRows =
     -- 50 before the first node under a positive budget: the statement is begun
     row (printing (bytes "1+2")) (limits 1 64) (ends 50 63 1 0 []) ∷
     -- carries out one statement, then 0
-    row (bytes "class M{public static void main(String[] a){{System.out.println(1);System.out.println(2);}}}") usual (ends 0 0 5 0 (pos 1 ∷ pos 2 ∷ [])) ∷
+    row (bytes "class M{public static void main(String[] a){{System.out.println(1);System.out.println(2);}}}")
+    usual (ends 0 0 5 0 (pos 1 ∷ pos 2 ∷ [])) ∷
     []
 
 pub worthless : All RowHolds refutingRows

@@ -1,4 +1,5 @@
--- What the functions of Run return meets their contracts: Check's promise makes the lesson runnable, and the run reports what the machine does.
+-- What the functions of Run return meets their contracts: Check's promise makes the lesson runnable, and the run reports what the machine
+-- does.
 use Prim.Native.Nat.{ℕ, _+_, _*_, _/_, _≤_, _<_}
 use native.Mathlib.Omega.{arith}
 use native.Mathlib.Nat.{mul-le-mul}

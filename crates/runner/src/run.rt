@@ -37,8 +37,9 @@ fn refusal(number: u32, position: usize) -> RunAnswer
     }
 }
 
-// Writes the code of the accepted lesson that the table holds, and runs it, in the room that is lent: four words for an instruction and four instructions for a token at most, a word
-// for each joined instruction, and the values of main and of each open call, of which a body keeps at most one for two tokens; one more may be pushed.
+// Writes the code of the accepted lesson that the table holds, and runs it, in the room that is lent: four words for an instruction and
+// four instructions for a token at most, a word for each joined instruction, and the values of main and of each open call, of which a
+// body keeps at most one for two tokens; one more may be pushed.
 fn compiled(
     table: &[u32],
     code: &mut [u32],
@@ -49,9 +50,10 @@ fn compiled(
     heap: &mut [i32],
     output: &mut [i32],
 ) -> RunAnswer
-    requires { ⌜ Walkable (now table) (s .tokens) × (s .classes ≤ 2048) × (length (now heap) ≤ 16384) × (b .budget < 4294967296) × (b .calls ≤ 64)
-        × (length (now fast) ≤ 8192) × (length (now values) ≤ 200000) ⌝ }
-    ensures { λ r. ⌜ CompletesInRoom (now (table .entry)) (now (code .entry)) (now (fast .entry)) (now (values .entry)) s b (now (heap .entry)) (now (output .entry)) (runAnswerOf r) (now (output .exit)) ⌝ }
+    requires { ⌜ Walkable (now table) (s .tokens) × (s .classes ≤ 2048) × (length (now heap) ≤ 16384) × (b .budget < 4294967296)
+        × (b .calls ≤ 64) × (length (now fast) ≤ 8192) × (length (now values) ≤ 200000) ⌝ }
+    ensures { λ r. ⌜ CompletesInRoom (now (table .entry)) (now (code .entry)) (now (fast .entry)) (now (values .entry)) s b
+        (now (heap .entry)) (now (output .entry)) (runAnswerOf r) (now (output .exit)) ⌝ }
 {
     let mut entries = [0u32; 2048];
     prepare(table, code, &mut entries, s.tokens, s.classes);
@@ -70,7 +72,8 @@ const SMALL: usize = 125;
 
 // A small lesson, in room that is enough for one: what is cleared for a run depends on the lesson.
 fn small(table: &[u32], s: Sizes, b: Bounds, heap: &mut [i32], output: &mut [i32]) -> RunAnswer
-    requires { ⌜ Walkable (now table) (s .tokens) × (s .classes ≤ 2048) × (length (now heap) ≤ 16384) × (b .budget < 4294967296) × (b .calls ≤ 64) × (s .tokens ≤ 125) ⌝ }
+    requires { ⌜ Walkable (now table) (s .tokens) × (s .classes ≤ 2048) × (length (now heap) ≤ 16384) × (b .budget < 4294967296)
+        × (b .calls ≤ 64) × (s .tokens ≤ 125) ⌝ }
     ensures { λ r. ⌜ Completes (now (table .entry)) s b (now (heap .entry)) (now (output .entry)) (runAnswerOf r) (now (output .exit)) ⌝ }
 {
     let mut code = [0u32; 2048];
@@ -81,7 +84,8 @@ fn small(table: &[u32], s: Sizes, b: Bounds, heap: &mut [i32], output: &mut [i32
 
 // Any lesson.
 fn wide(table: &[u32], s: Sizes, b: Bounds, heap: &mut [i32], output: &mut [i32]) -> RunAnswer
-    requires { ⌜ Walkable (now table) (s .tokens) × (s .classes ≤ 2048) × (length (now heap) ≤ 16384) × (b .budget < 4294967296) × (b .calls ≤ 64) ⌝ }
+    requires { ⌜ Walkable (now table) (s .tokens) × (s .classes ≤ 2048) × (length (now heap) ≤ 16384) × (b .budget < 4294967296)
+        × (b .calls ≤ 64) ⌝ }
     ensures { λ r. ⌜ Completes (now (table .entry)) s b (now (heap .entry)) (now (output .entry)) (runAnswerOf r) (now (output .exit)) ⌝ }
 {
     let mut code = [0u32; 32768];
@@ -92,7 +96,8 @@ fn wide(table: &[u32], s: Sizes, b: Bounds, heap: &mut [i32], output: &mut [i32]
 
 // Runs the accepted lesson that the table holds.
 fn accepted(table: &[u32], s: Sizes, b: Bounds, heap: &mut [i32], output: &mut [i32]) -> RunAnswer
-    requires { ⌜ Walkable (now table) (s .tokens) × (s .classes ≤ 2048) × (length (now heap) ≤ 16384) × (b .budget < 4294967296) × (b .calls ≤ 64) ⌝ }
+    requires { ⌜ Walkable (now table) (s .tokens) × (s .classes ≤ 2048) × (length (now heap) ≤ 16384) × (b .budget < 4294967296)
+        × (b .calls ≤ 64) ⌝ }
     ensures { λ r. ⌜ Completes (now (table .entry)) s b (now (heap .entry)) (now (output .entry)) (runAnswerOf r) (now (output .exit)) ⌝ }
 {
     if s.tokens <= SMALL {
@@ -101,9 +106,9 @@ fn accepted(table: &[u32], s: Sizes, b: Bounds, heap: &mut [i32], output: &mut [
     wide(table, s, b, heap, output)
 }
 
-// Checks the lesson where no tokens are known of it, and then goes on with those of an accepted one: it is run. The call that checks clears the table and the heap strip.
-// It calls itself for the sake of the stack: the compiler puts no function that calls itself into its caller, and none with large arrays into one that calls itself. So the
-// arrays of a run are not there yet while the lesson is read.
+// Checks the lesson where no tokens are known of it, and then goes on with those of an accepted one: it is run. The call that checks
+// clears the table and the heap strip. It calls itself for the sake of the stack: the compiler puts no function that calls itself into
+// its caller, and none with large arrays into one that calls itself. So the arrays of a run are not there yet while the lesson is read.
 fn perform(
     source: &[u8],
     table: &mut [u32],
@@ -112,7 +117,8 @@ fn perform(
     output: &mut [i32],
     s: Sizes,
 ) -> RunAnswer
-    requires { ⌜ (16384 ≤ length (now table)) × (length (now heap) ≤ 16384) × (b .budget < 4294967296) × (b .calls ≤ 64) × LeftByCheck (now source) s (now table) ⌝ }
+    requires { ⌜ (16384 ≤ length (now table)) × (length (now heap) ≤ 16384) × (b .budget < 4294967296) × (b .calls ≤ 64)
+        × LeftByCheck (now source) s (now table) ⌝ }
     ensures { λ r. ⌜ Performed (now (source .entry)) s b (now (table .entry)) (now (heap .entry)) (now (output .entry)) (runAnswerOf r)
         (now (table .exit)) (now (heap .exit)) (now (output .exit)) ⌝ }
 {
@@ -144,8 +150,8 @@ pub fn run(
     heap: &mut [i32],
     output: &mut [i32],
 ) -> RunAnswer
-    ensures { λ r. ⌜ Runs (now (source .entry)) budget calls (strips (now (table .entry)) (now (heap .entry)) (now (output .entry))) (runAnswerOf r)
-        (strips (now (table .exit)) (now (heap .exit)) (now (output .exit))) ⌝ }
+    ensures { λ r. ⌜ Runs (now (source .entry)) budget calls (strips (now (table .entry)) (now (heap .entry)) (now (output .entry)))
+        (runAnswerOf r) (strips (now (table .exit)) (now (heap .exit)) (now (output .exit))) ⌝ }
 {
     if table.len() < codes::TABLE_LEAST {
         return refusal(codes::TABLE_TOO_SHORT, 0);

@@ -1,5 +1,6 @@
--- Document 01, "Mistakes that come easily", and machines that do not say stuck at a value of another kind: each is refuted by how a lesson ends, computed. The
--- rows stand beside the definition of the machine, so that an edit of it fails at its row. The ends are worked out by hand.
+-- Document 01, "Mistakes that come easily", and machines that do not say stuck at a value of another kind: each is refuted by how a
+-- lesson ends, computed. The rows stand beside the definition of the machine, so that an edit of it fails at its row. The ends are worked
+-- out by hand.
 use Prim.Native.Nat.{ℕ}
 use mathlib.Core.Path.{_≡_, refl}
 use mathlib.Core.List.{List, [], _∷_, _++_}
@@ -11,15 +12,20 @@ use Rattle.semantics.specs.Ends.{endOf, uncheckedOf, ends, usual, printi
 
 -- the method is the object's own, not that of the declared type
 abbrev pub declaredAbove : List ℕ
-declaredAbove = printing (bytes "new C().k(new B())") ++ bytes " class A{public int m(){return 1;}} class B extends A{public int m(){return 2;}} class C{public int k(A a){return a.m();}}"
+declaredAbove =
+    printing (bytes "new C().k(new B())") ++ bytes " class A{public int m(){return 1;}} class B extends A{public int m(){return 2;}}"
+    ++ bytes " class C{public int k(A a){return a.m();}}"
 
 pub own-method : endOf declaredAbove usual ≡ ends 0 0 7 2 (pos 2 ∷ [])
 unfolding endOf
 own-method = refl
 
--- the object holds both fields x (with one slot for both it prints 33), and x means the one that the method's own class has (with the object's class it prints 0)
+-- the object holds both fields x (with one slot for both it prints 33), and x means the one that the method's own class has (with the
+-- object's class it prints 0)
 abbrev pub hiddenField : List ℕ
-hiddenField = printing (bytes "new B().b()") ++ bytes " class A{int x;public int a(){x=3;return x;}} class B extends A{int x;public int b(){return this.a()*10+x;}}"
+hiddenField =
+    printing (bytes "new B().b()") ++ bytes " class A{int x;public int a(){x=3;return x;}}"
+    ++ bytes " class B extends A{int x;public int b(){return this.a()*10+x;}}"
 
 pub both-fields : endOf hiddenField usual ≡ ends 0 0 12 3 (pos 30 ∷ [])
 unfolding endOf
@@ -27,7 +33,8 @@ both-fields = refl
 
 -- null is tested after the arguments: the array is made
 abbrev pub nullReceiver : List ℕ
-nullReceiver = printing (bytes "new A().m()") ++ bytes " class A{A n;public int m(){return n.k(new int[3].length);}public int k(int x){return x;}}"
+nullReceiver =
+    printing (bytes "new A().m()") ++ bytes " class A{A n;public int m(){return n.k(new int[3].length);}public int k(int x){return x;}}"
 
 pub null-after-arguments : endOf nullReceiver usual ≡ ends 40 113 8 6 []
 unfolding endOf

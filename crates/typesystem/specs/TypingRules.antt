@@ -16,7 +16,8 @@ use Rattle.parser.specs.Tree.{Part.literal, Part.truth, Part.variable, Part.thi
 use Rattle.parser.specs.Tree.{Part.element, Part.arrayLength, Part.call, Part.noArguments, Part.argument}
 use Rattle.parser.specs.Tree.{Part.block, Part.conditional, Part.loop, Part.print, Part.assign, Part.assignElement, Part.noStatements}
 use Rattle.parser.specs.Tree.{Part.sequence}
-use Rattle.typesystem.specs.ClassTable.{Slot, Found, Context, mainContext, contextOf, classNamed, methodNamed, variableNamed, known, occurs, textOf}
+use Rattle.typesystem.specs.ClassTable.{Slot, Found, Context, mainContext, contextOf, classNamed, methodNamed, variableNamed, known}
+use Rattle.typesystem.specs.ClassTable.{occurs, textOf}
 use Rattle.typesystem.specs.Operators.{operation}
 
 -- SUBTYPES: 004's ≺, document 01's "fits"

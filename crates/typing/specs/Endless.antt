@@ -1,5 +1,5 @@
--- Document 02, (iii): "22 now stands at the first class in the lesson whose chain never ends". It holds since the test of the chains decides
--- the rules' `Ends` class by class (laws/Agreement).
+-- Document 02, (iii): "22 now stands at the first class in the lesson whose chain never ends". It holds since the test of the chains
+-- decides the rules' `Ends` class by class (laws/Agreement).
 use mathlib.Core.Path.{_≡_, refl}
 use mathlib.Core.List.{_∷_, map}
 use Rattle.base.specs.All.{All, FirstNot}

@@ -1,4 +1,5 @@
--- What writing classes returns meets its contract: the fields of a class are in the array while its methods are written, and the sizes behind them stay.
+-- What writing classes returns meets its contract: the fields of a class are in the array while its methods are written, and the sizes
+-- behind them stay.
 use Prim.Native.Nat.{ℕ, _-_, _≤_, _<_}
 use native.Mathlib.Omega.{arith}
 use mathlib.Core.Path.{_≡_, refl, sym, ap, _∙_, subst}

@@ -1,4 +1,5 @@
--- What the functions on expressions return meets their contracts: a row shows the form of its node, and the code of a form is that of its parts, one behind another, and one instruction.
+-- What the functions on expressions return meets their contracts: a row shows the form of its node, and the code of a form is that of its
+-- parts, one behind another, and one instruction.
 use Prim.Native.Nat.{ℕ, suc, _+_, _-_, _≤_, _<_}
 use native.Mathlib.Omega.{arith}
 use mathlib.Core.Path.{_≡_, refl, sym, ap, _∙_, subst}

@@ -1,4 +1,5 @@
--- What writing methods returns meets its contract: the parameters and locals of a method make the scope in which its body and its value are written.
+-- What writing methods returns meets its contract: the parameters and locals of a method make the scope in which its body and its value
+-- are written.
 use Prim.Native.Nat.{ℕ, suc, _+_, _-_, _≤_, _<_}
 use native.Mathlib.Omega.{arith}
 use Rattle.reader.specs.laws.Counting.{nodes-covered}

@@ -1,4 +1,5 @@
--- What the rows show of the parts that lie in them: a node matches its token, so the kinds in the table tell its form, and its columns lead to its parts.
+-- What the rows show of the parts that lie in them: a node matches its token, so the kinds in the table tell its form, and its columns
+-- lead to its parts.
 use Prim.Native.Nat.{ℕ, suc, _+_, _-_, _≤_, _<_}
 use native.Mathlib.Omega.{arith}
 use mathlib.Core.Path.{_≡_, refl, sym, ap, _∙_, subst}

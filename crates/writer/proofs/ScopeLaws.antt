@@ -1,4 +1,5 @@
--- What `slot` returns meets its contract: the variables that a body sees are its parameters and then its locals, and after these come the fields.
+-- What `slot` returns meets its contract: the variables that a body sees are its parameters and then its locals, and after these come the
+-- fields.
 use Prim.Native.Nat.{ℕ, _+_, _≤_, _<_}
 use native.Mathlib.Omega.{arith}
 use mathlib.Core.Path.{_≡_, refl, sym, ap, _∙_, subst}

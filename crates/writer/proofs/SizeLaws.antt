@@ -1,5 +1,5 @@
--- What counting the fields of each class's objects meets: a word depends on the name alone, so that it does not matter how often a name is counted; and a name that no class has
--- keeps its word, which is 0, as many fields as no class has.
+-- What counting the fields of each class's objects meets: a word depends on the name alone, so that it does not matter how often a name
+-- is counted; and a name that no class has keeps its word, which is 0, as many fields as no class has.
 use Prim.Native.Nat.{ℕ, _+_, _-_, _≤_, _<_}
 use native.Mathlib.Omega.{arith}
 use native.Mathlib.Decide.{ℕ-discrete}

@@ -1,4 +1,5 @@
--- What the functions on statements return meets their contracts, as with expressions; a jump over a part is written after it, when the place behind the part is known.
+-- What the functions on statements return meets their contracts, as with expressions; a jump over a part is written after it, when the
+-- place behind the part is known.
 use Prim.Native.Nat.{ℕ, suc, _+_, _-_, _≤_, _<_}
 use native.Mathlib.Omega.{arith}
 use mathlib.Core.Path.{_≡_, refl, sym, ap, _∙_}

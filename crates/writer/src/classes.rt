@@ -21,7 +21,8 @@ fn of_class(
     at: usize,
 ) -> usize
     requires { ⌜ Walkable (now table) n × (6144 ≤ length (now names)) × (2048 ≤ length (now entries)) × (classes ≤ 2048) × (at ≤ 8192) ⌝ }
-    ensures { λ r. ⌜ ClassPost (now (table .entry)) n classes row at (now (names .entry)) (now (names .exit)) (now (code .entry)) (now (code .exit)) (now (entries .entry)) (now (entries .exit)) r ⌝ }
+    ensures { λ r. ⌜ ClassPost (now (table .entry)) n classes row at (now (names .entry)) (now (names .exit)) (now (code .entry))
+        (now (code .exit)) (now (entries .entry)) (now (entries .exit)) r ⌝ }
 {
     let first = word(table, columns::METHODS, row);
     if ABSENT <= first {
@@ -44,7 +45,8 @@ pub fn each(
     at: usize,
 )
     requires { ⌜ Walkable (now table) n × (6144 ≤ length (now names)) × (2048 ≤ length (now entries)) × (classes ≤ 2048) × (at ≤ 8192) ⌝ }
-    ensures { λ _. ⌜ ClassesPost (now (table .entry)) n classes left row at (now (names .entry)) (now (code .entry)) (now (code .exit)) (now (entries .entry)) (now (entries .exit)) ⌝ }
+    ensures { λ _. ⌜ ClassesPost (now (table .entry)) n classes left row at (now (names .entry)) (now (code .entry)) (now (code .exit))
+        (now (entries .entry)) (now (entries .exit)) ⌝ }
 {
     if left == 0 {
         return;

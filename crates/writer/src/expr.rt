@@ -41,7 +41,8 @@ fn name(
     at: usize,
 ) -> usize
     requires { ⌜ Writable (now table) (now names) (now code) (s .tokens) left row at ⌝ }
-    ensures { λ r. ⌜ ExpressionPost (now (table .entry)) (now (names .entry)) s Form.aVariable left row at (now (code .entry)) (now (code .exit)) r ⌝ }
+    ensures { λ r. ⌜ ExpressionPost (now (table .entry)) (now (names .entry)) s Form.aVariable left row at (now (code .entry))
+        (now (code .exit)) r ⌝ }
 {
     let v = slot(table, names, s, word(table, columns::NUMBER, row));
     put(code, at, numbers::LOAD, v, 0, 0)
@@ -59,7 +60,8 @@ fn atom(
     at: usize,
 ) -> usize
     requires { ⌜ Writable (now table) (now names) (now code) (s .tokens) left row at ⌝ }
-    ensures { λ r. ⌜ ExpressionPost (now (table .entry)) (now (names .entry)) s (formAtom k) left row at (now (code .entry)) (now (code .exit)) r ⌝ }
+    ensures { λ r. ⌜ ExpressionPost (now (table .entry)) (now (names .entry)) s (formAtom k) left row at (now (code .entry))
+        (now (code .exit)) r ⌝ }
 {
     if k == kinds::LITERAL {
         return put(
@@ -94,7 +96,8 @@ fn creation(
     at: usize,
 ) -> usize
     requires { ⌜ Writable (now table) (now names) (now code) (s .tokens) left row at ⌝ }
-    ensures { λ r. ⌜ ExpressionPost (now (table .entry)) (now (names .entry)) s Form.aNewObject left row at (now (code .entry)) (now (code .exit)) r ⌝ }
+    ensures { λ r. ⌜ ExpressionPost (now (table .entry)) (now (names .entry)) s Form.aNewObject left row at (now (code .entry))
+        (now (code .exit)) r ⌝ }
 {
     let x = word(table, columns::NUMBER, row + 1);
     let start = word(table, columns::BEGIN, row);
@@ -122,7 +125,8 @@ pub fn expression(
     at: usize,
 ) -> usize
     requires { ⌜ Writable (now table) (now names) (now code) (s .tokens) left row at ⌝ }
-    ensures { λ r. ⌜ WritePost (now (table .entry)) (now (names .entry)) s Sort.expression left row at (now (code .entry)) (now (code .exit)) r ⌝ }
+    ensures { λ r. ⌜ WritePost (now (table .entry)) (now (names .entry)) s Sort.expression left row at (now (code .entry))
+        (now (code .exit)) r ⌝ }
 {
     if left == 0 {
         return at;
@@ -165,7 +169,8 @@ fn compound(
     at: usize,
 ) -> usize
     requires { ⌜ Writable (now table) (now names) (now code) (s .tokens) left row at ⌝ }
-    ensures { λ r. ⌜ ExpressionPost (now (table .entry)) (now (names .entry)) s (formCompound k after) left row at (now (code .entry)) (now (code .exit)) r ⌝ }
+    ensures { λ r. ⌜ ExpressionPost (now (table .entry)) (now (names .entry)) s (formCompound k after) left row at (now (code .entry))
+        (now (code .exit)) r ⌝ }
 {
     let start = word(table, columns::BEGIN, row);
     if k == kinds::NEW {
@@ -223,7 +228,8 @@ fn operation(
     at: usize,
 ) -> usize
     requires { ⌜ Writable (now table) (now names) (now code) (s .tokens) left row at ⌝ }
-    ensures { λ r. ⌜ ExpressionPost (now (table .entry)) (now (names .entry)) s Form.anOperation left row at (now (code .entry)) (now (code .exit)) r ⌝ }
+    ensures { λ r. ⌜ ExpressionPost (now (table .entry)) (now (names .entry)) s Form.anOperation left row at (now (code .entry))
+        (now (code .exit)) r ⌝ }
 {
     let k = kind(table, s.tokens, row) as usize;
     pair(table, names, code, s, numbers::OPERATE, k, left, row, at)
@@ -303,7 +309,8 @@ fn conjunction(
     at: usize,
 ) -> usize
     requires { ⌜ Writable (now table) (now names) (now code) (s .tokens) left row at ⌝ }
-    ensures { λ r. ⌜ ExpressionPost (now (table .entry)) (now (names .entry)) s Form.aConjunction left row at (now (code .entry)) (now (code .exit)) r ⌝ }
+    ensures { λ r. ⌜ ExpressionPost (now (table .entry)) (now (names .entry)) s Form.aConjunction left row at (now (code .entry))
+        (now (code .exit)) r ⌝ }
 {
     let a = expression(
         table,
@@ -338,7 +345,8 @@ fn call(
     at: usize,
 ) -> usize
     requires { ⌜ Writable (now table) (now names) (now code) (s .tokens) left row at ⌝ }
-    ensures { λ r. ⌜ ExpressionPost (now (table .entry)) (now (names .entry)) s Form.aCall left row at (now (code .entry)) (now (code .exit)) r ⌝ }
+    ensures { λ r. ⌜ ExpressionPost (now (table .entry)) (now (names .entry)) s Form.aCall left row at (now (code .entry))
+        (now (code .exit)) r ⌝ }
 {
     let a = expression(
         table,
@@ -372,7 +380,8 @@ fn arguments(
     at: usize,
 ) -> usize
     requires { ⌜ Writable (now table) (now names) (now code) (s .tokens) left row at ⌝ }
-    ensures { λ r. ⌜ WritePost (now (table .entry)) (now (names .entry)) s Sort.arguments left row at (now (code .entry)) (now (code .exit)) r ⌝ }
+    ensures { λ r. ⌜ WritePost (now (table .entry)) (now (names .entry)) s Sort.arguments left row at (now (code .entry))
+        (now (code .exit)) r ⌝ }
 {
     if left == 0 {
         return at;

@@ -66,7 +66,8 @@ pub fn methods(
     at: usize,
 ) -> usize
     requires { ⌜ Walkable (now table) n × (6144 ≤ length (now names)) × (2048 ≤ length (now entries)) × (at ≤ 8192) ⌝ }
-    ensures { λ r. ⌜ MethodsPost (now (table .entry)) (now (names .entry)) n left row at (now (code .entry)) (now (code .exit)) (now (entries .entry)) (now (entries .exit)) r ⌝ }
+    ensures { λ r. ⌜ MethodsPost (now (table .entry)) (now (names .entry)) n left row at (now (code .entry)) (now (code .exit))
+        (now (entries .entry)) (now (entries .exit)) r ⌝ }
 {
     if left == 0 {
         return at;

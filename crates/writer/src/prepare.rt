@@ -8,7 +8,8 @@ ghost use Rattle.writer.specs.contracts.Preparing.{Prepares};
 // The code of an accepted source of n tokens, whose class table has this many classes, and where the code of each method begins.
 pub fn prepare(table: &[u32], code: &mut [u32], entries: &mut [u32], n: usize, classes: usize)
     requires { ⌜ Walkable (now table) n × (2048 ≤ length (now entries)) × (classes ≤ 2048) ⌝ }
-    ensures { λ _. ⌜ Prepares n classes (now (table .entry)) (now (code .entry)) (now (code .exit)) (now (entries .entry)) (now (entries .exit)) ⌝ }
+    ensures { λ _. ⌜ Prepares n classes (now (table .entry)) (now (code .entry)) (now (code .exit)) (now (entries .entry))
+        (now (entries .exit)) ⌝ }
 {
     let mut names = [0u32; 6144];
     write(table, &mut names, code, entries, n, classes);

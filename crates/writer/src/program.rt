@@ -39,7 +39,8 @@ fn main_code(table: &[u32], names: &[u32], code: &mut [u32], n: usize) -> usize
     put(code, a, numbers::HALT, 0, 0, 0)
 }
 
-// The code of an accepted program of n tokens, whose class table has this many classes, and where each method's code begins, by the row of its name.
+// The code of an accepted program of n tokens, whose class table has this many classes, and where each method's code begins, by the row
+// of its name.
 pub fn write(
     table: &[u32],
     names: &mut [u32],
@@ -49,7 +50,8 @@ pub fn write(
     classes: usize,
 )
     requires { ⌜ Walkable (now table) n × (6144 ≤ length (now names)) × (2048 ≤ length (now entries)) × (classes ≤ 2048) ⌝ }
-    ensures { λ _. ⌜ Writes (now (table .entry)) n classes (now (code .entry)) (now (code .exit)) (now (entries .entry)) (now (entries .exit)) ⌝ }
+    ensures { λ _. ⌜ Writes (now (table .entry)) n classes (now (code .entry)) (now (code .exit)) (now (entries .entry))
+        (now (entries .exit)) ⌝ }
 {
     let first = word(table, columns::NEXT, columns::CLASS_LIST);
     begin(table, names, n, classes, first);

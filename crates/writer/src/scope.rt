@@ -1,5 +1,5 @@
-// What a body sees: where its parameters and its locals begin, of which main has none; and the fields of the declaring class and those above it, in `names`
-// (see `fields` of `lookup`).
+// What a body sees: where its parameters and its locals begin, of which main has none; and the fields of the declaring class and those
+// above it, in `names` (see `fields` of `lookup`).
 use crate::places::place;
 use lookup::member::count;
 use lookup::types::NOTHING;

@@ -28,7 +28,8 @@ fn printed(
     at: usize,
 ) -> usize
     requires { ⌜ Writable (now table) (now names) (now code) (s .tokens) left row at ⌝ }
-    ensures { λ r. ⌜ StatementPost (now (table .entry)) (now (names .entry)) s Form.aPrint left row at (now (code .entry)) (now (code .exit)) r ⌝ }
+    ensures { λ r. ⌜ StatementPost (now (table .entry)) (now (names .entry)) s Form.aPrint left row at (now (code .entry))
+        (now (code .exit)) r ⌝ }
 {
     unary(
         table,
@@ -54,7 +55,8 @@ fn assigned(
     at: usize,
 ) -> usize
     requires { ⌜ Writable (now table) (now names) (now code) (s .tokens) left row at ⌝ }
-    ensures { λ r. ⌜ StatementPost (now (table .entry)) (now (names .entry)) s Form.anAssignment left row at (now (code .entry)) (now (code .exit)) r ⌝ }
+    ensures { λ r. ⌜ StatementPost (now (table .entry)) (now (names .entry)) s Form.anAssignment left row at (now (code .entry))
+        (now (code .exit)) r ⌝ }
 {
     let v = slot(table, names, s, word(table, columns::NUMBER, row));
     unary(table, names, code, s, numbers::SAVE, v, left, row, at)
@@ -71,7 +73,8 @@ fn element(
     at: usize,
 ) -> usize
     requires { ⌜ Writable (now table) (now names) (now code) (s .tokens) left row at ⌝ }
-    ensures { λ r. ⌜ StatementPost (now (table .entry)) (now (names .entry)) s Form.anElementStore left row at (now (code .entry)) (now (code .exit)) r ⌝ }
+    ensures { λ r. ⌜ StatementPost (now (table .entry)) (now (names .entry)) s Form.anElementStore left row at (now (code .entry))
+        (now (code .exit)) r ⌝ }
 {
     let v = slot(table, names, s, word(table, columns::NUMBER, row));
     let i = put(code, at, numbers::LOAD, v, 0, 0);
@@ -99,7 +102,8 @@ pub fn single(
     at: usize,
 ) -> usize
     requires { ⌜ Writable (now table) (now names) (now code) (s .tokens) left row at ⌝ }
-    ensures { λ r. ⌜ WritePost (now (table .entry)) (now (names .entry)) s Sort.statement left row at (now (code .entry)) (now (code .exit)) r ⌝ }
+    ensures { λ r. ⌜ WritePost (now (table .entry)) (now (names .entry)) s Sort.statement left row at (now (code .entry))
+        (now (code .exit)) r ⌝ }
 {
     if left == 0 {
         return at;
@@ -159,7 +163,8 @@ fn conditional(
     at: usize,
 ) -> usize
     requires { ⌜ Writable (now table) (now names) (now code) (s .tokens) left row at ⌝ }
-    ensures { λ r. ⌜ StatementPost (now (table .entry)) (now (names .entry)) s Form.aConditional left row at (now (code .entry)) (now (code .exit)) r ⌝ }
+    ensures { λ r. ⌜ StatementPost (now (table .entry)) (now (names .entry)) s Form.aConditional left row at (now (code .entry))
+        (now (code .exit)) r ⌝ }
 {
     let a = expression(
         table,
@@ -265,7 +270,8 @@ pub fn list(
     at: usize,
 ) -> usize
     requires { ⌜ Writable (now table) (now names) (now code) (s .tokens) left row at ⌝ }
-    ensures { λ r. ⌜ WritePost (now (table .entry)) (now (names .entry)) s Sort.statements left row at (now (code .entry)) (now (code .exit)) r ⌝ }
+    ensures { λ r. ⌜ WritePost (now (table .entry)) (now (names .entry)) s Sort.statements left row at (now (code .entry))
+        (now (code .exit)) r ⌝ }
 {
     if left == 0 {
         return at;

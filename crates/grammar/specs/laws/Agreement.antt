@@ -35,7 +35,8 @@ complete ts p d = given-in-full (found-program ts d) (never-out ts)
 pub one-tree : (ts : List Token) (p q : Program) → DerivesProgram ts p → DerivesProgram ts q → p ≡ q
 one-tree ts p q d e = cc (complete ts p d, complete ts q e)
 
--- Where the list is refused at token k, some program begins with the tokens before it, none with those and token k, and the list is no program.
+-- Where the list is refused at token k, some program begins with the tokens before it, none with those and token k, and the list is no
+-- program.
 pub parse-refusal : (ts : List Token) (k : ℕ) → parse ts ≡ bad k → (k ≤ length ts) × Viable ts k × (¬ Viable ts (k + 1)) × (¬ Sentence ts)
 parse-refusal ts k e =
     let h = refused ts e in (

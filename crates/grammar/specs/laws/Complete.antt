@@ -1,5 +1,5 @@
--- What the grammar derives the parsing function finds, where no token that could go on follows, or it runs out of fuel. By induction on derivations; a form that
--- begins with a smaller form of its own class is found when the parser of what follows finds the rest.
+-- What the grammar derives the parsing function finds, where no token that could go on follows, or it runs out of fuel. By induction on
+-- derivations; a form that begins with a smaller form of its own class is found when the parser of what follows finds the rest.
 use Prim.Native.Nat.{ℕ, zero, suc, _+_}
 use mathlib.Core.Path.{_≡_, refl, ap, _∙_}
 use mathlib.Core.List.{List}

@@ -1,5 +1,5 @@
--- Where the machine stops at token k, the first k tokens begin a list that it accepts: each symbol has a word that it passes, and the words of the symbols
--- that are on the stack when token k is reached complete the list.
+-- Where the machine stops at token k, the first k tokens begin a list that it accepts: each symbol has a word that it passes, and the
+-- words of the symbols that are on the stack when token k is reached complete the list.
 use Prim.Native.Nat.{ℕ, _+_, _≤_, _<_}
 use mathlib.Core.Path.{_≡_, refl, sym, ap, _∙_, subst}
 use mathlib.Core.List.{List, [], _∷_, _++_, append-assoc, map}

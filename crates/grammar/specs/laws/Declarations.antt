@@ -1,5 +1,5 @@
--- The parsers of declarations and of the whole program, as those of expressions and statements: what they answer the grammar derives, they do what the machine does,
--- and the fuel is enough.
+-- The parsers of declarations and of the whole program, as those of expressions and statements: what they answer the grammar derives,
+-- they do what the machine does, and the fuel is enough.
 use Prim.Native.Nat.{ℕ, zero, suc, _+_, _*_, _-_, _≤_, _<_}
 use mathlib.Core.Path.{_≡_, refl, sym}
 use mathlib.Core.List.{List, [], _∷_}

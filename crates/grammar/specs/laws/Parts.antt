@@ -1,5 +1,5 @@
--- The parsers of expressions and statements: what they answer the grammar derives, they do what the machine does, and the fuel is enough where it is more than
--- `16 * (length ts - i) + rank m`. By induction on the fuel, over all modes at once.
+-- The parsers of expressions and statements: what they answer the grammar derives, they do what the machine does, and the fuel is enough
+-- where it is more than `16 * (length ts - i) + rank m`. By induction on the fuel, over all modes at once.
 use Prim.Native.Nat.{ℕ, zero, suc, _+_, _*_, _-_, _<_}
 use mathlib.Core.Path.{_≡_, refl, sym, subst}
 use mathlib.Core.List.{List, [], _∷_}

@@ -1,6 +1,7 @@
--- What it is for a parser to do what the machine does with some symbols: `Passes ts xs ys i Q r` says that r, an answer from token i on, is not `out`; that where it
--- is `ok a j` the machine comes from the symbols xs to the symbols ys at j, and Q holds of a and j; and that where it is `bad k` the machine stops at k.
--- `PassesOver` is the case where no symbol is left. There is one rule for each way to build a parser.
+-- What it is for a parser to do what the machine does with some symbols: `Passes ts xs ys i Q r` says that r, an answer from token i on,
+-- is not `out`; that where it is `ok a j` the machine comes from the symbols xs to the symbols ys at j, and Q holds of a and j; and that
+-- where it is `bad k` the machine stops at k. `PassesOver` is the case where no symbol is left. There is one rule for each way to build a
+-- parser.
 use Prim.Native.Nat.{ℕ, _+_, _≤_, _<_}
 use mathlib.Core.Path.{_≡_, refl, sym, ap, _∙_, subst}
 use mathlib.Core.List.{List, [], _∷_, _++_, append-assoc}

@@ -1,5 +1,5 @@
--- A recogniser with a stack of symbols, which looks at one token at a time: what the parsing function does, without its trees. Its runs are deterministic,
--- so a list of tokens on which it stops is one that it does not accept.
+-- A recogniser with a stack of symbols, which looks at one token at a time: what the parsing function does, without its trees. Its runs
+-- are deterministic, so a list of tokens on which it stops is one that it does not accept.
 use Prim.Native.Nat.{ℕ, _+_, _≤_}
 use mathlib.Core.Path.{_≡_, refl, ap, _∙_, subst}
 use mathlib.Core.List.{List, [], _∷_, _++_}
@@ -13,8 +13,8 @@ use Rattle.lexer.specs.Kinds.{kNot, kAssign, kDot, kComma, kSemicolon, kOpen, k
 use Rattle.parser.specs.Stream.{kindAt, Level, Level.conjunction, Level.comparison, Level.sum, Level.product, operatorOf}
 use Rattle.parser.specs.Parse.{beginsStatement}
 
--- `one k` is a token of kind k. The `after` symbols are what is left of a form after its first token; `suffixes b` has whether a `[` may follow;
--- `locals` are the locals of a body and its statements.
+-- `one k` is a token of kind k. The `after` symbols are what is left of a form after its first token; `suffixes b` has whether a `[` may
+-- follow; `locals` are the locals of a body and its statements.
 pub data Symbol : Type 0 where
   one : ℕ → Symbol
   aName : Symbol

@@ -1,5 +1,5 @@
--- The whole list of tokens: what an answer of `parse` says of the machine's run, that the machine accepts exactly the sentences, and that where it stops at
--- token k the first k tokens are viable and one more is not.
+-- The whole list of tokens: what an answer of `parse` says of the machine's run, that the machine accepts exactly the sentences, and that
+-- where it stops at token k the first k tokens are viable and one more is not.
 use Prim.Native.Nat.{ℕ, _+_, _≤_, _<_}
 use mathlib.Core.Path.{_≡_, refl, sym, ap, _∙_}
 use mathlib.Core.List.{List, [], _++_}

@@ -1,5 +1,5 @@
--- What the functions of Menu ensure: the positions of the classes lead the strip, in the order of the definition. The classes that may stand
--- are kept as a set of rows; the children of a class are a list of rows that lead to one another.
+-- What the functions of Menu ensure: the positions of the classes lead the strip, in the order of the definition. The classes that may
+-- stand are kept as a set of rows; the children of a class are a list of rows that lead to one another.
 use Prim.Native.Nat.{ℕ, _+_, _≤_, _<_}
 use mathlib.Core.Path.{_≡_}
 use mathlib.Core.List.{List, [], _∷_}

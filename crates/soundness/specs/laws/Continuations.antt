@@ -1,5 +1,6 @@
--- One rule for each way in which `plan` takes something apart: a property of requests that holds of `stuck` and of every fault holds of the whole if it holds
--- of what is gone on with. What is gone on with after a look-up may use that the look-up succeeded. And one rule for what a run reports after a turn.
+-- One rule for each way in which `plan` takes something apart: a property of requests that holds of `stuck` and of every fault holds of
+-- the whole if it holds of what is gone on with. What is gone on with after a look-up may use that the look-up succeeded. And one rule
+-- for what a run reports after a turn.
 use Prim.Native.Nat.{ℕ, zero, suc, _+_}
 use mathlib.Core.Bool.{Bool}
 use mathlib.Core.List.{List, [], _∷_}

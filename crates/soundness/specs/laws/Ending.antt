@@ -1,4 +1,5 @@
--- Every run ends, of every program: each turn charges a step and adds at most three to the weight of the tasks, or takes some of that weight away.
+-- Every run ends, of every program: each turn charges a step and adds at most three to the weight of the tasks, or takes some of that
+-- weight away.
 use Prim.Native.Nat.{ℕ, zero, suc, _+_, _-_, _*_, _^_, _≤_, _<_}
 use native.Mathlib.Omega.{arith}
 use mathlib.Core.List.{List, [], _∷_}

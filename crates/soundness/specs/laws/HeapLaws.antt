@@ -1,5 +1,5 @@
--- The typed heap: what is typed stays typed as the heap grows, and a new object or array at its end keeps the heap typed. Each cell has one type for good, so a
--- store is judged cell by cell and an allocation only appends.
+-- The typed heap: what is typed stays typed as the heap grows, and a new object or array at its end keeps the heap typed. Each cell has
+-- one type for good, so a store is judged cell by cell and an allocation only appends.
 use Prim.Native.Nat.{ℕ, zero, suc, _+_, _^_, _<_}
 use native.Mathlib.Omega.{arith}
 use mathlib.Core.List.{List, _∷_, _++_, map}

@@ -1,5 +1,6 @@
--- Larger limits change nothing of a run but an end by a limit: two runs stay in step until the smaller limits stop one, and since `plan` sees neither limits nor
--- meters only the eight requests are looked at. More fuel changes nothing of a run that ended, so this holds of `run`, which has fuel by its budget.
+-- Larger limits change nothing of a run but an end by a limit: two runs stay in step until the smaller limits stop one, and since `plan`
+-- sees neither limits nor meters only the eight requests are looked at. More fuel changes nothing of a run that ended, so this holds of
+-- `run`, which has fuel by its budget.
 use Prim.Native.Nat.{ℕ, zero, suc, _+_, _*_, _≤_}
 use native.Mathlib.Omega.{arith}
 use native.Mathlib.Nat.{not-suc-le-zero, le-of-suc-le-suc}
@@ -75,7 +76,8 @@ guard-alike L M h m (fault k p) = alike
 guard-alike L M h m done = alike
 guard-alike L M h m stuck = alike
 
--- a run under limits and one under larger limits: they report the same, or a limit stopped the first and its printed list begins the other's
+-- a run under limits and one under larger limits: they report the same, or a limit stopped the first and its printed list begins the
+-- other's
 pub data Agree : Report → Report → Type 0 where
   agree : {r : Report} → Agree r r
   cut : {k p : ℕ} {r s : Report} → ByLimit k → r .ending ≡ ended k p → Begins (r .printed) (s .printed) → Agree r s

@@ -1,4 +1,5 @@
--- The states that a run goes through. Every one of a typed program is typed: the first is, and each turn leads from a typed state to another.
+-- The states that a run goes through. Every one of a typed program is typed: the first is, and each turn leads from a typed state to
+-- another.
 use mathlib.Core.Path.{_≡_, subst}
 use Rattle.parser.specs.Tree.{Program}
 use Rattle.typesystem.specs.TypingRules.{ProgramTyped}

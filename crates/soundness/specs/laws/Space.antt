@@ -1,5 +1,6 @@
--- How much space a run takes. In each body at most one task waits for each level of the tree, and a task that waits keeps at most 32 values; so the lists of
--- tasks and values of a reached state are bounded by the depth of the tree and the number of open calls, and arrays of fixed size can hold them.
+-- How much space a run takes. In each body at most one task waits for each level of the tree, and a task that waits keeps at most 32
+-- values; so the lists of tasks and values of a reached state are bounded by the depth of the tree and the number of open calls, and
+-- arrays of fixed size can hold them.
 use Prim.Native.Nat.{ℕ, suc, pred, _+_, _*_, _-_, _^_, _≤_, _<_, max}
 use native.Mathlib.Nat.{zero-add}
 use native.Mathlib.Omega.{arith}
@@ -348,7 +349,8 @@ valuesOf (core ts vs cs h) = vs
 abbrev pub callsOf : Core → List Call
 callsOf (core ts vs cs h) = cs
 
--- a state and its meters are within the limits; its tasks are at most 64 for main and for each open call, its values at most 32 for each task
+-- a state and its meters are within the limits; its tasks are at most 64 for main and for each open call, its values at most 32 for each
+-- task
 pub record Bounded (L : Limits) (c : Core) (m : Meters) : Type 0 where
   pub calls : length (callsOf c) ≤ L .calls
   pub heap : length (heapOf c) ≤ L .heap

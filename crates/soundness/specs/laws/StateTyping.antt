@@ -1,5 +1,5 @@
--- The typing of machine states. The heap has a flat list of cell types, one for each cell; a reference is typed by the cell types at its place. A list of tasks
--- is typed by the contexts of the open calls and by the types on the value stack with which it runs to the end.
+-- The typing of machine states. The heap has a flat list of cell types, one for each cell; a reference is typed by the cell types at its
+-- place. A list of tasks is typed by the contexts of the open calls and by the types on the value stack with which it runs to the end.
 use Prim.Native.Nat.{ℕ, _+_, _^_, _<_}
 use mathlib.Core.Bool.{Bool, false}
 use mathlib.Core.List.{List, [], _∷_, _++_, map, reverseAux}

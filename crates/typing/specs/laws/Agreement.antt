@@ -1,6 +1,6 @@
--- The judging function and the typing rules agree: each test decides its relation, an expression is given exactly the types that the rules give it, and a
--- program is accepted exactly where the rules hold of it. What the table must satisfy is that its chains end, `Acyclic`; a program that is accepted or
--- typed has such a table.
+-- The judging function and the typing rules agree: each test decides its relation, an expression is given exactly the types that the
+-- rules give it, and a program is accepted exactly where the rules hold of it. What the table must satisfy is that its chains end,
+-- `Acyclic`; a program that is accepted or typed has such a table.
 use Prim.Native.Nat.{ℕ}
 use mathlib.Core.Path.{_≡_, refl, sym, ap, _∙_, subst}
 use mathlib.Core.Logic.{_↔_}

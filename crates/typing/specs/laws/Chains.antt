@@ -1,5 +1,5 @@
--- A chain that ends passes through no class twice, so it is no longer than the table: climbing as many steps as the table is long reaches its end.
--- Each class on a chain that ends has a height of its own; taking a class out of the table leaves the chain above it as it was.
+-- A chain that ends passes through no class twice, so it is no longer than the table: climbing as many steps as the table is long reaches
+-- its end. Each class on a chain that ends has a height of its own; taking a class out of the table leaves the chain above it as it was.
 use Prim.Native.Nat.{ℕ, zero, suc, _≤_, _<_, zero-le, suc-le-suc}
 use native.Mathlib.Nat.{not-suc-le-zero, le-of-suc-le-suc}
 use native.Mathlib.Omega.{arith}

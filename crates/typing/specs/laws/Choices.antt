@@ -1,4 +1,5 @@
--- What the result of a choice, of a look-up and of a chain of stages tells of its parts: the case that was taken, and that every stage accepted.
+-- What the result of a choice, of a look-up and of a chain of stages tells of its parts: the case that was taken, and that every stage
+-- accepted.
 use Prim.Native.Nat.{ℕ, zero, suc}
 use mathlib.Core.Path.{_≡_, refl, sym, _∙_, subst}
 use mathlib.Core.List.{List, [], _∷_}

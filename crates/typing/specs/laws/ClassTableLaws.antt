@@ -1,5 +1,6 @@
--- What the class table of a typed program gives whoever runs it: chains that end, layouts that grow at their end, methods that are redeclared with the same
--- parameter types and a result that fits, and types that are all known. Each holds class by class, by the rule of a class, and goes down the chain.
+-- What the class table of a typed program gives whoever runs it: chains that end, layouts that grow at their end, methods that are
+-- redeclared with the same parameter types and a result that fits, and types that are all known. Each holds class by class, by the rule
+-- of a class, and goes down the chain.
 use Prim.Native.Nat.{ℕ}
 use mathlib.Core.Path.{_≡_, refl, sym, ap, _∙_, subst}
 use mathlib.Core.List.{List, [], _∷_, _++_, append-assoc, append-nil}

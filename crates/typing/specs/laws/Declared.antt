@@ -1,4 +1,5 @@
--- The tests of the declarations and the bodies accept exactly what the rules allow: each test is one clause of the rules, and they are made one after the other.
+-- The tests of the declarations and the bodies accept exactly what the rules allow: each test is one clause of the rules, and they are
+-- made one after the other.
 use Prim.Native.Nat.{ℕ, _+_, _≤_}
 use native.Mathlib.Omega.{arith}
 use mathlib.Core.Path.{_≡_, refl, ap}

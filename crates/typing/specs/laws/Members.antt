@@ -1,5 +1,5 @@
--- In a table whose chains end, the look-ups along a class's chain find what the rules say: its subtypes, its methods, its fields and the meaning of names.
--- Each holds by climbing the chain.
+-- In a table whose chains end, the look-ups along a class's chain find what the rules say: its subtypes, its methods, its fields and the
+-- meaning of names. Each holds by climbing the chain.
 use Prim.Native.Nat.{ℕ}
 use mathlib.Core.Path.{_≡_, refl, sym, ap, _∙_, subst}
 use mathlib.Core.Logic.{inl, inr}

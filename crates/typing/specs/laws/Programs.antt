@@ -1,5 +1,5 @@
--- A program is accepted exactly where the rules hold of it: the whole check is the tests of the names, the parents and the chains, then those of the
--- declarations and the bodies, each of which is one part of the rules.
+-- A program is accepted exactly where the rules hold of it: the whole check is the tests of the names, the parents and the chains, then
+-- those of the declarations and the bodies, each of which is one part of the rules.
 use Prim.Native.Nat.{ℕ}
 use mathlib.Core.Path.{_≡_, refl, sym, _∙_, subst}
 use mathlib.Core.List.{List, [], _∷_, map}

@@ -1,4 +1,5 @@
--- What a run begins with: of an accepted source the tokens and the class table in the table, and its code. Running rests on this and on nothing else of checking.
+-- What a run begins with: of an accepted source the tokens and the class table in the table, and its code. Running rests on this and on
+-- nothing else of checking.
 use Prim.Native.Nat.{ℕ, suc, _≤_}
 use mathlib.Core.Path.{_≡_}
 use mathlib.Core.List.{List}

@@ -29,7 +29,8 @@ pub record NodesAt (tab : List ℕ) (ts : List Token) (row left : ℕ) {s : Sort
   pub matches : Matches ts t
   pub few : nodes t ≤ left
 
--- What a body sees. `names` has, by the number of a name, what a field of that name means, and from word 2,048 on how many fields an object of a class of that name holds.
+-- What a body sees. `names` has, by the number of a name, what a field of that name means, and from word 2,048 on how many fields an
+-- object of a class of that name holds.
 pub record Sees (tab names : List ℕ) (ts : List Token) (G : List Class) (Γ : Context) (s : Scope) : Type 0 where
   pub scope : CodeScope tab names ts G Γ s
   pub sizes : SizesHeld ts G names

@@ -1,4 +1,5 @@
--- What counting the fields of each class's objects ensures: their number stands in an array behind the words of the fields, by the number of the class's name.
+-- What counting the fields of each class's objects ensures: their number stands in an array behind the words of the fields, by the number
+-- of the class's name.
 use Prim.Native.Nat.{ℕ, _+_}
 use mathlib.Core.Path.{_≡_}
 use mathlib.Core.List.{List}

@@ -1,4 +1,5 @@
--- The cycle of calls on expressions. The measure is 5 for each node that may still come, and the rank of the function. Each return is a law of `ExpressionLaws`.
+-- The cycle of calls on expressions. The measure is 5 for each node that may still come, and the rank of the function. Each return is a
+-- law of `ExpressionLaws`.
 use Rattle.writer.proofs.ExpressionLaws.{expression-none, expression-atom, expression-compound, compound-array, compound-object, compound-length, compound-call, compound-not, compound-element, compound-and, compound-operation, operation-wrote, single-wrote, pair-wrote, conjunction-wrote, call-wrote, arguments-none, arguments-end, arguments-more}
 use Prim.Native.Nat.{ℕ, _<_}
 use borrow.Fn.Kinds.{In}

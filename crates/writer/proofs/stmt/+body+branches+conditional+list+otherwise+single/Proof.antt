@@ -1,4 +1,5 @@
--- The cycle of calls on statements. The measure is 4 for each node that may still come, and the rank of the function. Each return is a law of `StatementLaws`.
+-- The cycle of calls on statements. The measure is 4 for each node that may still come, and the rank of the function. Each return is a
+-- law of `StatementLaws`.
 use Rattle.writer.proofs.StatementLaws.{statement-none, statement-block, statement-if, statement-while, statement-print, statement-element, statement-assignment, list-none, list-end, list-more, conditional-wrote, branches-wrote, otherwise-wrote, loop-wrote, body-wrote}
 use Prim.Native.Nat.{ℕ, _<_}
 use borrow.Fn.Kinds.{In}
