@@ -4,11 +4,13 @@ use parser::columns::ABSENT;
 ghost use mathlib.Core.Path.{_≡_};
 ghost use Prim.Native.Nat.{_<_, min};
 ghost use lib.ListN.{length, getD, set};
+ghost use Rattle.base.specs.contracts.Table.{rows};
+ghost use Rattle.base.specs.Word.{modulus};
 ghost use Rattle.menu.specs.contracts.Least.{Mended, Entered, Removed};
 
 // The word in a place, 0 past the end.
 pub fn cell(words: &[u32], i: usize) -> usize
-    ensures { λ r. ⌜ (r ≡ getD (now (words .entry)) i 0) × (r < 4294967296) ⌝ }
+    ensures { λ r. ⌜ (r ≡ getD (now (words .entry)) i 0) × (r < modulus) ⌝ }
 {
     if i < words.len() {
         return words[i] as usize;
@@ -18,7 +20,7 @@ pub fn cell(words: &[u32], i: usize) -> usize
 
 // Writes a word.
 pub fn put(words: &mut [u32], i: usize, v: usize)
-    requires { ⌜ (i < length (now words)) × (v < 4294967296) ⌝ }
+    requires { ⌜ (i < length (now words)) × (v < modulus) ⌝ }
     ensures { λ _. ⌜ now (words .exit) ≡ set (now (words .entry)) i v ⌝ }
 {
     words[i] = v as u32;
@@ -36,7 +38,7 @@ fn lesser(a: usize, b: usize) -> usize
 
 // Sets node v and those above it anew.
 fn mend(tree: &mut [u32], v: usize)
-    requires { ⌜ (length (now tree) ≡ 4096) × (v < 2048) ⌝ }
+    requires { ⌜ (length (now tree) ≡ 4096) × (v < rows) ⌝ }
     ensures { λ _. ⌜ Mended v (now (tree .entry)) (now (tree .exit)) ⌝ }
 {
     if v == 0 {
@@ -48,7 +50,7 @@ fn mend(tree: &mut [u32], v: usize)
 
 // Puts a row into the set.
 pub fn enter(tree: &mut [u32], row: usize)
-    requires { ⌜ (length (now tree) ≡ 4096) × (row < 2048) ⌝ }
+    requires { ⌜ (length (now tree) ≡ 4096) × (row < rows) ⌝ }
     ensures { λ _. ⌜ Entered row (now (tree .entry)) (now (tree .exit)) ⌝ }
 {
     put(tree, ABSENT + row, row);
@@ -57,7 +59,7 @@ pub fn enter(tree: &mut [u32], row: usize)
 
 // Takes a row out of it.
 pub fn remove(tree: &mut [u32], row: usize)
-    requires { ⌜ (length (now tree) ≡ 4096) × (row < 2048) ⌝ }
+    requires { ⌜ (length (now tree) ≡ 4096) × (row < rows) ⌝ }
     ensures { λ _. ⌜ Removed row (now (tree .entry)) (now (tree .exit)) ⌝ }
 {
     put(tree, ABSENT + row, ABSENT);

@@ -11,6 +11,7 @@ use typecheck::check::find;
 ghost use mathlib.Core.Path.{_≡_};
 ghost use Prim.Native.Nat.{_≤_};
 ghost use lib.ListN.{length};
+ghost use Rattle.base.specs.Codes.{tableLeast};
 ghost use Rattle.typecheck.specs.contracts.CheckPost.{checkAnswerOf};
 ghost use Rattle.typesystem.specs.Check.{checking};
 ghost use Rattle.menu.specs.Menu.{listing, Menus};
@@ -18,7 +19,7 @@ ghost use Rattle.menu.specs.contracts.MenuPost.{listingOf, FillsStrip};
 
 // Fills the strip, where it is long enough.
 fn fill(table: &[u32], strip: &mut [u32], classes: usize) -> CheckAnswer
-    requires { ⌜ 16384 ≤ length (now table) ⌝ }
+    requires { ⌜ tableLeast ≤ length (now table) ⌝ }
     ensures { λ r. ⌜ FillsStrip (now (table .entry)) classes (now (strip .entry)) (listingOf r (now (strip .exit))) ⌝ }
 {
     if strip.len() < classes {
@@ -58,7 +59,7 @@ fn fill(table: &[u32], strip: &mut [u32], classes: usize) -> CheckAnswer
 
 // What Menu answers, and the strip; the table is left filled.
 fn answer(source: &[u8], table: &mut [u32], strip: &mut [u32]) -> CheckAnswer
-    requires { ⌜ 16384 ≤ length (now table) ⌝ }
+    requires { ⌜ tableLeast ≤ length (now table) ⌝ }
     ensures { λ r. ⌜ listingOf r (now (strip .exit)) ≡ listing (checking (now (source .entry))) (now (strip .entry)) ⌝ }
 {
     let f = find(source, table);

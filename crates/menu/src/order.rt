@@ -11,11 +11,14 @@ use parser::columns::ABSENT;
 ghost use mathlib.Core.Path.{_≡_};
 ghost use Prim.Native.Nat.{_+_, _≤_, _<_};
 ghost use lib.ListN.{length};
+ghost use Rattle.base.specs.contracts.Table.{rows};
+ghost use Rattle.base.specs.Codes.{tableLeast};
+ghost use Rattle.base.specs.Word.{modulus};
 ghost use Rattle.menu.specs.contracts.MenuPost.{ChildJoined, Gathered, Freed, Written};
 
 // A class joins its parent's children, before the others.
 fn link(first: &mut [u32], next: &mut [u32], parent: usize, row: usize)
-    requires { ⌜ (parent < length (now first)) × (row < length (now next)) × (row < 4294967296) ⌝ }
+    requires { ⌜ (parent < length (now first)) × (row < length (now next)) × (row < modulus) ⌝ }
     ensures { λ _. ⌜ ChildJoined parent row (now (first .entry)) (now (next .entry)) (now (first .exit)) (now (next .exit)) ⌝ }
 {
     put(next, row, cell(first, parent));
@@ -31,7 +34,8 @@ pub fn gather(
     left: usize,
     row: usize,
 )
-    requires { ⌜ (16384 ≤ length (now table)) × (length (now tree) ≡ 4096) × (length (now first) ≡ 2048) × (length (now next) ≡ 2048) ⌝ }
+    requires { ⌜ (tableLeast ≤ length (now table)) × (length (now tree) ≡ 4096) × (length (now first) ≡ rows)
+        × (length (now next) ≡ rows) ⌝ }
     ensures { λ _. ⌜ Gathered (now (table .entry)) left row (now (tree .entry)) (now (first .entry)) (now (tree .exit))
         (now (first .exit)) (now (next .exit)) ⌝ }
 {
@@ -86,7 +90,7 @@ pub fn write(
     i: usize,
     left: usize,
 ) -> usize
-    requires { ⌜ (16384 ≤ length (now table)) × (length (now tree) ≡ 4096) × (i + left ≤ length (now strip)) ⌝ }
+    requires { ⌜ (tableLeast ≤ length (now table)) × (length (now tree) ≡ 4096) × (i + left ≤ length (now strip)) ⌝ }
     ensures { λ r. ⌜ Written (now (table .entry)) (now (tree .entry)) (now (first .entry)) (now (next .entry)) i left (now (strip .entry))
         (now (strip .exit)) r ⌝ }
 {

@@ -11,6 +11,9 @@ use writer::prepare::prepare;
 ghost use Prim.Native.Nat.{_≤_, _<_};
 ghost use mathlib.Core.Path.{_≡_};
 ghost use lib.ListN.{length};
+ghost use Rattle.base.specs.Word.{modulus};
+ghost use Rattle.base.specs.contracts.Table.{rows};
+ghost use Rattle.base.specs.Codes.{callsMost, heapMost, tableLeast};
 ghost use Rattle.reader.specs.contracts.WalkPost.{Walkable};
 ghost use Rattle.semantics.specs.Run.{Runs, refusal};
 ghost use Rattle.runner.specs.contracts.RunPost.{runAnswerOf, strips, LeftByCheck, CompletesInRoom, Completes, Performed};
@@ -50,8 +53,8 @@ fn compiled(
     heap: &mut [i32],
     output: &mut [i32],
 ) -> RunAnswer
-    requires { ⌜ Walkable (now table) (s .tokens) × (s .classes ≤ 2048) × (length (now heap) ≤ 16384) × (b .budget < 4294967296)
-        × (b .calls ≤ 64) × (length (now fast) ≤ 8192) × (length (now values) ≤ 200000) ⌝ }
+    requires { ⌜ Walkable (now table) (s .tokens) × (s .classes ≤ rows) × (length (now heap) ≤ heapMost) × (b .budget < modulus)
+        × (b .calls ≤ callsMost) × (length (now fast) ≤ 8192) × (length (now values) ≤ 200000) ⌝ }
     ensures { λ r. ⌜ CompletesInRoom (now (table .entry)) (now (code .entry)) (now (fast .entry)) (now (values .entry)) s b
         (now (heap .entry)) (now (output .entry)) (runAnswerOf r) (now (output .exit)) ⌝ }
 {
@@ -72,8 +75,8 @@ const SMALL: usize = 125;
 
 // A small lesson, in room that is enough for one: what is cleared for a run depends on the lesson.
 fn small(table: &[u32], s: Sizes, b: Bounds, heap: &mut [i32], output: &mut [i32]) -> RunAnswer
-    requires { ⌜ Walkable (now table) (s .tokens) × (s .classes ≤ 2048) × (length (now heap) ≤ 16384) × (b .budget < 4294967296)
-        × (b .calls ≤ 64) × (s .tokens ≤ 125) ⌝ }
+    requires { ⌜ Walkable (now table) (s .tokens) × (s .classes ≤ rows) × (length (now heap) ≤ heapMost) × (b .budget < modulus)
+        × (b .calls ≤ callsMost) × (s .tokens ≤ 125) ⌝ }
     ensures { λ r. ⌜ Completes (now (table .entry)) s b (now (heap .entry)) (now (output .entry)) (runAnswerOf r) (now (output .exit)) ⌝ }
 {
     let mut code = [0u32; 2048];
@@ -84,8 +87,8 @@ fn small(table: &[u32], s: Sizes, b: Bounds, heap: &mut [i32], output: &mut [i32
 
 // Any lesson.
 fn wide(table: &[u32], s: Sizes, b: Bounds, heap: &mut [i32], output: &mut [i32]) -> RunAnswer
-    requires { ⌜ Walkable (now table) (s .tokens) × (s .classes ≤ 2048) × (length (now heap) ≤ 16384) × (b .budget < 4294967296)
-        × (b .calls ≤ 64) ⌝ }
+    requires { ⌜ Walkable (now table) (s .tokens) × (s .classes ≤ rows) × (length (now heap) ≤ heapMost) × (b .budget < modulus)
+        × (b .calls ≤ callsMost) ⌝ }
     ensures { λ r. ⌜ Completes (now (table .entry)) s b (now (heap .entry)) (now (output .entry)) (runAnswerOf r) (now (output .exit)) ⌝ }
 {
     let mut code = [0u32; 32768];
@@ -96,8 +99,8 @@ fn wide(table: &[u32], s: Sizes, b: Bounds, heap: &mut [i32], output: &mut [i32]
 
 // Runs the accepted lesson that the table holds.
 fn accepted(table: &[u32], s: Sizes, b: Bounds, heap: &mut [i32], output: &mut [i32]) -> RunAnswer
-    requires { ⌜ Walkable (now table) (s .tokens) × (s .classes ≤ 2048) × (length (now heap) ≤ 16384) × (b .budget < 4294967296)
-        × (b .calls ≤ 64) ⌝ }
+    requires { ⌜ Walkable (now table) (s .tokens) × (s .classes ≤ rows) × (length (now heap) ≤ heapMost) × (b .budget < modulus)
+        × (b .calls ≤ callsMost) ⌝ }
     ensures { λ r. ⌜ Completes (now (table .entry)) s b (now (heap .entry)) (now (output .entry)) (runAnswerOf r) (now (output .exit)) ⌝ }
 {
     if s.tokens <= SMALL {
@@ -117,7 +120,7 @@ fn perform(
     output: &mut [i32],
     s: Sizes,
 ) -> RunAnswer
-    requires { ⌜ (16384 ≤ length (now table)) × (length (now heap) ≤ 16384) × (b .budget < 4294967296) × (b .calls ≤ 64)
+    requires { ⌜ (tableLeast ≤ length (now table)) × (length (now heap) ≤ heapMost) × (b .budget < modulus) × (b .calls ≤ callsMost)
         × LeftByCheck (now source) s (now table) ⌝ }
     ensures { λ r. ⌜ Performed (now (source .entry)) s b (now (table .entry)) (now (heap .entry)) (now (output .entry)) (runAnswerOf r)
         (now (table .exit)) (now (heap .exit)) (now (output .exit)) ⌝ }

@@ -6,6 +6,7 @@ use parser::columns;
 use parser::columns::ABSENT;
 ghost use Prim.Native.Nat.{_≤_};
 ghost use lib.ListN.{length};
+ghost use Rattle.base.specs.contracts.Table.{rows};
 ghost use Rattle.reader.specs.contracts.WalkPost.{Walkable};
 ghost use Rattle.writer.specs.contracts.Classes.{ClassPost, ClassesPost};
 
@@ -20,7 +21,7 @@ fn of_class(
     row: usize,
     at: usize,
 ) -> usize
-    requires { ⌜ Walkable (now table) n × (6144 ≤ length (now names)) × (2048 ≤ length (now entries)) × (classes ≤ 2048) × (at ≤ 8192) ⌝ }
+    requires { ⌜ Walkable (now table) n × (6144 ≤ length (now names)) × (rows ≤ length (now entries)) × (classes ≤ rows) × (at ≤ 8192) ⌝ }
     ensures { λ r. ⌜ ClassPost (now (table .entry)) n classes row at (now (names .entry)) (now (names .exit)) (now (code .entry))
         (now (code .exit)) (now (entries .entry)) (now (entries .exit)) r ⌝ }
 {
@@ -44,7 +45,7 @@ pub fn each(
     row: usize,
     at: usize,
 )
-    requires { ⌜ Walkable (now table) n × (6144 ≤ length (now names)) × (2048 ≤ length (now entries)) × (classes ≤ 2048) × (at ≤ 8192) ⌝ }
+    requires { ⌜ Walkable (now table) n × (6144 ≤ length (now names)) × (rows ≤ length (now entries)) × (classes ≤ rows) × (at ≤ 8192) ⌝ }
     ensures { λ _. ⌜ ClassesPost (now (table .entry)) n classes left row at (now (names .entry)) (now (code .entry)) (now (code .exit))
         (now (entries .entry)) (now (entries .exit)) ⌝ }
 {

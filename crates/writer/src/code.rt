@@ -2,6 +2,7 @@
 ghost use Prim.Native.Nat.{_≤_, _<_};
 ghost use mathlib.Core.Path.{_≡_};
 ghost use lib.ListN.{set};
+ghost use Rattle.base.specs.Word.{modulus};
 ghost use Rattle.writer.specs.contracts.Posts.{PutPost, NextPost};
 
 // How many instructions there is room for.
@@ -9,7 +10,7 @@ pub const ROOM: usize = 8192;
 
 // One word, where the array reaches.
 fn put_word(code: &mut [u32], at: usize, word: usize)
-    requires { ⌜ word < 4294967296 ⌝ }
+    requires { ⌜ word < modulus ⌝ }
     ensures { λ _. ⌜ now (code .exit) ≡ set (now (code .entry)) at word ⌝ }
 {
     if at < code.len() {
@@ -19,7 +20,7 @@ fn put_word(code: &mut [u32], at: usize, word: usize)
 
 // One instruction; the answer is the place behind it.
 pub fn put(code: &mut [u32], at: usize, op: usize, a: usize, b: usize, c: usize) -> usize
-    requires { ⌜ (at ≤ 8192) × (op < 4294967296) × (a < 4294967296) × (b < 4294967296) × (c < 4294967296) ⌝ }
+    requires { ⌜ (at ≤ 8192) × (op < modulus) × (a < modulus) × (b < modulus) × (c < modulus) ⌝ }
     ensures { λ r. ⌜ PutPost at op a b c (now (code .entry)) (now (code .exit)) r ⌝ }
 {
     if at < ROOM {

@@ -12,13 +12,16 @@ use parser::kinds::is_atom;
 use parser::table::kind;
 ghost use Prim.Native.Nat.{_≤_, _<_};
 ghost use lib.ListN.{length};
+ghost use Rattle.base.specs.Word.{modulus};
+ghost use Rattle.base.specs.contracts.Table.{rows};
+ghost use Rattle.base.specs.Codes.{tableLeast};
 ghost use Rattle.parser.specs.Tree.{Sort};
 ghost use Rattle.writer.specs.contracts.Shows.{Form, formAtom, formCompound};
 ghost use Rattle.writer.specs.contracts.Posts.{Writable, CountPost, WritePost, ExpressionPost, SinglePost, PairPost};
 
 // How many arguments a list has, of which at most `left` may come.
 pub fn count(table: &[u32], left: usize, row: usize) -> usize
-    requires { ⌜ (16384 ≤ length (now table)) × (left ≤ 2048) ⌝ }
+    requires { ⌜ (tableLeast ≤ length (now table)) × (left ≤ rows) ⌝ }
     ensures { λ r. ⌜ CountPost (now (table .entry)) left row r ⌝ }
 {
     if left == 0 {
@@ -247,7 +250,7 @@ pub fn unary(
     row: usize,
     at: usize,
 ) -> usize
-    requires { ⌜ Writable (now table) (now names) (now code) (s .tokens) left row at × (op < 4294967296) × (arg < 4294967296) ⌝ }
+    requires { ⌜ Writable (now table) (now names) (now code) (s .tokens) left row at × (op < modulus) × (arg < modulus) ⌝ }
     ensures { λ r. ⌜ SinglePost (now (table .entry)) (now (names .entry)) s op arg left row at (now (code .entry)) (now (code .exit)) r ⌝ }
 {
     let a = expression(
@@ -274,7 +277,7 @@ pub fn pair(
     row: usize,
     at: usize,
 ) -> usize
-    requires { ⌜ Writable (now table) (now names) (now code) (s .tokens) left row at × (op < 4294967296) × (arg < 4294967296) ⌝ }
+    requires { ⌜ Writable (now table) (now names) (now code) (s .tokens) left row at × (op < modulus) × (arg < modulus) ⌝ }
     ensures { λ r. ⌜ PairPost (now (table .entry)) (now (names .entry)) s op arg left row at (now (code .entry)) (now (code .exit)) r ⌝ }
 {
     let a = expression(

@@ -10,12 +10,13 @@ use parser::columns::ABSENT;
 ghost use mathlib.Core.Path.{_≡_};
 ghost use Prim.Native.Nat.{_≤_, _<_};
 ghost use lib.ListN.{length, set};
+ghost use Rattle.base.specs.contracts.Table.{rows};
 ghost use Rattle.reader.specs.contracts.WalkPost.{Walkable};
 ghost use Rattle.writer.specs.contracts.Methods.{MethodPost, MethodsPost};
 
 // The method whose name stands in this row.
 fn method(table: &[u32], names: &[u32], code: &mut [u32], n: usize, row: usize, at: usize) -> usize
-    requires { ⌜ Walkable (now table) n × (6144 ≤ length (now names)) × (at ≤ 8192) × (row < 2048) ⌝ }
+    requires { ⌜ Walkable (now table) n × (6144 ≤ length (now names)) × (at ≤ 8192) × (row < rows) ⌝ }
     ensures { λ r. ⌜ MethodPost (now (table .entry)) (now (names .entry)) n row at (now (code .entry)) (now (code .exit)) r ⌝ }
 {
     let parameters = word(table, columns::PARAMETERS, row);
@@ -48,7 +49,7 @@ fn method(table: &[u32], names: &[u32], code: &mut [u32], n: usize, row: usize, 
 
 // A method's code begins here.
 fn enter(entries: &mut [u32], row: usize, at: usize)
-    requires { ⌜ (2048 ≤ length (now entries)) × (row < 2048) × (at ≤ 8192) ⌝ }
+    requires { ⌜ (rows ≤ length (now entries)) × (row < rows) × (at ≤ 8192) ⌝ }
     ensures { λ _. ⌜ now (entries .exit) ≡ set (now (entries .entry)) row at ⌝ }
 {
     entries[row] = at as u32;
@@ -65,7 +66,7 @@ pub fn methods(
     row: usize,
     at: usize,
 ) -> usize
-    requires { ⌜ Walkable (now table) n × (6144 ≤ length (now names)) × (2048 ≤ length (now entries)) × (at ≤ 8192) ⌝ }
+    requires { ⌜ Walkable (now table) n × (6144 ≤ length (now names)) × (rows ≤ length (now entries)) × (at ≤ 8192) ⌝ }
     ensures { λ r. ⌜ MethodsPost (now (table .entry)) (now (names .entry)) n left row at (now (code .entry)) (now (code .exit))
         (now (entries .entry)) (now (entries .exit)) r ⌝ }
 {

@@ -12,12 +12,13 @@ use parser::columns;
 use parser::columns::ABSENT;
 ghost use Prim.Native.Nat.{_≤_};
 ghost use lib.ListN.{length};
+ghost use Rattle.base.specs.contracts.Table.{rows};
 ghost use Rattle.reader.specs.contracts.WalkPost.{Walkable};
 ghost use Rattle.writer.specs.contracts.Writing.{BeginPost, MainPost, Writes};
 
 // What main sees: no fields, and how many fields the objects of each class hold, where the classes begin in a row.
 fn begin(table: &[u32], names: &mut [u32], n: usize, classes: usize, first: usize)
-    requires { ⌜ Walkable (now table) n × (6144 ≤ length (now names)) × (classes ≤ 2048) ⌝ }
+    requires { ⌜ Walkable (now table) n × (6144 ≤ length (now names)) × (classes ≤ rows) ⌝ }
     ensures { λ _. ⌜ BeginPost (now (table .entry)) n classes first (now (names .exit)) ⌝ }
 {
     zero_words(names);
@@ -49,7 +50,7 @@ pub fn write(
     n: usize,
     classes: usize,
 )
-    requires { ⌜ Walkable (now table) n × (6144 ≤ length (now names)) × (2048 ≤ length (now entries)) × (classes ≤ 2048) ⌝ }
+    requires { ⌜ Walkable (now table) n × (6144 ≤ length (now names)) × (rows ≤ length (now entries)) × (classes ≤ rows) ⌝ }
     ensures { λ _. ⌜ Writes (now (table .entry)) n classes (now (code .entry)) (now (code .exit)) (now (entries .entry))
         (now (entries .exit)) ⌝ }
 {

@@ -5,12 +5,13 @@ use parser::columns;
 use parser::columns::ABSENT;
 ghost use Prim.Native.Nat.{_≤_};
 ghost use lib.ListN.{length};
+ghost use Rattle.base.specs.contracts.Table.{rows};
 ghost use Rattle.reader.specs.contracts.WalkPost.{Walkable};
 ghost use Rattle.writer.specs.contracts.Sizing.{SizePost, SizesPost};
 
 // Those of the class whose name has the number x.
 fn size(table: &[u32], names: &mut [u32], n: usize, classes: usize, x: usize)
-    requires { ⌜ Walkable (now table) n × (6144 ≤ length (now names)) × (classes ≤ 2048) ⌝ }
+    requires { ⌜ Walkable (now table) n × (6144 ≤ length (now names)) × (classes ≤ rows) ⌝ }
     ensures { λ _. ⌜ SizePost (now (table .entry)) n classes x (now (names .entry)) (now (names .exit)) ⌝ }
 {
     if x < ABSENT {
@@ -20,7 +21,7 @@ fn size(table: &[u32], names: &mut [u32], n: usize, classes: usize, x: usize)
 
 // Those of the classes from a row on, of which at most `left` may come.
 pub fn sizes(table: &[u32], names: &mut [u32], n: usize, classes: usize, left: usize, row: usize)
-    requires { ⌜ Walkable (now table) n × (6144 ≤ length (now names)) × (classes ≤ 2048) ⌝ }
+    requires { ⌜ Walkable (now table) n × (6144 ≤ length (now names)) × (classes ≤ rows) ⌝ }
     ensures { λ _. ⌜ SizesPost (now (table .entry)) n classes left row (now (names .entry)) (now (names .exit)) ⌝ }
 {
     if left == 0 {
