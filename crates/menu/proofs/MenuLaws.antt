@@ -18,12 +18,9 @@ use Rattle.lexer.specs.Tokens.{Token}
 use Rattle.parser.specs.Tree.{Class, Program}
 use Rattle.parser.specs.Grammar.{DerivesClass, DerivesClass.a-class-declaration, DerivesClasses, DerivesClasses.no-class, DerivesClasses.more-classes}
 use Rattle.parser.specs.Grammar.{DerivesProgram, DerivesProgram.a-program}
-use Rattle.parser.specs.Read.{reading, tableAfter}
+use Rattle.parser.specs.Read.{tableAfter}
 use Rattle.typesystem.specs.ClassTable.{among}
-use Rattle.typesystem.specs.Check.{judged, checking}
-use Rattle.typesystem.specs.TypingRules.{ProgramTyped}
-use Rattle.typing.specs.laws.Choices.{bound}
-use Rattle.typing.specs.laws.Agreement.{program-agrees}
+use Rattle.typesystem.specs.Check.{checking}
 use Rattle.parser.specs.contracts.Layout.{absent}
 use Rattle.lookup.specs.contracts.HeldClasses.{wordAt}
 use Rattle.lookup.specs.laws.HeldLaws.{word-in}

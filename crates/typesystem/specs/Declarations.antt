@@ -6,7 +6,6 @@ use mathlib.Core.Option.{Option, none, some}
 use lib.ListN.{length, drop}
 use lib.Dec.{ltb}
 use Rattle.base.specs.Choice.{if_then_else_, option}
-use Rattle.base.specs.Bytes.{same}
 use Rattle.base.specs.Outcome.{Outcome, accepted, refused, _>>=_}
 use Rattle.base.specs.Codes.{classRepeated, parentUnknown, chainEndless, fieldRepeated, typeUnknown, methodRepeated, badRedeclaration}
 use Rattle.base.specs.Codes.{variableRepeated, tooManyVariables, variablesMost}

@@ -1,11 +1,8 @@
 -- What `prepare` returns meets its contract: what `find` leaves is what the writer asks for.
 use Prim.Native.Nat.{ℕ}
-use mathlib.Core.Path.{_≡_, sym, subst}
+use mathlib.Core.Path.{_≡_, subst}
 use mathlib.Core.List.{List}
 use lib.ListN.{length}
-use Rattle.parser.specs.Tree.{Program}
-use Rattle.typecheck.specs.declared.check.Finding.{Finding}
-use Rattle.typecheck.specs.declared.check.Finding.the-variants.{Program as found}
 use Rattle.writer.specs.laws.Room.{compile-fits}
 use Rattle.writer.specs.contracts.Writing.{Writes}
 use Rattle.writer.specs.contracts.Preparing.{Prepares}

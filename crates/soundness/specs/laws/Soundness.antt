@@ -13,7 +13,7 @@ use borrow.Author.Tests.{ltb-true}
 use Rattle.base.specs.All.{All}
 use Rattle.base.specs.laws.Lists.{All2, all2-nil, all2-cons, all2-append, all2-map, all2-at, all2-set, RelatedAt, get-map}
 use Rattle.base.specs.laws.WordLaws.{add-below, sub-below, mul-below}
-use Rattle.parser.specs.Tree.{Place, Operator, Operator.and, Operator.less, Operator.plus, Operator.minus, Operator.times, Part, Expression, Statement, Ty, Ty.int, Ty.boolean, Ty.intArray, Ty.class, Variable, Method, Class, Program}
+use Rattle.parser.specs.Tree.{Place, Operator, Operator.and, Part, Expression, Statement, Ty, Ty.int, Ty.boolean, Ty.intArray, Ty.class, Variable, Method, Class, Program}
 use Rattle.parser.specs.Tree.{Sort.arguments}
 use Rattle.typesystem.specs.ClassTable.{Slot, Found, Context, meaning, meaningType, classNamed, variableNamed, fieldsOf}
 use Rattle.typesystem.specs.Judge.{arity}
@@ -29,7 +29,7 @@ use Rattle.typing.specs.laws.Operations.{Operates, conjoins, compares, adds, su
 use Rattle.semantics.specs.Machine.{Value, Value.objectAt, Cell, Cell.slot, Call, Call.frame, Core, initial}
 use Rattle.semantics.specs.Machine.{Request, Request.charge, Request.allocate, Request.enter, Request.output, Request.move, Request.fault, Request.done, Request.stuck}
 use Rattle.semantics.specs.Machine.{Task, Task.operate, Task.fetch, Task.measure, Task.makeArray, Task.makeObject, Task.storeElement, Task.leave}
-use Rattle.semantics.specs.Machine.{need, require, ofKind, ofKinds, pop, popMany, innermost, asSlot, asObjectCell, asArrayCell, inArray, readMeaning, readName, writeMeaning, writeName, isAnd, apply, begin, beginStatement, second, callMethod, nextArgument, nextStatement, nextOfBody, newArrayOf, newObjectOf, opened, go, plan, start}
+use Rattle.semantics.specs.Machine.{need, require, ofKind, ofKinds, pop, popMany, innermost, asSlot, asObjectCell, asArrayCell, inArray, readMeaning, readName, writeMeaning, writeName, isAnd, begin, beginStatement, second, callMethod, nextArgument, nextStatement, nextOfBody, newArrayOf, newObjectOf, opened, go, plan, start}
 use Rattle.semantics.specs.Limits.{Limits, Meters, begun, Ending, ended, wentWrong, unfinished, Progress, next, stop, guard, sizeOf, runWith, run}
 use Rattle.soundness.specs.Results.{by-null, by-index, by-size, Finish, by-success, by-fault, ByLimit, by-budget, by-heap, by-calls, by-output, EndsWell}
 use Rattle.soundness.specs.laws.ResultLaws.{Over}

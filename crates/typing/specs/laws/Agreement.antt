@@ -2,53 +2,26 @@
 -- rules give it, and a program is accepted exactly where the rules hold of it. What the table must satisfy is that its chains end,
 -- `Acyclic`; a program that is accepted or typed has such a table.
 use Prim.Native.Nat.{ℕ}
-use mathlib.Core.Path.{_≡_, refl, sym, ap, _∙_, subst}
+use mathlib.Core.Path.{_≡_, sym, ap, _∙_, subst}
 use mathlib.Core.Logic.{_↔_}
 use mathlib.Core.List.{List, [], _∷_, map}
-use mathlib.Core.Bool.{true, false}
+use mathlib.Core.Bool.{true}
 use mathlib.Core.Option.{some, Option·map, map-eq-some-iff}
 use lib.ListN.{length}
-use Rattle.base.specs.Bytes.{same}
 use Rattle.base.specs.Codes.{chainEndless}
 use Rattle.base.specs.All.{All, FirstNot}
 use Rattle.base.specs.Outcome.{accepted, refused}
 use Rattle.parser.specs.Tree.{Sort.arguments, Sort.statements, Part, Expression, Statement, Ty, Variable, Class, Program}
-use Rattle.typesystem.specs.ClassTable.{Found, Context, classNamed, endsWithin, sameType, fits, methodOf, meaning, meaningType}
+use Rattle.typesystem.specs.ClassTable.{Found, Context, fits, methodOf, meaning, meaningType}
 use Rattle.typesystem.specs.Judge.{arity, judge}
-use Rattle.typesystem.specs.Declarations.{distinctClasses, knownParents, endingChains}
+use Rattle.typesystem.specs.Declarations.{endingChains}
 use Rattle.typesystem.specs.Check.{judged}
-use Rattle.typesystem.specs.TypingRules.{Extends, Sub, Ends, HasMethod, HasName, HasType, HaveTypes, IsTyped, AreTyped, Distinct, ProgramTyped, className, ParentKnown, ChainEnds}
-use Rattle.base.specs.laws.Tests.{same-equal, same-of, same-apart, apart-same}
-use Rattle.typing.specs.laws.Tests.{sameType-equal, sameType-of, sameType-apart, apart-sameType}
-use Rattle.typing.specs.laws.Chains.{Acyclic, ends-within, within-ends}
+use Rattle.typesystem.specs.TypingRules.{Sub, HasMethod, HasName, HasType, HaveTypes, IsTyped, AreTyped, Distinct, ProgramTyped, className, ParentKnown, ChainEnds}
+use Rattle.typing.specs.laws.Chains.{Acyclic}
 use Rattle.typing.specs.laws.Members.{fits-sub, sub-fits, methodOf-has, has-methodOf, meaning-has, has-meaning}
 use Rattle.typing.specs.laws.Judging.{sound, complete, completes, many, complete-statement, complete-statements}
-use Rattle.typing.specs.laws.Distinctness.{distinct-rest}
-use Rattle.typing.specs.laws.Programs.{class-found, names-sound, names-complete, parents-sound, parents-complete}
-use Rattle.typing.specs.laws.Programs.{acyclic, chains-sound, endless-sound, endless-complete, table-acyclic, judged-sound, judged-complete}
-
--- TESTS
-
--- `same` holds of equal byte strings.
-pub same-agrees : (x y : List ℕ) → (same x y ≡ true) ↔ (x ≡ y)
-same-agrees x y = (same-equal x y, same-of)
-
--- It fails of different ones.
-pub same-differs : (x y : List ℕ) → (same x y ≡ false) ↔ ¬ (x ≡ y)
-same-differs x y = (same-apart x y, apart-same x y)
-
--- `sameType` holds of equal types.
-pub sameType-agrees : (s t : Ty) → (sameType s t ≡ true) ↔ (s ≡ t)
-sameType-agrees s t = (sameType-equal s t, sameType-of)
-
--- It fails of different ones.
-pub sameType-differs : (s t : Ty) → (sameType s t ≡ false) ↔ ¬ (s ≡ t)
-sameType-differs s t = (sameType-apart s t, apart-sameType s t)
-
--- Where the parents of classes are classes, a class's chain ends exactly if it ends within as many classes as the table has.
-pub ends-agrees : {G : List Class} → ((c d : List ℕ) → Extends G c d → (k : Class) × (classNamed G d ≡ some k))
-    → (c : List ℕ) {k : Class} → classNamed G c ≡ some k → (endsWithin (length G) G c ≡ true) ↔ Ends G c
-ends-agrees {G} parents c e = (within-ends parents (length G) c e, ends-within)
+use Rattle.typing.specs.laws.Programs.{class-found}
+use Rattle.typing.specs.laws.Programs.{endless-sound, endless-complete, table-acyclic, judged-sound, judged-complete}
 
 module _ {G : List Class} (A : Acyclic G) where
   -- A type fits another exactly if it is a subtype of it.
@@ -94,11 +67,6 @@ module _ {G : List Class} (A : Acyclic G) where
 -- The chains of a typed program's table end.
 pub program-acyclic : {p : Program} → ProgramTyped p → Acyclic (p .classes)
 program-acyclic t = table-acyclic (t .classes)
-
--- So do those of a table that passes the check's first three tests.
-pub tested-acyclic : (main : List ℕ) (G : List Class) → distinctClasses (main ∷ []) G ≡ accepted tt → knownParents G G ≡ accepted tt
-    → endingChains G G ≡ accepted tt → Acyclic G
-tested-acyclic main G n o e = acyclic G (chains-sound G (parents-sound G G o) (class-found G (distinct-rest (names-sound main G n))) e)
 
 -- Where the names are distinct and the parents known, the test of the chains refuses exactly if some class's chain does not end: with 22,
 -- at the first such class of the table.

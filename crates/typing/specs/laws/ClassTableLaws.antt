@@ -9,7 +9,7 @@ use mathlib.Core.Option.{Option, none, some}
 use Rattle.base.specs.All.{All, all-nil}
 use Rattle.base.specs.laws.Lists.{all-at, all-append}
 use Rattle.parser.specs.Tree.{Operator, Expression, Ty, Ty.class, Variable, Method, Class}
-use Rattle.typesystem.specs.ClassTable.{Slot, Found, Context, mainContext, contextOf, classNamed, methodNamed, chain, known, layout, fieldsOf}
+use Rattle.typesystem.specs.ClassTable.{Slot, Found, Context, contextOf, classNamed, methodNamed, chain, known, layout, fieldsOf}
 use Rattle.typesystem.specs.TypingRules.{Extends, extends, sub-same, sub-trans, HasMethod, own-method, inherited-method, HasField, own-field, inherited-field, HasName, of-variable, of-field, HasType, Known, Redeclares, MethodTyped, ClassTyped, methodName, className}
 use Rattle.typesystem.specs.TypingRules.{t-literal, t-truth, t-variable, t-this, t-new-array, t-new-object, t-negation, t-binary, t-element, t-length, t-call}
 use Rattle.typing.specs.laws.Operations.{Operates, conjoins, compares, adds, subtracts, multiplies, operates}

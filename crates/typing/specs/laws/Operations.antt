@@ -1,7 +1,6 @@
 -- What the table of operators says, line by line: the left operand has the type that the line names, and the result the type beside it.
-use mathlib.Core.Path.{_≡_, refl, sym, subst}
+use mathlib.Core.Path.{_≡_, refl, subst}
 use mathlib.Core.List.{[], _∷_}
-use mathlib.Core.Bool.{Bool, true, false}
 use mathlib.Core.Option.{none, some, Option·some-injective}
 use Rattle.base.specs.Choice.{if_then_else_}
 use Rattle.parser.specs.Tree.{Operator, Operator.and, Operator.less, Operator.plus, Operator.minus, Operator.times, Ty, Ty.int, Ty.boolean}
