@@ -3,3 +3,4 @@ pub mod HeldClasses
 pub mod Lookups
 pub mod Fields
 pub mod Answers
+pub mod Shows

@@ -2,3 +2,4 @@
 pub mod HeldLaws
 pub mod ChainLaws
 pub mod VariableLaws
+pub mod ShowLaws

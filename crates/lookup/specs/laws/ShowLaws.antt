@@ -1,0 +1,328 @@
+-- What the rows show of the parts that lie in them: a node matches its token, so the kinds in the table tell its form, and its columns
+-- lead to its parts. The laws are over what the bound of a whole gives for its parts.
+use Prim.Native.Nat.{ℕ, _+_, _≤_, _<_}
+use native.Mathlib.Omega.{arith}
+use mathlib.Core.Path.{_≡_, refl, sym, ap, _∙_, subst}
+use mathlib.Core.List.{List}
+use mathlib.Core.Bool.{true, false}
+use lib.ListN.{length}
+use borrow.Author.Tests.{ne-eqb}
+use Rattle.base.specs.laws.Lists.{get-getD}
+use Rattle.base.specs.contracts.Table.{col}
+use Rattle.lexer.specs.Kinds.{isName, kLiteral}
+use Rattle.lexer.specs.Tokens.{Token, decimal}
+use Rattle.parser.specs.Tree.{Place, Name, Operator, Operator.and, Operator.less, Operator.plus, Operator.minus, Operator.times}
+use Rattle.parser.specs.Tree.{Sort, Sort.expression, Sort.arguments, Sort.statement, Sort.statements, Part, Expression, Statement, placeE}
+use Rattle.parser.specs.Tree.{Part.literal, Part.truth, Part.variable, Part.this, Part.newArray, Part.newObject, Part.negation, Part.binary}
+use Rattle.parser.specs.Tree.{Part.element, Part.arrayLength, Part.call, Part.noArguments, Part.argument}
+use Rattle.parser.specs.Tree.{Part.block, Part.conditional, Part.loop, Part.print, Part.assign, Part.assignElement}
+use Rattle.parser.specs.Tree.{Part.noStatements, Part.sequence}
+use Rattle.parser.specs.contracts.Layout.{absent, rowOf}
+use Rattle.parser.specs.Stream.{noMore, tokenAt, kindAt, startAt}
+use Rattle.parser.specs.contracts.Post.{kindInTable, isAtom}
+use Rattle.reader.specs.contracts.Holds.{Holds}
+use Rattle.reader.specs.contracts.Matches.{TokenIs, NameIs, NameMatches, Matches, operatorKind}
+use Rattle.lookup.specs.contracts.HeldClasses.{wordAt, Lexemes, NameNumber}
+use Rattle.lookup.specs.laws.HeldLaws.{word-in, name-kind, kinds, start-word, name-word, row-there}
+use Rattle.lookup.specs.contracts.Shows.{PartAt, Bound, Form, aVariable, aNewObject, aBinary, aCall, anAssignment, anElementStore}
+use Rattle.lookup.specs.contracts.Shows.{formAtom, formCompound, formE, formS}
+use Rattle.lookup.specs.contracts.Shows.{Shows, shows-literal, shows-truth, shows-variable, shows-this, shows-new-array}
+use Rattle.lookup.specs.contracts.Shows.{shows-new-object, shows-negation, shows-binary, shows-element, shows-length, shows-call}
+use Rattle.lookup.specs.contracts.Shows.{ShowsS, shows-block, shows-conditional, shows-loop, shows-print, shows-assignment}
+use Rattle.lookup.specs.contracts.Shows.{shows-element-store, GoesOn, one-more-argument, GoesOnS, one-more-statement}
+
+-- the token of a node is there
+pub there : (ts : List Token) (e : Expression) → Matches ts e → rowOf e < length ts
+unfolding Matches
+there ts (literal p n) m = m .0 .there
+there ts (truth p b) m = m .there
+there ts (variable p x) m = m .there
+there ts (this p) m = m .there
+there ts (newArray p e) m = m .0 .there
+there ts (newObject p c) m = m .0 .there
+there ts (negation p e) m = m .0 .there
+there ts (binary p o l r) m = m .0 .there
+there ts (element p a i) m = m .0 .there
+there ts (arrayLength p a) m = m .0 .there
+there ts (call p e n es) m = m .0 .there
+
+pub there-statement : (ts : List Token) (t : Statement) → Matches ts t → rowOf t < length ts
+unfolding Matches
+there-statement ts (block p ss) m = m .0 .there
+there-statement ts (conditional p e s t) m = m .0 .there
+there-statement ts (loop p e s) m = m .0 .there
+there-statement ts (print p e) m = m .0 .there
+there-statement ts (assign p x e) m = m .0 .there
+there-statement ts (assignElement p x i e) m = m .0 .there
+
+-- what stands in a row
+module _ {tab : List ℕ} {n : ℕ} {ts : List Token} (lx : Lexemes tab n ts) {row r : ℕ} (at : r ≡ row) (low : r < length ts) where
+  word : (k : ℕ) {v : ℕ} → col tab k r ≡ v → wordAt tab k row ≡ v
+  word k e = ap (wordAt tab k) (sym at) ∙ word-in tab k r (row-there lx r low) e
+
+  kind-of : {k : ℕ} → kindAt ts r ≡ k → kindInTable tab n row ≡ k
+  kind-of e = kinds lx row ∙ ap (kindAt ts) (sym at) ∙ e
+
+  kind-after : {k : ℕ} → kindAt ts (r + 1) ≡ k → kindInTable tab n (row + 1) ≡ k
+  kind-after e = kinds lx (row + 1) ∙ ap (λ (j : ℕ). kindAt ts (j + 1)) (sym at) ∙ e
+
+  part : (k : ℕ) {s : Sort} {Within : Part s → Type 0} {t : Part s} → col tab k r ≡ rowOf t → Holds tab t → Matches ts t → Within t
+      → PartAt tab ts (wordAt tab k row) Within t
+  part k e h m w = record { at = sym (word k e); holds = h; matches = m; within = w }
+
+  spelt : {x : List ℕ} → NameIs ts r x → NameNumber ts x (wordAt tab 2 row)
+  spelt {x} m = subst (λ (j : ℕ). NameNumber ts x (wordAt tab 2 j)) at (name-word lx r m)
+
+  value-of : {v : ℕ} → TokenIs ts r kLiteral → decimal 0 (tokenAt ts r .text) ≡ v → wordAt tab 2 row ≡ v
+  value-of t e = word 2 (lx .rows r (tokenAt ts r) (get-getD ts r noMore low) .literal (t .is) ∙ e)
+
+-- a name after this token: its number, its position, and that it is no reserved word
+module _ {tab : List ℕ} {n : ℕ} {ts : List Token} (lx : Lexemes tab n ts) {row r : ℕ} (at : r ≡ row) (x : Name) (e : x .row ≡ r + 1)
+    (m : NameMatches ts x) where
+  after-row : x .row ≡ row + 1
+  after-row = e ∙ ap (λ (j : ℕ). j + 1) at
+
+  after : NameNumber ts (x .text) (wordAt tab 2 (row + 1))
+  after = spelt lx after-row (m .token .there) (m .token)
+
+  after-start : wordAt tab 1 (row + 1) ≡ x .start
+  after-start = ap (wordAt tab 1) (sym after-row) ∙ start-word lx (x .row) (m .token .there) ∙ m .start
+
+  after-kind : kindInTable tab n (row + 1) ≤ 3
+  after-kind = name-kind (kindInTable tab n (row + 1)) (ap isName (kinds lx (row + 1) ∙ ap (kindAt ts) (sym after-row)) ∙ m .token .named)
+
+-- FORMS BY KINDS
+
+form-name : (k next : ℕ) → isName k ≡ true → formE k next ≡ aVariable
+unfolding formE formAtom isAtom
+form-name k next e =
+    let low : k ≤ 3 = name-kind k e in
+    rw (ne-eqb k 4 (λ q. omega arith), ne-eqb k 21 (λ q. omega arith), ne-eqb k 9 (λ q. omega arith), ne-eqb k 20 (λ q. omega arith), e)
+
+form-new : (k next : ℕ) → k ≡ 14 → next ≤ 3 → formE k next ≡ aNewObject
+unfolding formE formCompound isAtom isName
+form-new k next e o = ap (λ (j : ℕ). formE j next) e ∙ rw (ne-eqb next 11 (λ q. omega arith))
+
+form-dot : (k next : ℕ) → k ≡ 31 → next ≤ 3 → formE k next ≡ aCall
+unfolding formE formCompound isAtom isName
+form-dot k next e o = ap (λ (j : ℕ). formE j next) e ∙ rw (ne-eqb next 12 (λ q. omega arith))
+
+form-binary : (o : Operator) (next : ℕ) → formE (operatorKind o) next ≡ aBinary
+unfolding formE formCompound isAtom isName
+form-binary and next = refl
+form-binary less next = refl
+form-binary plus next = refl
+form-binary minus next = refl
+form-binary times next = refl
+
+form-target : (k next : ℕ) {F : Form} → isName k ≡ true → formS 1 next ≡ F → formS k next ≡ F
+unfolding formS
+form-target k next e f =
+    let low : k ≤ 3 = name-kind k e in
+    rw (ne-eqb k 38 (λ q. omega arith), ne-eqb k 10 (λ q. omega arith), ne-eqb k 23 (λ q. omega arith), ne-eqb k 19 (λ q. omega arith)) f
+
+-- WHAT A ROW SHOWS
+
+-- what the bound of a whole gives for its parts
+pub record Bounds (row : ℕ) (Within Before Behind : Bound) : Type 0 where
+  pub of-new-array : {p : Place} {e : Expression} → p .row ≡ row → Within expression (newArray p e) → Behind expression e
+  pub of-negation : {p : Place} {e : Expression} → p .row ≡ row → Within expression (negation p e) → Behind expression e
+  pub of-binary : {p : Place} {o : Operator} {l r : Expression} → p .row ≡ row → Within expression (binary p o l r)
+      → Before expression l × Behind expression r
+  pub of-element : {p : Place} {a i : Expression} → p .row ≡ row → Within expression (element p a i)
+      → Before expression a × Behind expression i
+  pub of-length : {p : Place} {e : Expression} → p .row ≡ row → Within expression (arrayLength p e) → Before expression e
+  pub of-call : {p : Place} {e : Expression} {m : Name} {es : Part arguments} → p .row ≡ row → Within expression (call p e m es)
+      → Before expression e × Behind arguments es
+  pub of-block : {p : Place} {ss : Part statements} → p .row ≡ row → Within statement (block p ss) → Behind statements ss
+  pub of-conditional : {p : Place} {e : Expression} {s t : Statement} → p .row ≡ row → Within statement (conditional p e s t)
+      → Behind expression e × Behind statement s × Behind statement t
+  pub of-loop : {p : Place} {e : Expression} {s : Statement} → p .row ≡ row → Within statement (loop p e s)
+      → Behind expression e × Behind statement s
+  pub of-print : {p : Place} {e : Expression} → p .row ≡ row → Within statement (print p e) → Behind expression e
+  pub of-assignment : {p : Place} {x : List ℕ} {e : Expression} → p .row ≡ row → Within statement (assign p x e) → Behind expression e
+  pub of-element-store : {p : Place} {x : List ℕ} {i e : Expression} → p .row ≡ row → Within statement (assignElement p x i e)
+      → Behind expression i × Behind expression e
+
+module _ {tab : List ℕ} {n : ℕ} {ts : List Token} (lx : Lexemes tab n ts) (row : ℕ) (Within Before Behind : Bound)
+    (b : Bounds row Within Before Behind) where
+  shows : {F H : Form} {e : Expression} → H ≡ F → Shows tab ts n row Before Behind F e → Shows tab ts n row Before Behind H e
+  shows {F} {H} {e} f s = subst (λ (J : Form). Shows tab ts n row Before Behind J e) (sym f) s
+
+  showsS : {F H : Form} {t : Statement} → H ≡ F → ShowsS tab ts n row Before Behind F t → ShowsS tab ts n row Before Behind H t
+  showsS {F} {H} {t} f s = subst (λ (J : Form). ShowsS tab ts n row Before Behind J t) (sym f) s
+
+  -- one kind tells, or two
+  by : (form : ℕ → ℕ → Form) {F : Form} (k : ℕ) → kindInTable tab n row ≡ k → ((next : ℕ) → form k next ≡ F)
+      → form (kindInTable tab n row) (kindInTable tab n (row + 1)) ≡ F
+  by form k e f = ap (λ (j : ℕ). form j (kindInTable tab n (row + 1))) e ∙ f _
+
+  by-both : {F : Form} (k next : ℕ) → kindInTable tab n row ≡ k → kindInTable tab n (row + 1) ≡ next → formE k next ≡ F
+      → formE (kindInTable tab n row) (kindInTable tab n (row + 1)) ≡ F
+  by-both k next e o f = ap (λ (j : ℕ). formE j (kindInTable tab n (row + 1))) e ∙ ap (formE k) o ∙ f
+
+  see : (e : Expression) → rowOf e ≡ row → Holds tab e → Matches ts e → Within expression e
+      → Shows tab ts n row Before Behind (formE (kindInTable tab n row) (kindInTable tab n (row + 1))) e
+  unfolding Holds Matches formE formAtom formCompound isAtom isName
+  see (literal p v) at h m w =
+      let low = m .0 .there in
+      shows (by formE 4 (kind-of lx at low (m .0 .is)) (λ x. refl))
+      (shows-literal (word lx at low 3 (h .start)) (value-of lx at low (m .0) (m .1)))
+  see (truth p true) at h m w =
+      shows (by formE 21 (kind-of lx at (m .there) (m .is)) (λ x. refl)) (shows-truth (word lx at (m .there) 3 (h .start)))
+  see (truth p false) at h m w =
+      shows (by formE 9 (kind-of lx at (m .there) (m .is)) (λ x. refl)) (shows-truth (word lx at (m .there) 3 (h .start)))
+  see (variable p x) at h m w =
+      let low = m .there in
+      shows (form-name (kindInTable tab n row) (kindInTable tab n (row + 1)) (ap isName (kind-of lx at low refl) ∙ m .named))
+      (shows-variable (word lx at low 3 (h .start)) (spelt lx at low m))
+  see (this p) at h m w =
+      shows (by formE 20 (kind-of lx at (m .there) (m .is)) (λ x. refl)) (shows-this (word lx at (m .there) 3 (h .start)))
+  see (newArray p e) at h m w =
+      let low = m .0 .there in
+      shows (by-both 14 11 (kind-of lx at low (m .0 .is)) (kind-after lx at low (m .1 .is)) refl)
+      (shows-new-array (word lx at low 3 (h .0 .start)) (part lx at low 4 (h .0 .first) (h .1) (m .2) (b .of-new-array at w)))
+  see (newObject p c) at h m w =
+      let low = m .0 .there in
+      shows (form-new (kindInTable tab n row) (kindInTable tab n (row + 1)) (kind-of lx at low (m .0 .is))
+      (after-kind lx at c (m .1) (m .2)))
+      (shows-new-object (word lx at low 3 (h .start)) (after lx at c (m .1) (m .2)) (after-start lx at c (m .1) (m .2)))
+  see (negation p e) at h m w =
+      let low = m .0 .there in
+      shows (by formE 29 (kind-of lx at low (m .0 .is)) (λ x. refl))
+      (shows-negation (word lx at low 3 (h .0 .start)) (part lx at low 4 (h .0 .first) (h .1) (m .1) (b .of-negation at w)))
+  see (binary p o l r) at h m w =
+      let low = m .0 .there in
+      let k = kind-of lx at low (m .0 .is) in
+      let v = b .of-binary at w in
+      shows (by formE (operatorKind o) k (form-binary o))
+      (shows-binary (word lx at low 3 (h .0 .start)) k (part lx at low 4 (h .0 .first) (h .1) (m .1) (v .0))
+      (part lx at low 5 (h .0 .second) (h .2) (m .2) (v .1)))
+  see (element p a i) at h m w =
+      let low = m .0 .there in
+      let v = b .of-element at w in
+      shows (by formE 36 (kind-of lx at low (m .0 .is)) (λ x. refl))
+      (shows-element (word lx at low 3 (h .0 .start)) (part lx at low 4 (h .0 .first) (h .1) (m .1) (v .0))
+      (part lx at low 5 (h .0 .second) (h .2) (m .2) (v .1)))
+  see (arrayLength p e) at h m w =
+      let low = m .0 .there in
+      shows (by-both 31 12 (kind-of lx at low (m .0 .is)) (kind-after lx at low (m .1 .is)) refl)
+      (shows-length (word lx at low 3 (h .0 .start)) (part lx at low 4 (h .0 .first) (h .1) (m .2) (b .of-length at w)))
+  see (call p e f es) at h m w =
+      let low = m .0 .there in
+      let v = b .of-call at w in
+      shows (form-dot (kindInTable tab n row) (kindInTable tab n (row + 1)) (kind-of lx at low (m .0 .is))
+      (after-kind lx at f (m .1) (m .2)))
+      (shows-call (word lx at low 3 (h .0 .start)) (after lx at f (m .1) (m .2)) (after-start lx at f (m .1) (m .2))
+      (part lx at low 4 (h .0 .first) (h .1) (m .3) (v .0)) (part lx at low 5 (h .0 .second) (h .2) (m .4) (v .1)))
+
+  -- the node of a statement whose first token is a name, by the kind of the token after it
+  target : {F : Form} {r k : ℕ} {x : List ℕ} → r ≡ row → NameIs ts r x → TokenIs ts (r + 1) k → formS 1 k ≡ F
+      → formS (kindInTable tab n row) (kindInTable tab n (row + 1)) ≡ F
+  target at m o f =
+      form-target (kindInTable tab n row) (kindInTable tab n (row + 1)) (ap isName (kind-of lx at (m .there) refl) ∙ m .named)
+      (ap (formS 1) (kind-after lx at (m .there) (o .is)) ∙ f)
+
+  seeS : (t : Statement) → rowOf t ≡ row → Holds tab t → Matches ts t → Within statement t
+      → ShowsS tab ts n row Before Behind (formS (kindInTable tab n row) (kindInTable tab n (row + 1))) t
+  unfolding Holds Matches formS
+  seeS (block p ss) at h m w =
+      let low = m .0 .there in
+      showsS (by formS 38 (kind-of lx at low (m .0 .is)) (λ x. refl))
+      (shows-block (word lx at low 3 (h .0 .start)) (part lx at low 4 (h .0 .first) (h .1) (m .1) (b .of-block at w)))
+  seeS (conditional p e s t) at h m w =
+      let low = m .0 .there in
+      let v = b .of-conditional at w in
+      showsS (by formS 10 (kind-of lx at low (m .0 .is)) (λ x. refl))
+      (shows-conditional (word lx at low 3 (h .0 .start)) (part lx at low 4 (h .0 .first) (h .2) (m .1) (v .0))
+      (part lx at low 5 (h .0 .second) (h .3) (m .2) (v .1)) (part lx at low 7 (h .1) (h .4) (m .3) (v .2)))
+  seeS (loop p e s) at h m w =
+      let low = m .0 .there in
+      let v = b .of-loop at w in
+      showsS (by formS 23 (kind-of lx at low (m .0 .is)) (λ x. refl))
+      (shows-loop (word lx at low 3 (h .0 .start)) (part lx at low 4 (h .0 .first) (h .1) (m .1) (v .0))
+      (part lx at low 5 (h .0 .second) (h .2) (m .2) (v .1)))
+  seeS (print p e) at h m w =
+      let low = m .0 .there in
+      showsS (by formS 19 (kind-of lx at low (m .0 .is)) (λ x. refl))
+      (shows-print (word lx at low 3 (h .0 .start)) (part lx at low 4 (h .0 .first) (h .1) (m .1) (b .of-print at w)))
+  seeS (assign p x e) at h m w =
+      let low = m .0 .there in
+      showsS (target at (m .0) (m .1) refl)
+      (shows-assignment (word lx at low 3 (h .0 .start)) (spelt lx at low (m .0))
+      (part lx at low 4 (h .0 .first) (h .1) (m .2) (b .of-assignment at w)))
+  seeS (assignElement p x i e) at h m w =
+      let low = m .0 .there in
+      let v = b .of-element-store at w in
+      showsS (target at (m .0) (m .1) refl)
+      (shows-element-store (word lx at low 3 (h .0 .start)) (spelt lx at low (m .0)) (part lx at low 4 (h .0 .first) (h .1) (m .2) (v .0))
+      (part lx at low 5 (h .0 .second) (h .2) (m .3) (v .1)))
+
+  -- the code has read the kinds, which tell the form F
+  pub shown : {F : Form} → formE (kindInTable tab n row) (kindInTable tab n (row + 1)) ≡ F → (e : Expression)
+      → PartAt tab ts row (Within expression) e
+      → Shows tab ts n row Before Behind F e
+  shown f e h = shows (sym f) (see e (h .at) (h .holds) (h .matches) (h .within))
+
+  pub shownS : {F : Form} → formS (kindInTable tab n row) (kindInTable tab n (row + 1)) ≡ F → (t : Statement)
+      → PartAt tab ts row (Within statement) t
+      → ShowsS tab ts n row Before Behind F t
+  shownS f t h = showsS (sym f) (seeS t (h .at) (h .holds) (h .matches) (h .within))
+
+-- where an expression begins
+pub starts : {tab : List ℕ} {ts : List Token} {n row : ℕ} {Before Behind : Bound} {F : Form} {e : Expression}
+    → Shows tab ts n row Before Behind F e → wordAt tab 3 row ≡ placeE e .start
+starts (shows-literal s n) = s
+starts (shows-truth s) = s
+starts (shows-variable s x) = s
+starts (shows-this s) = s
+starts (shows-new-array s x) = s
+starts (shows-new-object s x y) = s
+starts (shows-negation s x) = s
+starts (shows-binary s k x y) = s
+starts (shows-element s x y) = s
+starts (shows-length s x) = s
+starts (shows-call s m q x y) = s
+
+-- LISTS
+
+module _ {tab : List ℕ} {ts : List Token} {row : ℕ} where
+  -- the row after that of a member
+  follows : {r : ℕ} {s : Sort} {Within : Part s → Type 0} {t : Part s} → r ≡ row → row < absent → col tab 6 r ≡ rowOf t → Holds tab t
+      → Matches ts t → Within t → PartAt tab ts (wordAt tab 6 row) Within t
+  follows {r} at near e h m w =
+      record { at = sym (ap (wordAt tab 6) (sym at) ∙ word-in tab 6 r (omega (arith, at)) e); holds = h; matches = m; within = w }
+
+  -- arguments that stand in a row, and not past the last
+  pub goes-on : {Within Rest : Part arguments → Type 0} {First : Expression → Type 0}
+      → ((e : Expression) (es : Part arguments) → rowOf e ≡ row → Within (argument e es) → First e × Rest es) → row < absent
+      → (es : Part arguments) → PartAt tab ts row Within es → GoesOn tab ts row First Rest es
+  unfolding Holds Matches
+  goes-on f near noArguments h = absurd (omega (arith, h .at))
+  goes-on f near (argument e es) h =
+      let v = f e es (h .at) (h .within) in
+      one-more-argument (record { at = h .at; holds = h .holds .0; matches = h .matches .0; within = v .0 })
+      (follows (h .at) near (h .holds .1) (h .holds .2) (h .matches .1) (v .1))
+
+  pub goes-onS : {Within Rest : Part statements → Type 0} {First : Statement → Type 0}
+      → ((t : Statement) (ss : Part statements) → rowOf t ≡ row → Within (sequence t ss) → First t × Rest ss) → row < absent
+      → (ss : Part statements) → PartAt tab ts row Within ss → GoesOnS tab ts row First Rest ss
+  unfolding Holds Matches
+  goes-onS f near noStatements h = absurd (omega (arith, h .at))
+  goes-onS f near (sequence t ss) h =
+      let v = f t ss (h .at) (h .within) in
+      one-more-statement (record { at = h .at; holds = h .holds .0; matches = h .matches .0; within = v .0 })
+      (follows (h .at) near (h .holds .1) (h .holds .2) (h .matches .1) (v .1))
+
+  -- past the last row there are none
+  pub ended : {Within : Part arguments → Type 0} → length ts ≤ 2048 → absent ≤ row → (es : Part arguments)
+      → PartAt tab ts row Within es → noArguments ≡ es
+  unfolding Matches
+  ended few far noArguments h = refl
+  ended few far (argument e es) h = absurd (omega (arith, there ts e (h .matches .0), h .at))
+
+  pub endedS : {Within : Part statements → Type 0} → length ts ≤ 2048 → absent ≤ row → (ss : Part statements)
+      → PartAt tab ts row Within ss → noStatements ≡ ss
+  unfolding Matches
+  endedS few far noStatements h = refl
+  endedS few far (sequence t ss) h = absurd (omega (arith, there-statement ts t (h .matches .0), h .at))
