@@ -1,10 +1,10 @@
 -- Pieces of code as the code writes them: one instruction, a piece behind another, and a piece behind a jump that is written last.
 use Prim.Native.Nat.{ℕ, suc, _+_, _*_, _≤_, _<_}
 use native.Mathlib.Omega.{arith}
-use mathlib.Core.Path.{_≡_, refl, subst, _∙_}
+use mathlib.Core.Path.{_≡_, refl, ap, subst, _∙_}
 use mathlib.Core.List.{List, _∷_}
 use lib.ListN.{set}
-use Rattle.codegen.specs.contracts.Code.{Instruction}
+use Rattle.codegen.specs.contracts.Code.{Instruction, mark}
 use Rattle.writer.specs.contracts.Words.{words, encode, putAt}
 use Rattle.writer.specs.laws.Emits.{behind, before, one}
 use Rattle.writer.specs.contracts.Posts.{room, PutPost, NextPost, Wrote}
@@ -20,6 +20,11 @@ put-one x {ν} {at} {op} {a} {b} {d} {r} {c} {c′} e f h = record { ends = f .n
 pub next-to : (g : ℕ → Piece) (stop : ℕ → ℕ) {ν : List ℕ → ℕ} {f : Piece} {m i a b : ℕ} {c c₁ c₂ : List ℕ} → Wrote ν f m i c c₁ a → Wrote ν (g a) (stop a) a c₁ c₂ b → Wrote ν (λ k. f (g m k)) (stop m) i c c₂ b
 next-to g stop {ν} {f} {m} {i} {a} {b} {c} {c₁} {c₂} u v =
     subst (λ (n : ℕ). Wrote ν (λ k. f (g n k)) (stop n) i c c₂ b) (u .ends) (record { ends = v .ends; code = behind (u .code) (v .code) })
+
+-- a piece behind the mark of a node
+pub marked : (g : ℕ → Piece) (stop : ℕ → ℕ) {ν : List ℕ → ℕ} {v start at i r : ℕ} {c c₁ c₂ : List ℕ} → v ≡ start → PutPost at 0 v 0 0 c c₁ i
+    → suc at ≤ room → Wrote ν (g i) (stop i) i c₁ c₂ r → Wrote ν (λ k. mark start ∷ g (suc at) k) (stop (suc at)) at c c₂ r
+marked g stop {start = start} e p low v = next-to g stop (put-one (mark start) (ap (λ (n : ℕ). words 0 n 0 0) e) p low) v
 
 -- a piece behind an instruction that is written after it
 pub over : (x : Instruction) (g : ℕ → Piece) (stop : ℕ → ℕ) {ν : List ℕ → ℕ} {at n op a b d r j : ℕ} {c c₁ c₂ : List ℕ} → NextPost at n → Wrote ν (g n) (stop n) n c c₁ j → words op a b d ≡ encode ν x
