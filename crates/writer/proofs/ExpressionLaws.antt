@@ -11,7 +11,7 @@ use borrow.Author.Tests.{ne-eqb}
 use Rattle.lexer.specs.Tokens.{Token}
 use Rattle.lexer.specs.contracts.Rows.{firstNamed}
 use Rattle.parser.specs.Tree.{Operator, Operator.and, Operator.less, Operator.plus, Operator.minus, Operator.times}
-use Rattle.parser.specs.Tree.{Sort.expression, Sort.arguments, Part, Expression, Class, placeE}
+use Rattle.parser.specs.Tree.{Sort, Sort.expression, Sort.arguments, Part, Expression, Class, placeE}
 use Rattle.parser.specs.Tree.{Part.literal, Part.truth, Part.variable, Part.this, Part.newArray, Part.newObject, Part.negation, Part.binary}
 use Rattle.parser.specs.Tree.{Part.element, Part.arrayLength, Part.call, Part.noArguments, Part.argument}
 use Rattle.parser.specs.contracts.Layout.{absent}
@@ -31,7 +31,7 @@ use Rattle.semantics.specs.Machine.{number, flag, isAnd, slot, initial}
 use Rattle.writer.specs.declared.scope.Scope.{Scope}
 use Rattle.writer.specs.contracts.Scoping.{Sees, SlotPost}
 use Rattle.codegen.specs.contracts.Code as Code
-use Rattle.codegen.specs.contracts.Code.{mark, push, load, self, negate, operate, keep, fetch, measure, makeArray, makeObject}
+use Rattle.codegen.specs.contracts.Code.{push, load, self, negate, operate, keep, fetch, measure, makeArray, makeObject}
 use Rattle.codegen.specs.contracts.Compile.{endBinary, emitBinary, end, emit, cellsOf}
 use Rattle.writer.specs.contracts.Words.{words, encode}
 use Rattle.writer.specs.laws.Emits.{no-code}
@@ -39,7 +39,7 @@ use Rattle.writer.specs.laws.Lengths.{grows}
 use Rattle.writer.specs.contracts.Posts.{room, PutPost, NextPost, Wrote, AtMost, WritePost, innerE, endE, Says, ExpressionPost}
 use Rattle.writer.specs.contracts.Posts.{LoadPost, FollowedPost, PairPost, ConjunctionPost}
 use Rattle.writer.proofs.RowLaws.{positive, fewer, fewer-arguments, counted}
-use Rattle.writer.proofs.PieceLaws.{put-one, next-to, over, marked}
+use Rattle.writer.proofs.PieceLaws.{put-one, next-to, over, Opens, node-wrote}
 
 pub few-tokens : {tab names : List ℕ} {ts : List Token} {G : List Class} {Γ : Context} {s : Scope} → Sees tab names ts G Γ s
     → length ts ≤ 2048
@@ -54,6 +54,29 @@ pub spelt : {ts : List Token} {x : List ℕ} {w v : ℕ} → v ≡ w → NameNum
 spelt e h = e ∙ sym (h .first)
 
 -- PARTS AND AN INSTRUCTION
+
+-- a part behind another
+pub both-wrote : {tab names : List ℕ} {s : Scope} {p q : Sort} {left left′ row row′ at a b : ℕ} {c c₁ c₂ : List ℕ}
+    → WritePost tab names s p left row at c c₁ a → WritePost tab names s q left′ row′ a c₁ c₂ b
+    → (ts : List Token) (G : List Class) (Γ : Context) → Sees tab names ts G Γ s → (x : Part p) (y : Part q)
+    → PartAt tab ts row (AtMost left p) x → PartAt tab ts row′ (AtMost left′ q) y → end y (end x at) ≤ room
+    → Wrote (firstNamed ts) (λ k. emit G Γ x at (emit G Γ y (end x at) k)) (end y (end x at)) at c c₂ b
+both-wrote {at = at} f g ts G Γ w x y h h′ l =
+    let u = f .says ts G Γ w x h (omega (arith, grows y (end x at))) in
+    next-to (emit G Γ y) (end y) u (g .says ts G Γ w y h′ (rw (u .ends) l))
+
+-- no code for a list that is empty
+pub nothing-wrote : {tab names : List ℕ} {s : Scope} {q : Sort} {left row at : ℕ} {c : List ℕ} (none : Part q)
+    → ((ν : List ℕ → ℕ) (G : List Class) (Γ : Context) → Wrote ν (emit G Γ none at) (end none at) at c c at) → at ≤ room
+    → ((ts : List Token) → length ts ≤ 2048 → (t : Part q) → PartAt tab ts row (AtMost left q) t → none ≡ t)
+    → WritePost tab names s q left row at c c at
+nothing-wrote {q = q} {at = at} {c = c} none nothing low is =
+    record {
+      within = low;
+      says = λ ts G Γ w t h l.
+          subst (λ (x : Part q). Wrote (firstNamed ts) (emit G Γ x at) (end x at) at c c at) (is ts (few-tokens w) t h)
+          (nothing (firstNamed ts) G Γ);
+    }
 
 pub loaded-wrote : {tab names : List ℕ} {s : Scope} {row at x v r : ℕ} {c c′ : List ℕ} → x ≡ wordAt tab 2 row → SlotPost tab names s x v
     → PutPost at 2 v 0 0 c c′ r → LoadPost tab names s row at c c′ r
@@ -138,13 +161,11 @@ module _ {tab names : List ℕ} {s : Scope} {left row at r : ℕ} {c c′ : List
     where
       go : Says tab names s aCall left row at c c′ r
       go ts G Γ w e (shows-call {p = q} {e = l} {m = m} {es = es} st sp at′ x y) h =
-          let u = f .says ts G Γ w l (rw e₄ x) (omega (arith, grows es (end l at))) in
-          let v = g .says ts G Γ w es (rw e₅ y) (rw (u .ends) (omega arith)) in
+          let u = both-wrote f g ts G Γ w l es (rw e₄ x) (rw e₅ y) (omega arith) in
           let i = Code.call q (m .text) (arity es) in
           let z : words 18 start method count ≡ encode (firstNamed ts) i
           = rw (e₃ ∙ st, spelt e₂ sp, counted {ts = ts} (few-tokens w) n es (rw e₅ y)) in
-          next-to (λ j k. emit G Γ es j (i ∷ k)) (λ j. suc (end es j)) u
-          (next-to (λ j k. i ∷ k) suc v (put-one i z p (rw (v .ends, u .ends) h)))
+          next-to (λ j k. i ∷ k) suc u (put-one i z p (rw (u .ends) h))
 
   truth-wrote : (k : ℕ) (b : Bool) {v : ℕ} → ((ν : List ℕ → ℕ) → words 1 v 0 0 ≡ encode ν (push (flag b))) → aTruth b ≡ formAtom k
       → PutPost at 1 v 0 0 c c′ r → ExpressionPost tab names s (formAtom k) left row at c c′ r
@@ -286,55 +307,19 @@ module _ {tab names : List ℕ} {s : Scope} {left row at r : ℕ} {c c′ : List
 
 -- THE MARK
 
--- a mark and what follows it
-whole : (ν : List ℕ → ℕ) (G : List Class) (Γ : Context) (e : Expression) {at r : ℕ} {c c′ : List ℕ}
-    → Wrote ν (λ k. mark (placeE e .start) ∷ innerE G Γ e (suc at) k) (endE e (suc at)) at c c′ r
-    → Wrote ν (emit G Γ e at) (end e at) at c c′ r
+opens : (G : List Class) (Γ : Context) (e : Expression) → Opens G Γ e (placeE e .start) (innerE G Γ e) (endE e)
 unfolding emit end
-whole ν G Γ (literal p n) w = w
-whole ν G Γ (truth p b) w = w
-whole ν G Γ (variable p x) w = w
-whole ν G Γ (this p) w = w
-whole ν G Γ (newArray p e) w = w
-whole ν G Γ (newObject p c) w = w
-whole ν G Γ (negation p e) w = w
-whole ν G Γ (binary p o l r) w = w
-whole ν G Γ (element p a i) w = w
-whole ν G Γ (arrayLength p a) w = w
-whole ν G Γ (call p e m es) w = w
-
-end-inner : (e : Expression) (i : ℕ) → end e i ≡ endE e (suc i)
-unfolding end
-end-inner (literal p n) i = refl
-end-inner (truth p b) i = refl
-end-inner (variable p x) i = refl
-end-inner (this p) i = refl
-end-inner (newArray p e) i = refl
-end-inner (newObject p c) i = refl
-end-inner (negation p e) i = refl
-end-inner (binary p o l r) i = refl
-end-inner (element p a e) i = refl
-end-inner (arrayLength p a) i = refl
-end-inner (call p e m es) i = refl
-
-binary-marks : (b : Bool) (i a : ℕ) (r : ℕ → ℕ) → suc i ≤ a → ((j : ℕ) → j ≤ r j) → suc i ≤ endBinary b a r
-binary-marks true i a r u f = omega (arith, f (suc a))
-binary-marks false i a r u f = omega (arith, f a)
-
--- a node has at least its mark
-marks : (e : Expression) (i : ℕ) → suc i ≤ end e i
-unfolding end
-marks (literal p n) i = omega arith
-marks (truth p b) i = omega arith
-marks (variable p x) i = omega arith
-marks (this p) i = omega arith
-marks (newArray p e) i = omega (arith, grows e (suc i))
-marks (newObject p c) i = omega arith
-marks (negation p e) i = omega (arith, grows e (suc i))
-marks (binary p o l r) i = binary-marks (isAnd o) i (end l (suc i)) (end r) (grows l (suc i)) (λ j. grows r j)
-marks (element p a e) i = omega (arith, grows a (suc i), grows e (end a (suc i)))
-marks (arrayLength p a) i = omega (arith, grows a (suc i))
-marks (call p e m es) i = omega (arith, grows e (suc i), grows es (end e (suc i)))
+opens G Γ (literal p n) = record { code = λ i k. refl; ends = λ i. refl }
+opens G Γ (truth p b) = record { code = λ i k. refl; ends = λ i. refl }
+opens G Γ (variable p x) = record { code = λ i k. refl; ends = λ i. refl }
+opens G Γ (this p) = record { code = λ i k. refl; ends = λ i. refl }
+opens G Γ (newArray p e) = record { code = λ i k. refl; ends = λ i. refl }
+opens G Γ (newObject p c) = record { code = λ i k. refl; ends = λ i. refl }
+opens G Γ (negation p e) = record { code = λ i k. refl; ends = λ i. refl }
+opens G Γ (binary p o l r) = record { code = λ i k. refl; ends = λ i. refl }
+opens G Γ (element p a i) = record { code = λ i k. refl; ends = λ i. refl }
+opens G Γ (arrayLength p a) = record { code = λ i k. refl; ends = λ i. refl }
+opens G Γ (call p e m es) = record { code = λ i k. refl; ends = λ i. refl }
 
 module _ {tab names : List ℕ} {s : Scope} {left row at : ℕ} {c : List ℕ} where
   pub expression-none : left ≡ 0 → at ≤ room → WritePost tab names s expression left row at c c at
@@ -348,13 +333,10 @@ module _ {tab names : List ℕ} {s : Scope} {left row at : ℕ} {c : List ℕ} w
         record {
           within = f .within;
           says = λ ts G Γ w e h l.
-              let low : suc at ≤ room = omega (arith, marks e at) in
               let sh : Shows tab ts (s .tokens) row (AtMost (left - 1)) (AtMost (left - 1)) F e
               = shown (lexemes w) row (AtMost left) (AtMost (left - 1)) (AtMost (left - 1)) (fewer row left more)
               (ap (λ (j : ℕ). formE j (kindInTable tab (s .tokens) (row + 1))) (sym kind) ∙ form) e h in
-              whole (firstNamed ts) G Γ e
-              (marked (innerE G Γ e) (endE e) (starts sh) p low
-              (f .says ts G Γ w e sh (rw (p .next low) (omega (arith, end-inner e at)))));
+              node-wrote (opens G Γ e) (positive e) (starts sh) p l (f .says ts G Γ w e sh);
         }
 
     pub expression-atom : b ≡ true → ExpressionPost tab names s (formAtom k) (left - 1) row i c₁ c₂ r
@@ -369,24 +351,20 @@ module _ {tab names : List ℕ} {s : Scope} {left row at : ℕ} {c : List ℕ} w
 
 -- ARGUMENTS
 
-none-wrote : (ν : List ℕ → ℕ) (G : List Class) (Γ : Context) {at : ℕ} {c : List ℕ} {es : Part arguments} → noArguments ≡ es
-    → Wrote ν (emit G Γ es at) (end es at) at c c at
-unfolding emit end
-none-wrote ν G Γ {at} {c} e =
-    subst (λ (es : Part arguments). Wrote ν (emit G Γ es at) (end es at) at c c at) e (record { ends = refl; code = no-code })
-
 module _ {tab names : List ℕ} {s : Scope} {left row at : ℕ} {c : List ℕ} where
   pub arguments-none : left ≡ 0 → at ≤ room → WritePost tab names s arguments left row at c c at
-  unfolding nodes
-  arguments-none z low = record { within = low; says = λ ts G Γ w es h l. none-wrote (firstNamed ts) G Γ (go es (h .within)) }
+  unfolding nodes emit end
+  arguments-none z low =
+      nothing-wrote noArguments (λ ν G Γ. record { ends = refl; code = no-code }) low (λ ts few es h. go es (h .within))
     where
       go : (es : Part arguments) → nodes es ≤ left → noArguments ≡ es
       go noArguments few = refl
       go (argument e es) few = absurd (omega (arith, positive e))
 
   pub arguments-end : absent ≤ row → at ≤ room → WritePost tab names s arguments left row at c c at
+  unfolding emit end
   arguments-end far low =
-      record { within = low; says = λ ts G Γ w es h l. none-wrote (firstNamed ts) G Γ (ended (few-tokens w) far es h) }
+      nothing-wrote noArguments (λ ν G Γ. record { ends = refl; code = no-code }) low (λ ts few es h. ended few far es h)
 
   pub arguments-more : (left ≡ 0 → ⊥) → row < absent → {a next r : ℕ} {c₁ c₂ : List ℕ}
       → WritePost tab names s expression left row at c c₁ a → next ≡ wordAt tab 6 row
@@ -398,6 +376,4 @@ module _ {tab names : List ℕ} {s : Scope} {left row at : ℕ} {c : List ℕ} w
       go : (ts : List Token) (G : List Class) (Γ : Context) → Sees tab names ts G Γ s → (es : Part arguments)
           → GoesOn tab ts row (AtMost left expression) (AtMost (left - 1) arguments) es → end es at ≤ room
           → Wrote (firstNamed ts) (emit G Γ es at) (end es at) at c c₂ r
-      go ts G Γ w t (one-more-argument {e = e} {es = es} x y) l =
-          let u = f .says ts G Γ w e x (omega (arith, grows es (end e at))) in
-          next-to (emit G Γ es) (end es) u (g .says ts G Γ w es (rw e₆ y) (rw (u .ends) l))
+      go ts G Γ w t (one-more-argument {e = e} {es = es} x y) l = both-wrote f g ts G Γ w e es x (rw e₆ y) l

@@ -23,6 +23,7 @@ use Rattle.writer.specs.contracts.Scoping.{Sees}
 use Rattle.writer.specs.contracts.Posts.{room, PutPost, Wrote, AtMost, WritePost}
 use Rattle.writer.specs.contracts.Methods.{SeesClass, entered, MethodPost, MethodsPost}
 use Rattle.writer.proofs.PieceLaws.{put-one, next-to}
+use Rattle.writer.proofs.ExpressionLaws.{both-wrote}
 
 -- a word of a row of a declaration
 word : (tab : List ℕ) (k : ℕ) {row r v w : ℕ} → w ≡ wordAt tab k row → r ≡ row → r < absent → col tab k r ≡ v → w ≡ v
@@ -57,10 +58,8 @@ method-wrote {tab} {names} {n} {row} {at} {p} {l} {first} {a} {second} {b} {r} {
         let x : PartAt tab ts first (AtMost n statements) (F .body)
         = record { at = sym (word tab 4 e₄′ is′ near′ (h .start)); holds = h .body; matches = h .body-matches; within = omega (arith, h .body-covers, nodes-covered (F .body)) } in
         let y : PartAt tab ts second (AtMost n expression) (F .value) = record { at = sym (word tab 5 e₅′ is′ near′ (h .return)); holds = h .value; matches = h .value-matches; within = omega (arith, h .value-covers, nodes-covered (F .value)) } in
-        let u = f .says ts G (contextOf d F) sees (F .body) x (omega (arith, grows (F .value) (middle F at))) in
-        let v = g .says ts G (contextOf d F) sees (F .value) y (rw (u .ends) (omega arith)) in
-        next-to (λ j k. emit G (contextOf d F) (F .value) j (return ∷ k)) (λ j. suc (end (F .value) j)) u
-        (next-to (λ j k. return ∷ k) suc v (put-one return refl o (rw (v .ends, u .ends) low)))
+        let u = both-wrote f g ts G (contextOf d F) sees (F .body) (F .value) x y (omega arith) in
+        next-to (λ j k. return ∷ k) suc u (put-one return refl o (rw (u .ends) low))
 
 pub grows-methods : (M : List Method) (i : ℕ) → i ≤ endMethods M i
 unfolding endMethods

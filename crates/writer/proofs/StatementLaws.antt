@@ -22,7 +22,7 @@ use Rattle.lookup.specs.laws.ShowLaws.{shownS, goes-onS, endedS}
 use Rattle.writer.specs.declared.scope.Scope.{Scope}
 use Rattle.writer.specs.contracts.Scoping.{Sees, SlotPost}
 use Rattle.codegen.specs.contracts.Code as Code
-use Rattle.codegen.specs.contracts.Code.{mark, save, jump, unless, storeElement}
+use Rattle.codegen.specs.contracts.Code.{save, jump, unless, storeElement}
 use Rattle.codegen.specs.contracts.Compile.{end, emit}
 use Rattle.writer.specs.contracts.Words.{words}
 use Rattle.writer.specs.laws.Emits.{no-code}
@@ -30,8 +30,8 @@ use Rattle.writer.specs.laws.Lengths.{grows}
 use Rattle.writer.specs.contracts.Posts.{room, PutPost, NextPost, Wrote, AtMost, WritePost, innerS, endS, formTested, SaysS}
 use Rattle.writer.specs.contracts.Posts.{StatementPost, LoadPost, FollowedPost, PairPost, BranchesPost, OtherwisePost, BodyPost}
 use Rattle.writer.proofs.RowLaws.{positive-statement, fewer, fewer-statements}
-use Rattle.writer.proofs.PieceLaws.{next-to, over, put-one, marked}
-use Rattle.writer.proofs.ExpressionLaws.{few-tokens, lexemes}
+use Rattle.writer.proofs.PieceLaws.{put-one, next-to, over, Opens, node-wrote}
+use Rattle.writer.proofs.ExpressionLaws.{lexemes, both-wrote, nothing-wrote}
 
 -- PARTS AND AN INSTRUCTION
 
@@ -144,36 +144,14 @@ starts (shows-print s x) = s
 starts (shows-assignment s q x) = s
 starts (shows-element-store s q x y) = s
 
--- a mark and what follows it
-whole : (ν : List ℕ → ℕ) (G : List Class) (Γ : Context) (t : Statement) {at r : ℕ} {c c′ : List ℕ}
-    → Wrote ν (λ k. mark (placeS t .start) ∷ innerS G Γ t (suc at) k) (endS t (suc at)) at c c′ r
-    → Wrote ν (emit G Γ t at) (end t at) at c c′ r
+opens : (G : List Class) (Γ : Context) (t : Statement) → Opens G Γ t (placeS t .start) (innerS G Γ t) (endS t)
 unfolding emit end
-whole ν G Γ (block p ss) w = w
-whole ν G Γ (conditional p e s t) w = w
-whole ν G Γ (loop p e s) w = w
-whole ν G Γ (print p e) w = w
-whole ν G Γ (assign p x e) w = w
-whole ν G Γ (assignElement p x i e) w = w
-
-end-inner : (t : Statement) (i : ℕ) → end t i ≡ endS t (suc i)
-unfolding end
-end-inner (block p ss) i = refl
-end-inner (conditional p e s t) i = refl
-end-inner (loop p e s) i = refl
-end-inner (print p e) i = refl
-end-inner (assign p x e) i = refl
-end-inner (assignElement p x a e) i = refl
-
-marks : (t : Statement) (i : ℕ) → suc i ≤ end t i
-unfolding end
-marks (block p ss) i = grows ss (suc i)
-marks (conditional p e s t) i =
-    omega (arith, grows e (suc i), grows s (suc (end e (suc i))), grows t (suc (end s (suc (end e (suc i))))))
-marks (loop p e s) i = omega (arith, grows e (suc i), grows s (suc (end e (suc i))))
-marks (print p e) i = omega (arith, grows e (suc i))
-marks (assign p x e) i = omega (arith, grows e (suc i))
-marks (assignElement p x a e) i = omega (arith, grows a (suc (suc i)), grows e (end a (suc (suc i))))
+opens G Γ (block p ss) = record { code = λ i k. refl; ends = λ i. refl }
+opens G Γ (conditional p e s t) = record { code = λ i k. refl; ends = λ i. refl }
+opens G Γ (loop p e s) = record { code = λ i k. refl; ends = λ i. refl }
+opens G Γ (print p e) = record { code = λ i k. refl; ends = λ i. refl }
+opens G Γ (assign p x e) = record { code = λ i k. refl; ends = λ i. refl }
+opens G Γ (assignElement p x i e) = record { code = λ i k. refl; ends = λ i. refl }
 
 module _ {tab names : List ℕ} {s : Scope} {left row at : ℕ} {c : List ℕ} where
   pub statement-none : left ≡ 0 → at ≤ room → WritePost tab names s statement left row at c c at
@@ -187,12 +165,10 @@ module _ {tab names : List ℕ} {s : Scope} {left row at : ℕ} {c : List ℕ} w
         record {
           within = fits;
           says = λ ts G Γ w t h l.
-              let low : suc at ≤ room = omega (arith, marks t at) in
               let sh : ShowsS tab ts (s .tokens) row (AtMost (left - 1)) (AtMost (left - 1)) F t
               = shownS (lexemes w) row (AtMost left) (AtMost (left - 1)) (AtMost (left - 1)) (fewer row left more)
               (ap (λ (j : ℕ). formS j (kindInTable tab (s .tokens) (row + 1))) (sym kind) ∙ form) t h in
-              whole (firstNamed ts) G Γ t
-              (marked (innerS G Γ t) (endS t) (starts sh) p low (f ts G Γ w t sh (rw (p .next low) (omega (arith, end-inner t at)))));
+              node-wrote (opens G Γ t) (positive-statement t) (starts sh) p l (f ts G Γ w t sh);
         }
 
     pub statement-block : k ≡ 38 → {first : ℕ} → first ≡ wordAt tab 4 row → WritePost tab names s statements (left - 1) first i c₁ c₂ r
@@ -238,23 +214,20 @@ module _ {tab names : List ℕ} {s : Scope} {left row at : ℕ} {c : List ℕ} w
 
 -- LISTS
 
-none-wrote : (ν : List ℕ → ℕ) (G : List Class) (Γ : Context) {at : ℕ} {c : List ℕ} {ss : Part statements} → noStatements ≡ ss
-    → Wrote ν (emit G Γ ss at) (end ss at) at c c at
-unfolding emit end
-none-wrote ν G Γ {at} {c} e =
-    subst (λ (ss : Part statements). Wrote ν (emit G Γ ss at) (end ss at) at c c at) e (record { ends = refl; code = no-code })
-
 module _ {tab names : List ℕ} {s : Scope} {left row at : ℕ} {c : List ℕ} where
   pub list-none : left ≡ 0 → at ≤ room → WritePost tab names s statements left row at c c at
-  unfolding nodes
-  list-none z low = record { within = low; says = λ ts G Γ w ss h l. none-wrote (firstNamed ts) G Γ (go ss (h .within)) }
+  unfolding nodes emit end
+  list-none z low =
+      nothing-wrote noStatements (λ ν G Γ. record { ends = refl; code = no-code }) low (λ ts few ss h. go ss (h .within))
     where
       go : (ss : Part statements) → nodes ss ≤ left → noStatements ≡ ss
       go noStatements few = refl
       go (sequence t ss) few = absurd (omega (arith, positive-statement t))
 
   pub list-end : absent ≤ row → at ≤ room → WritePost tab names s statements left row at c c at
-  list-end far low = record { within = low; says = λ ts G Γ w ss h l. none-wrote (firstNamed ts) G Γ (endedS (few-tokens w) far ss h) }
+  unfolding emit end
+  list-end far low =
+      nothing-wrote noStatements (λ ν G Γ. record { ends = refl; code = no-code }) low (λ ts few ss h. endedS few far ss h)
 
   pub list-more : (left ≡ 0 → ⊥) → row < absent → {a next r : ℕ} {c₁ c₂ : List ℕ} → WritePost tab names s statement left row at c c₁ a
       → next ≡ wordAt tab 6 row → WritePost tab names s statements (left - 1) next a c₁ c₂ r
@@ -266,6 +239,4 @@ module _ {tab names : List ℕ} {s : Scope} {left row at : ℕ} {c : List ℕ} w
       go : (ts : List Token) (G : List Class) (Γ : Context) → Sees tab names ts G Γ s → (ss : Part statements)
           → GoesOnS tab ts row (AtMost left statement) (AtMost (left - 1) statements) ss → end ss at ≤ room
           → Wrote (firstNamed ts) (emit G Γ ss at) (end ss at) at c c₂ r
-      go ts G Γ w t (one-more-statement {t = x} {ss = ss} y z) l =
-          let u = f .says ts G Γ w x y (omega (arith, grows ss (end x at))) in
-          next-to (emit G Γ ss) (end ss) u (g .says ts G Γ w ss (rw e₆ z) (rw (u .ends) l))
+      go ts G Γ w t (one-more-statement {t = x} {ss = ss} y z) l = both-wrote f g ts G Γ w x ss y (rw e₆ z) l
