@@ -11,16 +11,18 @@ use Rattle.parser.specs.Tree.{Sort.expression, Sort.statements, Method, Class}
 use Rattle.parser.specs.contracts.Layout.{absent, rowMethods}
 use Rattle.base.specs.contracts.Table.{col}
 use Rattle.typesystem.specs.ClassTable.{contextOf}
+use Rattle.lookup.specs.contracts.Shows.{PartAt}
 use Rattle.lookup.specs.contracts.HeldClasses.{wordAt, MethodHeld, MethodsHeld, more-methods}
 use Rattle.lookup.specs.laws.HeldLaws.{word-in, row-there}
 use Rattle.codegen.specs.contracts.Code.{return}
 use Rattle.codegen.specs.contracts.Compile.{end, emit, middle, valueEnd, endMethods, emitMethods}
 use Rattle.writer.specs.laws.Emits.{no-code}
 use Rattle.writer.specs.laws.Lengths.{grows}
-use Rattle.writer.specs.contracts.Shows.{NodesAt, Sees}
-use Rattle.writer.specs.contracts.Posts.{room, PutPost, Wrote, WritePost}
+use Rattle.writer.specs.contracts.Scoping.{Sees}
+use Rattle.writer.specs.contracts.Posts.{room, PutPost, Wrote, AtMost, WritePost}
 use Rattle.writer.specs.contracts.Methods.{SeesClass, entered, MethodPost, MethodsPost}
 use Rattle.writer.proofs.PieceLaws.{put-one, next-to}
+use Rattle.writer.proofs.ExpressionLaws.{both-wrote}
 
 -- a word of a row of a declaration
 word : (tab : List ℕ) (k : ℕ) {row r v w : ℕ} → w ≡ wordAt tab k row → r ≡ row → r < absent → col tab k r ≡ v → w ≡ v
@@ -52,12 +54,11 @@ method-wrote {tab} {names} {n} {row} {at} {p} {l} {first} {a} {second} {b} {r} {
               };
           sizes = w .sizes;
         } in
-        let x : NodesAt tab ts first n (F .body) = record { at = sym (word tab 4 e₄′ is′ near′ (h .start)); holds = h .body; matches = h .body-matches; few = h .body-nodes } in
-        let y : NodesAt tab ts second n (F .value) = record { at = sym (word tab 5 e₅′ is′ near′ (h .return)); holds = h .value; matches = h .value-matches; few = h .value-nodes } in
-        let u = f .says ts G (contextOf d F) sees (F .body) x (omega (arith, grows (F .value) (middle F at))) in
-        let v = g .says ts G (contextOf d F) sees (F .value) y (rw (u .ends) (omega arith)) in
-        next-to (λ j k. emit G (contextOf d F) (F .value) j (return ∷ k)) (λ j. suc (end (F .value) j)) u
-        (next-to (λ j k. return ∷ k) suc v (put-one return refl o (rw (v .ends, u .ends) low)))
+        let x : PartAt tab ts first (AtMost n statements) (F .body)
+        = record { at = sym (word tab 4 e₄′ is′ near′ (h .start)); holds = h .body; matches = h .body-matches; within = h .body-nodes } in
+        let y : PartAt tab ts second (AtMost n expression) (F .value) = record { at = sym (word tab 5 e₅′ is′ near′ (h .return)); holds = h .value; matches = h .value-matches; within = h .value-nodes } in
+        let u = both-wrote f g ts G (contextOf d F) sees (F .body) (F .value) x y (omega arith) in
+        next-to (λ j k. return ∷ k) suc u (put-one return refl o (rw (u .ends) low))
 
 pub grows-methods : (M : List Method) (i : ℕ) → i ≤ endMethods M i
 unfolding endMethods

@@ -12,6 +12,7 @@ use Rattle.parser.specs.Tree.{Sort.statement, Program}
 use Rattle.parser.specs.contracts.Layout.{absent, rowClasses}
 use Rattle.parser.specs.Grammar.{DerivesProgram}
 use Rattle.typesystem.specs.ClassTable.{mainContext}
+use Rattle.lookup.specs.contracts.Shows.{PartAt}
 use Rattle.lookup.specs.contracts.HeldClasses.{wordAt, no-name, no-variables}
 use Rattle.lookup.specs.laws.HeldLaws.{word-in}
 use Rattle.lookup.specs.contracts.Fields.{FieldsOf, FieldsFilled}
@@ -20,8 +21,8 @@ use Rattle.codegen.specs.contracts.Code.{halt}
 use Rattle.codegen.specs.contracts.Compile.{end, emit, emitClasses, compile}
 use Rattle.writer.specs.contracts.Words.{store}
 use Rattle.writer.specs.contracts.Sizing.{SizesHeld, SizesPost}
-use Rattle.writer.specs.contracts.Shows.{NodesAt, Sees}
-use Rattle.writer.specs.contracts.Posts.{room, PutPost, Wrote, WritePost}
+use Rattle.writer.specs.contracts.Scoping.{Sees}
+use Rattle.writer.specs.contracts.Posts.{room, PutPost, Wrote, AtMost, WritePost}
 use Rattle.writer.specs.contracts.Classes.{enteredClasses, ClassesPost}
 use Rattle.writer.specs.laws.Room.{program-room}
 use Rattle.writer.specs.contracts.Writing.{BeginPost, MainPost, Writes}
@@ -65,7 +66,7 @@ main-wrote {tab} {names} {n} {a} {r} {c} {c₁} {c₂} f o = record { within = o
               };
           sizes = sizes;
         } in
-        let x : NodesAt tab ts 14 n (p .statement) = record { at = w .row; holds = w .statement; matches = w .matches; few = w .statement-nodes } in
+        let x : PartAt tab ts 14 (AtMost n statement) (p .statement) = record { at = w .row; holds = w .statement; matches = w .matches; within = w .statement-nodes } in
         let u = f .says ts (p .classes) mainContext sees (p .statement) x (omega arith) in
         next-to (λ j k. halt ∷ k) suc u (put-one halt refl o (rw (u .ends) lim))
 

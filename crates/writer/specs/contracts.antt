@@ -3,7 +3,6 @@ pub mod Words
 pub mod Places
 pub mod Sizing
 pub mod Scoping
-pub mod Shows
 pub mod Posts
 pub mod Methods
 pub mod Classes

@@ -5,6 +5,7 @@ use crate::scope::Scope;
 use crate::scope::slot;
 use codegen::numbers;
 use lexer::kinds;
+use lookup::member::count;
 use lookup::rows::word;
 use parser::columns;
 use parser::columns::ABSENT;
@@ -13,39 +14,33 @@ use parser::table::kind;
 ghost use Prim.Native.Nat.{_≤_, _<_};
 ghost use lib.ListN.{length};
 ghost use Rattle.base.specs.Word.{modulus};
-ghost use Rattle.base.specs.contracts.Table.{rows};
-ghost use Rattle.base.specs.Codes.{tableLeast};
 ghost use Rattle.parser.specs.Tree.{Sort};
-ghost use Rattle.writer.specs.contracts.Shows.{Form, formAtom, formCompound};
-ghost use Rattle.writer.specs.contracts.Posts.{Writable, CountPost, WritePost, ExpressionPost, SinglePost, PairPost};
+ghost use Rattle.reader.specs.contracts.WalkPost.{Walkable};
+ghost use Rattle.lookup.specs.contracts.HeldClasses.{wordAt};
+ghost use Rattle.lookup.specs.contracts.Shows.{Form, formAtom, formCompound};
+ghost use Rattle.writer.specs.contracts.Posts.{Writable, PutPost, LoadPost, WritePost, ExpressionPost};
+ghost use Rattle.writer.specs.contracts.Posts.{FollowedPost, PairPost, ConjunctionPost};
 
-// How many arguments a list has, of which at most `left` may come.
-pub fn count(table: &[u32], left: usize, row: usize) -> usize
-    requires { ⌜ (tableLeast ≤ length (now table)) × (left ≤ rows) ⌝ }
-    ensures { λ r. ⌜ CountPost (now (table .entry)) left row r ⌝ }
+// The mark before a node: the position where it begins.
+pub fn mark(table: &[u32], code: &mut [u32], row: usize, at: usize) -> usize
+    requires { ⌜ (16384 ≤ length (now table)) × (at ≤ 8192) ⌝ }
+    ensures { λ r. ⌜ PutPost at 0 (wordAt (now (table .entry)) 3 row) 0 0 (now (code .entry)) (now (code .exit)) r ⌝ }
 {
-    if left == 0 {
-        return 0;
-    }
-    if ABSENT <= row {
-        return 0;
-    }
-    count(table, left - 1, word(table, columns::NEXT, row)) + 1
+    let start = word(table, columns::BEGIN, row);
+    put(code, at, numbers::MARK, start, 0, 0)
 }
 
-// A variable.
-fn name(
+// The value of the variable whose name stands in a row.
+pub fn loaded(
     table: &[u32],
     names: &[u32],
     code: &mut [u32],
     s: Scope,
-    left: usize,
     row: usize,
     at: usize,
 ) -> usize
-    requires { ⌜ Writable (now table) (now names) (now code) (s .tokens) left row at ⌝ }
-    ensures { λ r. ⌜ ExpressionPost (now (table .entry)) (now (names .entry)) s Form.aVariable left row at (now (code .entry))
-        (now (code .exit)) r ⌝ }
+    requires { ⌜ Walkable (now table) (s .tokens) × (4096 ≤ length (now names)) × (at ≤ 8192) ⌝ }
+    ensures { λ r. ⌜ LoadPost (now (table .entry)) (now (names .entry)) s row at (now (code .entry)) (now (code .exit)) r ⌝ }
 {
     let v = slot(table, names, s, word(table, columns::NUMBER, row));
     put(code, at, numbers::LOAD, v, 0, 0)
@@ -67,14 +62,8 @@ fn atom(
         (now (code .exit)) r ⌝ }
 {
     if k == kinds::LITERAL {
-        return put(
-            code,
-            at,
-            numbers::PUSH,
-            word(table, columns::NUMBER, row),
-            0,
-            0,
-        );
+        let value = word(table, columns::NUMBER, row);
+        return put(code, at, numbers::PUSH, value, 0, 0);
     }
     if k == kinds::TRUE {
         return put(code, at, numbers::PUSH, 1, 0, 0);
@@ -85,7 +74,7 @@ fn atom(
     if k == kinds::THIS {
         return put(code, at, numbers::SELF, 0, 0, 0);
     }
-    name(table, names, code, s, left, row, at)
+    loaded(table, names, code, s, row, at)
 }
 
 // `new C()`: the number of the class's name, and how many fields it has.
@@ -105,14 +94,8 @@ fn creation(
     let x = word(table, columns::NUMBER, row + 1);
     let start = word(table, columns::BEGIN, row);
     if x < ABSENT {
-        return put(
-            code,
-            at,
-            numbers::MAKE_OBJECT,
-            start,
-            x,
-            names[4096 + x] as usize,
-        );
+        let size = names[4096 + x] as usize;
+        return put(code, at, numbers::MAKE_OBJECT, start, x, size);
     }
     at
 }
@@ -135,28 +118,12 @@ pub fn expression(
         return at;
     }
     let k = kind(table, s.tokens, row);
-    let i = put(
-        code,
-        at,
-        numbers::MARK,
-        word(table, columns::BEGIN, row),
-        0,
-        0,
-    );
+    let i = mark(table, code, row, at);
     if is_atom(k) {
         return atom(table, names, code, s, k, left - 1, row, i);
     }
-    compound(
-        table,
-        names,
-        code,
-        s,
-        k,
-        kind(table, s.tokens, row + 1),
-        left - 1,
-        row,
-        i,
-    )
+    let after = kind(table, s.tokens, row + 1);
+    compound(table, names, code, s, k, after, left - 1, row, i)
 }
 
 // An expression of more than one token, of which this one is of kind k.
@@ -175,53 +142,31 @@ fn compound(
     ensures { λ r. ⌜ ExpressionPost (now (table .entry)) (now (names .entry)) s (formCompound k after) left row at (now (code .entry))
         (now (code .exit)) r ⌝ }
 {
-    let start = word(table, columns::BEGIN, row);
     if k == kinds::NEW {
         if after == kinds::INT {
-            return unary(
-                table,
-                names,
-                code,
-                s,
-                numbers::MAKE_ARRAY,
-                start,
-                left,
-                row,
-                at,
-            );
+            return located(table, names, code, s, numbers::MAKE_ARRAY, left, row, at);
         }
         return creation(table, names, code, s, left, row, at);
     }
     if k == kinds::DOT {
         if after == kinds::LENGTH {
-            return unary(
-                table,
-                names,
-                code,
-                s,
-                numbers::MEASURE,
-                start,
-                left,
-                row,
-                at,
-            );
+            return located(table, names, code, s, numbers::MEASURE, left, row, at);
         }
         return call(table, names, code, s, left, row, at);
     }
     if k == kinds::NOT {
-        return unary(table, names, code, s, numbers::NEGATE, 0, left, row, at);
+        let first = word(table, columns::FIRST, row);
+        return followed(table, names, code, s, numbers::NEGATE, 0, left, first, at);
     }
     if k == kinds::OPEN_BRACKET {
+        let start = word(table, columns::BEGIN, row);
         return pair(table, names, code, s, numbers::FETCH, start, left, row, at);
     }
-    if k == kinds::AND {
-        return conjunction(table, names, code, s, left, row, at);
-    }
-    operation(table, names, code, s, left, row, at)
+    binary(table, names, code, s, left, row, at)
 }
 
-// Both values, then the operator.
-fn operation(
+// Both values and the operator; of `&&` the right value only where it is needed.
+fn binary(
     table: &[u32],
     names: &[u32],
     code: &mut [u32],
@@ -231,15 +176,29 @@ fn operation(
     at: usize,
 ) -> usize
     requires { ⌜ Writable (now table) (now names) (now code) (s .tokens) left row at ⌝ }
-    ensures { λ r. ⌜ ExpressionPost (now (table .entry)) (now (names .entry)) s Form.anOperation left row at (now (code .entry))
+    ensures { λ r. ⌜ ExpressionPost (now (table .entry)) (now (names .entry)) s Form.aBinary left row at (now (code .entry))
         (now (code .exit)) r ⌝ }
 {
-    let k = kind(table, s.tokens, row) as usize;
-    pair(table, names, code, s, numbers::OPERATE, k, left, row, at)
+    let k = kind(table, s.tokens, row);
+    if k == kinds::AND {
+        return conjunction(table, names, code, s, left, row, at);
+    }
+    let operator = k as usize;
+    pair(
+        table,
+        names,
+        code,
+        s,
+        numbers::OPERATE,
+        operator,
+        left,
+        row,
+        at,
+    )
 }
 
-// One part, then an instruction.
-pub fn unary(
+// The expression in a row, and an instruction behind it.
+pub fn followed(
     table: &[u32],
     names: &[u32],
     code: &mut [u32],
@@ -251,21 +210,34 @@ pub fn unary(
     at: usize,
 ) -> usize
     requires { ⌜ Writable (now table) (now names) (now code) (s .tokens) left row at × (op < modulus) × (arg < modulus) ⌝ }
-    ensures { λ r. ⌜ SinglePost (now (table .entry)) (now (names .entry)) s op arg left row at (now (code .entry)) (now (code .exit)) r ⌝ }
+    ensures { λ r. ⌜ FollowedPost (now (table .entry)) (now (names .entry)) s op arg left row at (now (code .entry))
+        (now (code .exit)) r ⌝ }
 {
-    let a = expression(
-        table,
-        names,
-        code,
-        s,
-        left,
-        word(table, columns::FIRST, row),
-        at,
-    );
+    let a = expression(table, names, code, s, left, row, at);
     put(code, a, op, arg, 0, 0)
 }
 
-// Two parts, then an instruction.
+// A node's first part, and an instruction that has the position where the node begins.
+pub fn located(
+    table: &[u32],
+    names: &[u32],
+    code: &mut [u32],
+    s: Scope,
+    op: usize,
+    left: usize,
+    row: usize,
+    at: usize,
+) -> usize
+    requires { ⌜ Writable (now table) (now names) (now code) (s .tokens) left row at × (op < modulus) ⌝ }
+    ensures { λ r. ⌜ FollowedPost (now (table .entry)) (now (names .entry)) s op (wordAt (now (table .entry)) 3 row) left
+        (wordAt (now (table .entry)) 4 row) at (now (code .entry)) (now (code .exit)) r ⌝ }
+{
+    let start = word(table, columns::BEGIN, row);
+    let first = word(table, columns::FIRST, row);
+    followed(table, names, code, s, op, start, left, first, at)
+}
+
+// A node's first part, and the second, followed by an instruction.
 pub fn pair(
     table: &[u32],
     names: &[u32],
@@ -280,25 +252,10 @@ pub fn pair(
     requires { ⌜ Writable (now table) (now names) (now code) (s .tokens) left row at × (op < modulus) × (arg < modulus) ⌝ }
     ensures { λ r. ⌜ PairPost (now (table .entry)) (now (names .entry)) s op arg left row at (now (code .entry)) (now (code .exit)) r ⌝ }
 {
-    let a = expression(
-        table,
-        names,
-        code,
-        s,
-        left,
-        word(table, columns::FIRST, row),
-        at,
-    );
-    let b = expression(
-        table,
-        names,
-        code,
-        s,
-        left,
-        word(table, columns::SECOND, row),
-        a,
-    );
-    put(code, b, op, arg, 0, 0)
+    let first = word(table, columns::FIRST, row);
+    let a = expression(table, names, code, s, left, first, at);
+    let second = word(table, columns::SECOND, row);
+    followed(table, names, code, s, op, arg, left, second, a)
 }
 
 // The left value, the right one, and before it the jump over it.
@@ -312,27 +269,12 @@ fn conjunction(
     at: usize,
 ) -> usize
     requires { ⌜ Writable (now table) (now names) (now code) (s .tokens) left row at ⌝ }
-    ensures { λ r. ⌜ ExpressionPost (now (table .entry)) (now (names .entry)) s Form.aConjunction left row at (now (code .entry))
-        (now (code .exit)) r ⌝ }
+    ensures { λ r. ⌜ ConjunctionPost (now (table .entry)) (now (names .entry)) s left row at (now (code .entry)) (now (code .exit)) r ⌝ }
 {
-    let a = expression(
-        table,
-        names,
-        code,
-        s,
-        left,
-        word(table, columns::FIRST, row),
-        at,
-    );
-    let b = expression(
-        table,
-        names,
-        code,
-        s,
-        left,
-        word(table, columns::SECOND, row),
-        next(a),
-    );
+    let first = word(table, columns::FIRST, row);
+    let a = expression(table, names, code, s, left, first, at);
+    let second = word(table, columns::SECOND, row);
+    let b = expression(table, names, code, s, left, second, next(a));
     put(code, a, numbers::KEEP, b, 0, 0);
     b
 }
@@ -351,23 +293,18 @@ fn call(
     ensures { λ r. ⌜ ExpressionPost (now (table .entry)) (now (names .entry)) s Form.aCall left row at (now (code .entry))
         (now (code .exit)) r ⌝ }
 {
-    let a = expression(
-        table,
-        names,
-        code,
-        s,
-        left,
-        word(table, columns::FIRST, row),
-        at,
-    );
+    let first = word(table, columns::FIRST, row);
+    let a = expression(table, names, code, s, left, first, at);
     let given = word(table, columns::SECOND, row);
     let b = arguments(table, names, code, s, left, given, a);
+    let start = word(table, columns::BEGIN, row);
+    let method = word(table, columns::NUMBER, row + 1);
     put(
         code,
         b,
         numbers::CALL,
-        word(table, columns::BEGIN, row),
-        word(table, columns::NUMBER, row + 1),
+        start,
+        method,
         count(table, left, given),
     )
 }
@@ -393,13 +330,6 @@ fn arguments(
         return at;
     }
     let a = expression(table, names, code, s, left, row, at);
-    arguments(
-        table,
-        names,
-        code,
-        s,
-        left - 1,
-        word(table, columns::NEXT, row),
-        a,
-    )
+    let rest = word(table, columns::NEXT, row);
+    arguments(table, names, code, s, left - 1, rest, a)
 }

@@ -2,8 +2,11 @@
 use crate::code::next;
 use crate::code::put;
 use crate::expr::expression;
+use crate::expr::followed;
+use crate::expr::loaded;
+use crate::expr::located;
+use crate::expr::mark;
 use crate::expr::pair;
-use crate::expr::unary;
 use crate::scope::Scope;
 use crate::scope::slot;
 use codegen::numbers;
@@ -14,35 +17,9 @@ use parser::columns::ABSENT;
 use parser::table::kind;
 ghost use Prim.Native.Nat.{_≤_};
 ghost use Rattle.parser.specs.Tree.{Sort};
-ghost use Rattle.writer.specs.contracts.Shows.{Form};
-ghost use Rattle.writer.specs.contracts.Posts.{Writable, WritePost, StatementPost, BranchesPost, OtherwisePost, BodyPost};
-
-// The number, and its printing.
-fn printed(
-    table: &[u32],
-    names: &[u32],
-    code: &mut [u32],
-    s: Scope,
-    left: usize,
-    row: usize,
-    at: usize,
-) -> usize
-    requires { ⌜ Writable (now table) (now names) (now code) (s .tokens) left row at ⌝ }
-    ensures { λ r. ⌜ StatementPost (now (table .entry)) (now (names .entry)) s Form.aPrint left row at (now (code .entry))
-        (now (code .exit)) r ⌝ }
-{
-    unary(
-        table,
-        names,
-        code,
-        s,
-        numbers::PRINT,
-        word(table, columns::BEGIN, row),
-        left,
-        row,
-        at,
-    )
-}
+ghost use Rattle.lookup.specs.contracts.Shows.{Form};
+ghost use Rattle.writer.specs.contracts.Posts.{Writable, WritePost, formTested, StatementPost, BranchesPost, OtherwisePost};
+ghost use Rattle.writer.specs.contracts.Posts.{BodyPost};
 
 // The value, and its store.
 fn assigned(
@@ -59,7 +36,8 @@ fn assigned(
         (now (code .exit)) r ⌝ }
 {
     let v = slot(table, names, s, word(table, columns::NUMBER, row));
-    unary(table, names, code, s, numbers::SAVE, v, left, row, at)
+    let first = word(table, columns::FIRST, row);
+    followed(table, names, code, s, numbers::SAVE, v, left, first, at)
 }
 
 // The array, the index, the value, and the store.
@@ -76,15 +54,15 @@ fn element(
     ensures { λ r. ⌜ StatementPost (now (table .entry)) (now (names .entry)) s Form.anElementStore left row at (now (code .entry))
         (now (code .exit)) r ⌝ }
 {
-    let v = slot(table, names, s, word(table, columns::NUMBER, row));
-    let i = put(code, at, numbers::LOAD, v, 0, 0);
+    let i = loaded(table, names, code, s, row, at);
+    let start = word(table, columns::BEGIN, row);
     pair(
         table,
         names,
         code,
         s,
         numbers::STORE_ELEMENT,
-        word(table, columns::BEGIN, row),
+        start,
         left,
         row,
         i,
@@ -109,42 +87,19 @@ pub fn single(
         return at;
     }
     let k = kind(table, s.tokens, row);
-    let i = put(
-        code,
-        at,
-        numbers::MARK,
-        word(table, columns::BEGIN, row),
-        0,
-        0,
-    );
+    let i = mark(table, code, row, at);
     if k == kinds::OPEN_BRACE {
-        return list(
-            table,
-            names,
-            code,
-            s,
-            left - 1,
-            word(table, columns::FIRST, row),
-            i,
-        );
+        let first = word(table, columns::FIRST, row);
+        return list(table, names, code, s, left - 1, first, i);
     }
     if k == kinds::IF {
-        return conditional(table, names, code, s, left - 1, row, i);
+        return tested(table, names, code, s, k, left - 1, row, i);
     }
     if k == kinds::WHILE {
-        let a = expression(
-            table,
-            names,
-            code,
-            s,
-            left - 1,
-            word(table, columns::FIRST, row),
-            i,
-        );
-        return body(table, names, code, s, left - 1, row, i, a);
+        return tested(table, names, code, s, k, left - 1, row, i);
     }
     if k == kinds::SYSTEM {
-        return printed(table, names, code, s, left - 1, row, i);
+        return located(table, names, code, s, numbers::PRINT, left - 1, row, i);
     }
     if kind(table, s.tokens, row + 1) == kinds::OPEN_BRACKET {
         return element(table, names, code, s, left - 1, row, i);
@@ -152,30 +107,27 @@ pub fn single(
     assigned(table, names, code, s, left - 1, row, i)
 }
 
-// `if`: the test, then the branches.
-fn conditional(
+// The test, then what it decides: of `if`, whose kind is k, the branches, and else the body of `while`.
+fn tested(
     table: &[u32],
     names: &[u32],
     code: &mut [u32],
     s: Scope,
+    k: u32,
     left: usize,
     row: usize,
     at: usize,
 ) -> usize
     requires { ⌜ Writable (now table) (now names) (now code) (s .tokens) left row at ⌝ }
-    ensures { λ r. ⌜ StatementPost (now (table .entry)) (now (names .entry)) s Form.aConditional left row at (now (code .entry))
+    ensures { λ r. ⌜ StatementPost (now (table .entry)) (now (names .entry)) s (formTested k) left row at (now (code .entry))
         (now (code .exit)) r ⌝ }
 {
-    let a = expression(
-        table,
-        names,
-        code,
-        s,
-        left,
-        word(table, columns::FIRST, row),
-        at,
-    );
-    branches(table, names, code, s, left, row, a)
+    let first = word(table, columns::FIRST, row);
+    let a = expression(table, names, code, s, left, first, at);
+    if k == kinds::IF {
+        return branches(table, names, code, s, left, row, a);
+    }
+    body(table, names, code, s, left, row, at, a)
 }
 
 // The first branch, behind a jump over it, and the second.
@@ -191,15 +143,8 @@ fn branches(
     requires { ⌜ Writable (now table) (now names) (now code) (s .tokens) left row at ⌝ }
     ensures { λ r. ⌜ BranchesPost (now (table .entry)) (now (names .entry)) s left row at (now (code .entry)) (now (code .exit)) r ⌝ }
 {
-    let b = single(
-        table,
-        names,
-        code,
-        s,
-        left,
-        word(table, columns::SECOND, row),
-        next(at),
-    );
+    let second = word(table, columns::SECOND, row);
+    let b = single(table, names, code, s, left, second, next(at));
     let r = otherwise(table, names, code, s, left, row, b);
     put(code, at, numbers::UNLESS, next(b), 0, 0);
     r
@@ -218,15 +163,8 @@ fn otherwise(
     requires { ⌜ Writable (now table) (now names) (now code) (s .tokens) left row at ⌝ }
     ensures { λ r. ⌜ OtherwisePost (now (table .entry)) (now (names .entry)) s left row at (now (code .entry)) (now (code .exit)) r ⌝ }
 {
-    let r = single(
-        table,
-        names,
-        code,
-        s,
-        left,
-        word(table, columns::THIRD, row),
-        next(at),
-    );
+    let third = word(table, columns::THIRD, row);
+    let r = single(table, names, code, s, left, third, next(at));
     put(code, at, numbers::JUMP, r, 0, 0);
     r
 }
@@ -245,15 +183,8 @@ fn body(
     requires { ⌜ Writable (now table) (now names) (now code) (s .tokens) left row at × (top ≤ 8192) ⌝ }
     ensures { λ r. ⌜ BodyPost (now (table .entry)) (now (names .entry)) s left row top at (now (code .entry)) (now (code .exit)) r ⌝ }
 {
-    let b = single(
-        table,
-        names,
-        code,
-        s,
-        left,
-        word(table, columns::SECOND, row),
-        next(at),
-    );
+    let second = word(table, columns::SECOND, row);
+    let b = single(table, names, code, s, left, second, next(at));
     let r = put(code, b, numbers::JUMP, top, 0, 0);
     put(code, at, numbers::UNLESS, r, 0, 0);
     r
@@ -280,13 +211,6 @@ pub fn list(
         return at;
     }
     let a = single(table, names, code, s, left, row, at);
-    list(
-        table,
-        names,
-        code,
-        s,
-        left - 1,
-        word(table, columns::NEXT, row),
-        a,
-    )
+    let rest = word(table, columns::NEXT, row);
+    list(table, names, code, s, left - 1, rest, a)
 }

@@ -3,23 +3,30 @@ use Prim.Native.Nat.{ℕ, suc, _≤_, _<_}
 use mathlib.Core.Path.{_≡_}
 use mathlib.Core.List.{List, _∷_}
 use lib.ListN.{length}
+use lib.Dec.{eqb}
+use Rattle.base.specs.Choice.{if_then_else_}
+use Rattle.lexer.specs.Kinds.{kIf}
 use Rattle.lexer.specs.Tokens.{Token}
 use Rattle.lexer.specs.contracts.Rows.{firstNamed}
-use Rattle.parser.specs.Tree.{Sort, Sort.arguments, Part, Expression, Statement, Class}
-use Rattle.parser.specs.Tree.{Part.literal, Part.truth, Part.variable, Part.this, Part.newArray, Part.newObject, Part.negation, Part.binary, Part.element, Part.arrayLength, Part.call}
+use Rattle.parser.specs.Tree.{Sort, Sort.expression, Sort.statement, Part, Expression, Statement, Class}
+use Rattle.parser.specs.Tree.{Part.literal, Part.truth, Part.variable, Part.this, Part.newArray, Part.newObject, Part.negation, Part.binary}
+use Rattle.parser.specs.Tree.{Part.element, Part.arrayLength, Part.call}
 use Rattle.parser.specs.Tree.{Part.block, Part.conditional, Part.loop, Part.print, Part.assign, Part.assignElement}
+use Rattle.parser.specs.Measure.{nodes}
 use Rattle.reader.specs.contracts.WalkPost.{Walkable}
 use Rattle.typesystem.specs.ClassTable.{Context, meaning}
 use Rattle.typesystem.specs.Judge.{arity}
-use Rattle.lookup.specs.contracts.HeldClasses.{wordAt}
+use Rattle.lookup.specs.contracts.HeldClasses.{wordAt, NameNumber}
+use Rattle.lookup.specs.contracts.Shows.{PartAt, Form, aConditional, aLoop, Shows, ShowsS}
 use Rattle.semantics.specs.Machine.{number, flag, isAnd}
 use Rattle.writer.specs.declared.scope.Scope.{Scope}
 use Rattle.codegen.specs.contracts.Code as Code
-use Rattle.codegen.specs.contracts.Code.{Instruction, push, load, save, self, negate, jump, unless, fetch, measure, makeArray, makeObject, storeElement}
+use Rattle.codegen.specs.contracts.Code.{Instruction, push, load, save, self, negate, jump, unless, keep, fetch, measure}
+use Rattle.codegen.specs.contracts.Code.{makeArray, makeObject, storeElement}
 use Rattle.codegen.specs.contracts.Compile.{endBinary, emitBinary, end, emit, cellsOf}
 use Rattle.writer.specs.contracts.Words.{words, encode, putAt}
+use Rattle.writer.specs.contracts.Scoping.{Sees}
 use Rattle.writer.specs.laws.Emits.{Emits}
-use Rattle.writer.specs.contracts.Shows.{NodesAt, Sees, Form, Shows, ShowsS}
 
 -- how many instructions there is room for
 abbrev pub room : ℕ
@@ -98,42 +105,81 @@ endS (print p e) i = suc (end e i)
 endS (assign p x e) i = suc (end e i)
 endS (assignElement p x a e) i = suc (end e (end a (suc i)))
 
+-- PARTS AND FORMS
+
+-- a part of at most so many nodes
+abbrev pub AtMost : ℕ → (s : Sort) → Part s → Type 0
+AtMost left s t = nodes t ≤ left
+
+-- of a statement that has a test, by the kind of its first token
+unfoldable pub formTested : ℕ → Form
+formTested k = if eqb k kIf then (λ _. aConditional) else λ _. aLoop
+
 module _ (tab names : List ℕ) (s : Scope) where
   -- a part
   pub record WritePost (q : Sort) (left row at : ℕ) (c c′ : List ℕ) (r : ℕ) : Type 0 where
     pub within : r ≤ room
-    pub says : (ts : List Token) (G : List Class) (Γ : Context) → Sees tab names ts G Γ s → (t : Part q) → NodesAt tab ts row left t → end t at ≤ room
-        → Wrote (firstNamed ts) (emit G Γ t at) (end t at) at c c′ r
+    pub says : (ts : List Token) (G : List Class) (Γ : Context) → Sees tab names ts G Γ s → (t : Part q)
+        → PartAt tab ts row (AtMost left q) t → end t at ≤ room → Wrote (firstNamed ts) (emit G Γ t at) (end t at) at c c′ r
 
   -- an expression, a statement, whose row shows this form
+  abbrev pub Says : (F : Form) (left row at : ℕ) (c c′ : List ℕ) (r : ℕ) → Type 0
+  Says F left row at c c′ r =
+      (ts : List Token) (G : List Class) (Γ : Context) → Sees tab names ts G Γ s → (e : Expression)
+      → Shows tab ts (s .tokens) row (AtMost left) (AtMost left) F e → endE e at ≤ room
+      → Wrote (firstNamed ts) (innerE G Γ e at) (endE e at) at c c′ r
+
   pub record ExpressionPost (F : Form) (left row at : ℕ) (c c′ : List ℕ) (r : ℕ) : Type 0 where
     pub within : r ≤ room
-    pub says : (ts : List Token) (G : List Class) (Γ : Context) → Sees tab names ts G Γ s → (e : Expression) → Shows tab ts (s .tokens) row left F e → endE e at ≤ room
-        → Wrote (firstNamed ts) (innerE G Γ e at) (endE e at) at c c′ r
+    pub says : Says F left row at c c′ r
+
+  abbrev pub SaysS : (F : Form) (left row at : ℕ) (c c′ : List ℕ) (r : ℕ) → Type 0
+  SaysS F left row at c c′ r =
+      (ts : List Token) (G : List Class) (Γ : Context) → Sees tab names ts G Γ s → (t : Statement)
+      → ShowsS tab ts (s .tokens) row (AtMost left) (AtMost left) F t → endS t at ≤ room
+      → Wrote (firstNamed ts) (innerS G Γ t at) (endS t at) at c c′ r
 
   pub record StatementPost (F : Form) (left row at : ℕ) (c c′ : List ℕ) (r : ℕ) : Type 0 where
     pub within : r ≤ room
-    pub says : (ts : List Token) (G : List Class) (Γ : Context) → Sees tab names ts G Γ s → (t : Statement) → ShowsS tab ts (s .tokens) row left F t → endS t at ≤ room
-        → Wrote (firstNamed ts) (innerS G Γ t at) (endS t at) at c c′ r
+    pub says : SaysS F left row at c c′ r
 
-  -- one part, or two, and an instruction with these words
-  pub record SinglePost (op arg left row at : ℕ) (c c′ : List ℕ) (r : ℕ) : Type 0 where
+  -- the value of a variable
+  pub record LoadPost (row at : ℕ) (c c′ : List ℕ) (r : ℕ) : Type 0 where
     pub within : r ≤ room
-    pub says : (ts : List Token) (G : List Class) (Γ : Context) → Sees tab names ts G Γ s → (x : Instruction) → words op arg 0 0 ≡ encode (firstNamed ts) x
-        → (e : Expression) → NodesAt tab ts (wordAt tab 4 row) left e → suc (end e at) ≤ room
-        → Wrote (firstNamed ts) (λ k. emit G Γ e at (x ∷ k)) (suc (end e at)) at c c′ r
+    pub says : (ts : List Token) (G : List Class) (Γ : Context) → Sees tab names ts G Γ s → (x : List ℕ)
+        → NameNumber ts x (wordAt tab 2 row) → suc at ≤ room
+        → Wrote (firstNamed ts) (λ k. load (meaning G Γ x) ∷ k) (suc at) at c c′ r
+
+  -- the expression in a row and an instruction with these words; the two parts of the node in a row and such an instruction
+  pub record FollowedPost (op arg left row at : ℕ) (c c′ : List ℕ) (r : ℕ) : Type 0 where
+    pub within : r ≤ room
+    pub says : (ts : List Token) (G : List Class) (Γ : Context) → Sees tab names ts G Γ s → (x : Instruction)
+        → words op arg 0 0 ≡ encode (firstNamed ts) x → (e : Expression) → PartAt tab ts row (AtMost left expression) e
+        → suc (end e at) ≤ room → Wrote (firstNamed ts) (λ k. emit G Γ e at (x ∷ k)) (suc (end e at)) at c c′ r
 
   pub record PairPost (op arg left row at : ℕ) (c c′ : List ℕ) (r : ℕ) : Type 0 where
     pub within : r ≤ room
-    pub says : (ts : List Token) (G : List Class) (Γ : Context) → Sees tab names ts G Γ s → (x : Instruction) → words op arg 0 0 ≡ encode (firstNamed ts) x
-        → (a b : Expression) → NodesAt tab ts (wordAt tab 4 row) left a → NodesAt tab ts (wordAt tab 5 row) left b → suc (end b (end a at)) ≤ room
+    pub says : (ts : List Token) (G : List Class) (Γ : Context) → Sees tab names ts G Γ s → (x : Instruction)
+        → words op arg 0 0 ≡ encode (firstNamed ts) x → (a b : Expression)
+        → PartAt tab ts (wordAt tab 4 row) (AtMost left expression) a → PartAt tab ts (wordAt tab 5 row) (AtMost left expression) b
+        → suc (end b (end a at)) ≤ room
         → Wrote (firstNamed ts) (λ k. emit G Γ a at (emit G Γ b (end a at) (x ∷ k))) (suc (end b (end a at))) at c c′ r
+
+  -- the two parts of the node in a row, the second behind a jump over it
+  pub record ConjunctionPost (left row at : ℕ) (c c′ : List ℕ) (r : ℕ) : Type 0 where
+    pub within : r ≤ room
+    pub says : (ts : List Token) (G : List Class) (Γ : Context) → Sees tab names ts G Γ s → (a b : Expression)
+        → PartAt tab ts (wordAt tab 4 row) (AtMost left expression) a → PartAt tab ts (wordAt tab 5 row) (AtMost left expression) b
+        → end b (suc (end a at)) ≤ room
+        → Wrote (firstNamed ts) (λ k. emit G Γ a at (keep (end b (suc (end a at))) ∷ emit G Γ b (suc (end a at)) k))
+        (end b (suc (end a at))) at c c′ r
 
   -- the test's jump, the first branch, and the second
   pub record BranchesPost (left row at : ℕ) (c c′ : List ℕ) (r : ℕ) : Type 0 where
     pub within : r ≤ room
-    pub says : (ts : List Token) (G : List Class) (Γ : Context) → Sees tab names ts G Γ s → (y z : Statement) → NodesAt tab ts (wordAt tab 5 row) left y
-        → NodesAt tab ts (wordAt tab 7 row) left z → end z (suc (end y (suc at))) ≤ room
+    pub says : (ts : List Token) (G : List Class) (Γ : Context) → Sees tab names ts G Γ s → (y z : Statement)
+        → PartAt tab ts (wordAt tab 5 row) (AtMost left statement) y → PartAt tab ts (wordAt tab 7 row) (AtMost left statement) z
+        → end z (suc (end y (suc at))) ≤ room
         → Wrote (firstNamed ts)
         (λ k. unless (suc (end y (suc at))) ∷ emit G Γ y (suc at) (jump (end z (suc (end y (suc at)))) ∷ emit G Γ z (suc (end y (suc at))) k))
         (end z (suc (end y (suc at)))) at c c′ r
@@ -141,16 +187,13 @@ module _ (tab names : List ℕ) (s : Scope) where
   -- the jump over the second branch, and the branch
   pub record OtherwisePost (left row at : ℕ) (c c′ : List ℕ) (r : ℕ) : Type 0 where
     pub within : r ≤ room
-    pub says : (ts : List Token) (G : List Class) (Γ : Context) → Sees tab names ts G Γ s → (z : Statement) → NodesAt tab ts (wordAt tab 7 row) left z → end z (suc at) ≤ room
+    pub says : (ts : List Token) (G : List Class) (Γ : Context) → Sees tab names ts G Γ s → (z : Statement)
+        → PartAt tab ts (wordAt tab 7 row) (AtMost left statement) z → end z (suc at) ≤ room
         → Wrote (firstNamed ts) (λ k. jump (end z (suc at)) ∷ emit G Γ z (suc at) k) (end z (suc at)) at c c′ r
 
   -- the test's jump, the body, and the jump back
   pub record BodyPost (left row top at : ℕ) (c c′ : List ℕ) (r : ℕ) : Type 0 where
     pub within : r ≤ room
-    pub says : (ts : List Token) (G : List Class) (Γ : Context) → Sees tab names ts G Γ s → (y : Statement) → NodesAt tab ts (wordAt tab 5 row) left y → suc (end y (suc at)) ≤ room
+    pub says : (ts : List Token) (G : List Class) (Γ : Context) → Sees tab names ts G Γ s → (y : Statement)
+        → PartAt tab ts (wordAt tab 5 row) (AtMost left statement) y → suc (end y (suc at)) ≤ room
         → Wrote (firstNamed ts) (λ k. unless (suc (end y (suc at))) ∷ emit G Γ y (suc at) (jump top ∷ k)) (suc (end y (suc at))) at c c′ r
-
--- how many arguments lie in a list
-pub record CountPost (tab : List ℕ) (left row r : ℕ) : Type 0 where
-  pub within : r ≤ left
-  pub says : (ts : List Token) → length ts ≤ 2048 → (es : Part arguments) → NodesAt tab ts row left es → r ≡ arity es

@@ -10,6 +10,7 @@ use Rattle.lookup.specs.contracts.HeldClasses.{NameNumber, ListedAt, ClassTable
 use Rattle.lookup.specs.contracts.Fields.{FieldsOf}
 use Rattle.writer.specs.declared.scope.Scope.{Scope}
 use Rattle.writer.specs.contracts.Words.{slotOf}
+use Rattle.writer.specs.contracts.Sizing.{SizesHeld}
 
 -- the scope and the array are those of the context
 pub record CodeScope (tab names : List ℕ) (ts : List Token) (G : List Class) (Γ : Context) (s : Scope) : Type 0 where
@@ -20,6 +21,12 @@ pub record CodeScope (tab names : List ℕ) (ts : List Token) (G : List Class) (
   pub seen : Γ .variables ≡ given ++ own
   pub given-listed : ListedAt tab (s .tokens) ts (s .parameters) given
   pub own-listed : ListedAt tab (s .tokens) ts (s .locals) own
+
+-- What a body sees. `names` has, by the number of a name, what a field of that name means, and from word 4,096 on how many fields an
+-- object of a class of that name holds.
+pub record Sees (tab names : List ℕ) (ts : List Token) (G : List Class) (Γ : Context) (s : Scope) : Type 0 where
+  pub scope : CodeScope tab names ts G Γ s
+  pub sizes : SizesHeld ts G names
 
 pub record SlotPost (tab names : List ℕ) (s : Scope) (x : ℕ) (r : ℕ) : Type 0 where
   pub most : r < 4294967296

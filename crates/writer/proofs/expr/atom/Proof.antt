@@ -43,8 +43,8 @@ same-length-4 c = search needs
 returns-4 : tie.Need-returns-4
 returns-4 c = search atom-this
 
-name-requires : tie.Need-name-requires
-name-requires c κs = search needs
+loaded-requires : tie.Need-loaded-requires
+loaded-requires c κs = search needs
 
 same-length-5 : tie.Need-same-length-5
 same-length-5 c = search needs
@@ -69,6 +69,6 @@ atom-spec =
     put-requires-4
     same-length-4
     returns-4
-    name-requires
+    loaded-requires
     same-length-5
     returns-5)

@@ -16,20 +16,20 @@ word-requires c κs = search needs
 word-requires-2 : tie.Need-word-requires-2
 word-requires-2 c κs = search needs
 
-add-put : tie.Need-add-put
-add-put c = search needs
+add-size : tie.Need-add-size
+add-size c = search needs
 
-mul-put : tie.Need-mul-put
-mul-put c = search needs
+mul-size : tie.Need-mul-size
+mul-size c = search needs
 
-shared-slice-read-put : tie.Need-shared-slice-read-put
-shared-slice-read-put c = search needs
+shared-slice-read-size : tie.Need-shared-slice-read-size
+shared-slice-read-size c = search needs
 
-cast-put : tie.Need-cast-put
-cast-put c = omega (arith, c .shared-slice-known3 .given (4096 + c .before .before .before .before .word .result))
+cast-size : tie.Need-cast-size
+cast-size c = omega (arith, c .shared-slice-known3 .given (4096 + c .before .before .before .word .result))
 
 put-requires : tie.Need-put-requires
-put-requires c κs = omega (arith, c .shared-slice-known3 .given (4096 + c .before .before .before .before .word .result))
+put-requires c κs = omega (arith, c .before .shared-slice-known3 .given (4096 + c .before .before .before .before .word .result))
 
 same-length : tie.Need-same-length
 same-length c = search needs
@@ -47,10 +47,10 @@ creation-spec =
     add-word
     word-requires
     word-requires-2
-    add-put
-    mul-put
-    shared-slice-read-put
-    cast-put
+    add-size
+    mul-size
+    shared-slice-read-size
+    cast-size
     put-requires
     same-length
     returns

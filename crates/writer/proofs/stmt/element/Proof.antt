@@ -4,17 +4,11 @@ use borrow.Author.Needs.{needs}
 use Rattle.writer.proofs.stmt.element.Statement.{statement}
 use Rattle.writer.proofs.stmt.element.Tie as tie
 
+loaded-requires : tie.Need-loaded-requires
+loaded-requires c κs = search needs
+
 word-requires : tie.Need-word-requires
 word-requires c κs = search needs
-
-slot-requires : tie.Need-slot-requires
-slot-requires c κs = search needs
-
-put-requires : tie.Need-put-requires
-put-requires c κs = search needs
-
-word-requires-2 : tie.Need-word-requires-2
-word-requires-2 c κs = search needs
 
 pair-requires : tie.Need-pair-requires
 pair-requires c κs = search needs
@@ -26,13 +20,4 @@ returns : tie.Need-returns
 returns c = search element-wrote
 
 pub element-spec : {M : Type 1} → statement M
-element-spec =
-    tie.close
-    (tie.spec
-    word-requires
-    slot-requires
-    put-requires
-    word-requires-2
-    pair-requires
-    same-length
-    returns)
+element-spec = tie.close (tie.spec loaded-requires word-requires pair-requires same-length returns)

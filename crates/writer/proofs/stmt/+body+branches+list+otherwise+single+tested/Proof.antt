@@ -1,38 +1,41 @@
 -- The cycle of calls on statements. The measure is 4 for each node that may still come, and the rank of the function. Each return is a
 -- law of `StatementLaws`.
-use Rattle.writer.proofs.StatementLaws.{statement-none, statement-block, statement-if, statement-while, statement-print, statement-element, statement-assignment, list-none, list-end, list-more, conditional-wrote, branches-wrote, otherwise-wrote, loop-wrote, body-wrote}
+use Rattle.writer.proofs.StatementLaws.{statement-none, statement-block, statement-if, statement-while, statement-print}
+use Rattle.writer.proofs.StatementLaws.{statement-element, statement-assignment, conditional-wrote, loop-wrote, branches-wrote}
+use Rattle.writer.proofs.StatementLaws.{otherwise-wrote, body-wrote, list-none, list-end, list-more}
+use borrow.Author.Needs.{needs}
 use Prim.Native.Nat.{ℕ, _<_}
 use borrow.Fn.Kinds.{In}
 use borrow.Fn.PlainCycle.{Measures, is, falls, and}
 use Rattle.writer.proofs.stmt.body.Reads as body
 use Rattle.writer.proofs.stmt.body.Kinds as body-kinds
-use Rattle.writer.proofs.stmt.+body+branches+conditional+list+otherwise+single.Lts-body as body-lts
+use Rattle.writer.proofs.stmt.+body+branches+list+otherwise+single+tested.Lts-body as body-lts
 use Rattle.writer.proofs.stmt.branches.Reads as branches
 use Rattle.writer.proofs.stmt.branches.Kinds as branches-kinds
-use Rattle.writer.proofs.stmt.+body+branches+conditional+list+otherwise+single.Lts-branches as branches-lts
-use Rattle.writer.proofs.stmt.conditional.Reads as conditional
-use Rattle.writer.proofs.stmt.conditional.Kinds as conditional-kinds
-use Rattle.writer.proofs.stmt.+body+branches+conditional+list+otherwise+single.Lts-conditional as conditional-lts
+use Rattle.writer.proofs.stmt.+body+branches+list+otherwise+single+tested.Lts-branches as branches-lts
 use Rattle.writer.proofs.stmt.list.Reads as list
 use Rattle.writer.proofs.stmt.list.Kinds as list-kinds
-use Rattle.writer.proofs.stmt.+body+branches+conditional+list+otherwise+single.Lts-list as list-lts
+use Rattle.writer.proofs.stmt.+body+branches+list+otherwise+single+tested.Lts-list as list-lts
 use Rattle.writer.proofs.stmt.otherwise.Reads as otherwise
 use Rattle.writer.proofs.stmt.otherwise.Kinds as otherwise-kinds
-use Rattle.writer.proofs.stmt.+body+branches+conditional+list+otherwise+single.Lts-otherwise as otherwise-lts
+use Rattle.writer.proofs.stmt.+body+branches+list+otherwise+single+tested.Lts-otherwise as otherwise-lts
 use Rattle.writer.proofs.stmt.single.Reads as single
 use Rattle.writer.proofs.stmt.single.Kinds as single-kinds
-use Rattle.writer.proofs.stmt.+body+branches+conditional+list+otherwise+single.Lts-single as single-lts
+use Rattle.writer.proofs.stmt.+body+branches+list+otherwise+single+tested.Lts-single as single-lts
+use Rattle.writer.proofs.stmt.tested.Reads as tested
+use Rattle.writer.proofs.stmt.tested.Kinds as tested-kinds
+use Rattle.writer.proofs.stmt.+body+branches+list+otherwise+single+tested.Lts-tested as tested-lts
+use Rattle.lookup.proofs.rows.word.Reads as word-reads
+use Rattle.parser.proofs.table.kind.Reads as kind-reads
 use Rattle.writer.proofs.code.next.Reads as next-reads
 use Rattle.writer.proofs.code.put.Reads as put-reads
 use Rattle.writer.proofs.expr.expression.Reads as expression-reads
+use Rattle.writer.proofs.expr.located.Reads as located-reads
+use Rattle.writer.proofs.expr.mark.Reads as mark-reads
 use Rattle.writer.proofs.stmt.assigned.Reads as assigned-reads
 use Rattle.writer.proofs.stmt.element.Reads as element-reads
-use Rattle.writer.proofs.stmt.printed.Reads as printed-reads
-use Rattle.lookup.proofs.rows.word.Reads as word-reads
-use Rattle.parser.proofs.table.kind.Reads as kind-reads
-use Rattle.writer.proofs.stmt.+body+branches+conditional+list+otherwise+single.{statement}
-use Rattle.writer.proofs.stmt.+body+branches+conditional+list+otherwise+single.Tie.{close}
-use borrow.Author.Needs.{needs}
+use Rattle.writer.proofs.stmt.+body+branches+list+otherwise+single+tested.{statement}
+use Rattle.writer.proofs.stmt.+body+branches+list+otherwise+single+tested.Tie.{close}
 use Prim.Native.Nat.{_+_, _*_}
 
 abbrev μ-body : Measures 3 body-kinds.ps ℕ
@@ -52,15 +55,6 @@ branches-at t = and 3 branches-kinds.ps (is 3 branches-kinds.ps μ-branches t) b
 
 abbrev branches-below : ℕ → In 3 branches-kinds.ps
 branches-below t = and 3 branches-kinds.ps (falls 3 branches-kinds.ps _<_ μ-branches t) branches.Pre
-
-abbrev μ-conditional : Measures 3 conditional-kinds.ps ℕ
-μ-conditional κs a = 4 * a .1 .1 .1 .1 .0 + 3
-
-abbrev conditional-at : ℕ → In 3 conditional-kinds.ps
-conditional-at t = and 3 conditional-kinds.ps (is 3 conditional-kinds.ps μ-conditional t) conditional.Pre
-
-abbrev conditional-below : ℕ → In 3 conditional-kinds.ps
-conditional-below t = and 3 conditional-kinds.ps (falls 3 conditional-kinds.ps _<_ μ-conditional t) conditional.Pre
 
 abbrev μ-list : Measures 3 list-kinds.ps ℕ
 μ-list κs a = 4 * a .1 .1 .1 .1 .0 + 1
@@ -89,14 +83,20 @@ single-at t = and 3 single-kinds.ps (is 3 single-kinds.ps μ-single t) single.Pr
 abbrev single-below : ℕ → In 3 single-kinds.ps
 single-below t = and 3 single-kinds.ps (falls 3 single-kinds.ps _<_ μ-single t) single.Pre
 
+abbrev μ-tested : Measures 3 tested-kinds.ps ℕ
+μ-tested κs a = 4 * a .1 .1 .1 .1 .1 .0 + 3
+
+abbrev tested-at : ℕ → In 3 tested-kinds.ps
+tested-at t = and 3 tested-kinds.ps (is 3 tested-kinds.ps μ-tested t) tested.Pre
+
+abbrev tested-below : ℕ → In 3 tested-kinds.ps
+tested-below t = and 3 tested-kinds.ps (falls 3 tested-kinds.ps _<_ μ-tested t) tested.Pre
+
 abbrev body-calls : ℕ → body-lts.Claims
 body-calls t = (word-reads.Asked, word-reads.Learnt, next-reads.Asked, next-reads.Learnt, single-below t, single.Post, put-reads.Asked, put-reads.Learnt)
 
 abbrev branches-calls : ℕ → branches-lts.Claims
 branches-calls t = (word-reads.Asked, word-reads.Learnt, next-reads.Asked, next-reads.Learnt, single-below t, single.Post, otherwise-below t, otherwise.Post, put-reads.Asked, put-reads.Learnt)
-
-abbrev conditional-calls : ℕ → conditional-lts.Claims
-conditional-calls t = (word-reads.Asked, word-reads.Learnt, expression-reads.Asked, expression-reads.Learnt, branches-below t, branches.Post)
 
 abbrev list-calls : ℕ → list-lts.Claims
 list-calls t = (single-below t, single.Post, word-reads.Asked, word-reads.Learnt, list-below t, list.Post)
@@ -105,7 +105,10 @@ abbrev otherwise-calls : ℕ → otherwise-lts.Claims
 otherwise-calls t = (word-reads.Asked, word-reads.Learnt, next-reads.Asked, next-reads.Learnt, single-below t, single.Post, put-reads.Asked, put-reads.Learnt)
 
 abbrev single-calls : ℕ → single-lts.Claims
-single-calls t = (kind-reads.Asked, kind-reads.Learnt, word-reads.Asked, word-reads.Learnt, put-reads.Asked, put-reads.Learnt, list-below t, list.Post, conditional-below t, conditional.Post, expression-reads.Asked, expression-reads.Learnt, body-below t, body.Post, printed-reads.Asked, printed-reads.Learnt, element-reads.Asked, element-reads.Learnt, assigned-reads.Asked, assigned-reads.Learnt)
+single-calls t = (kind-reads.Asked, kind-reads.Learnt, mark-reads.Asked, mark-reads.Learnt, word-reads.Asked, word-reads.Learnt, list-below t, list.Post, tested-below t, tested.Post, located-reads.Asked, located-reads.Learnt, element-reads.Asked, element-reads.Learnt, assigned-reads.Asked, assigned-reads.Learnt)
+
+abbrev tested-calls : ℕ → tested-lts.Claims
+tested-calls t = (word-reads.Asked, word-reads.Learnt, expression-reads.Asked, expression-reads.Learnt, branches-below t, branches.Post, body-below t, body.Post)
 
 module _ (t : ℕ) where
   body-word-requires : body-lts.Need-word-requires (body-calls t) (body-at t) body.Post
@@ -127,7 +130,7 @@ module _ (t : ℕ) where
   body-same-length c = search needs
 
   body-returns : body-lts.Need-returns (body-calls t) (body-at t) body.Post
-  body-returns c = body-wrote (c .before .before .before .before .before .before .before .before .before .before .before .before .word .ensures .0) (c .before .before .before .before .before .before .before .before .before .before .before .next .ensures) (c .before .before .before .before .before .before .before .before .before .before .single .ensures) (c .before .before .before .before .before .before .put .ensures) (c .before .before .put2 .ensures)
+  body-returns c = body-wrote (c .before .before .before .before .before .before .before .before .before .before .before .before .before .word .ensures .0) (c .before .before .before .before .before .before .before .before .before .before .before .next .ensures) (c .before .before .before .before .before .before .before .before .before .before .single .ensures) (c .before .before .before .before .before .before .put .ensures) (c .before .before .put2 .ensures)
 
   branches-word-requires : branches-lts.Need-word-requires (branches-calls t) (branches-at t) branches.Post
   branches-word-requires c κs = search needs
@@ -151,22 +154,7 @@ module _ (t : ℕ) where
   branches-same-length c = search needs
 
   branches-returns : branches-lts.Need-returns (branches-calls t) (branches-at t) branches.Post
-  branches-returns c = branches-wrote (c .before .before .before .before .before .before .before .before .before .before .before .before .before .word .ensures .0) (c .before .before .before .before .before .before .before .before .before .before .before .before .next .ensures) (c .before .before .before .before .before .before .before .before .before .before .before .single .ensures) (c .before .before .before .before .before .before .before .otherwise .ensures) (c .before .before .before .next2 .ensures) (c .before .before .put .ensures)
-
-  conditional-word-requires : conditional-lts.Need-word-requires (conditional-calls t) (conditional-at t) conditional.Post
-  conditional-word-requires c κs = search needs
-
-  conditional-expression-requires : conditional-lts.Need-expression-requires (conditional-calls t) (conditional-at t) conditional.Post
-  conditional-expression-requires c κs = search needs
-
-  conditional-branches-requires : conditional-lts.Need-branches-requires (conditional-calls t) (conditional-at t) conditional.Post
-  conditional-branches-requires c κs = search needs
-
-  conditional-same-length : conditional-lts.Need-same-length (conditional-calls t) (conditional-at t) conditional.Post
-  conditional-same-length c = search needs
-
-  conditional-returns : conditional-lts.Need-returns (conditional-calls t) (conditional-at t) conditional.Post
-  conditional-returns c = search conditional-wrote
+  branches-returns c = branches-wrote (c .before .before .before .before .before .before .before .before .before .before .before .before .before .before .word .ensures .0) (c .before .before .before .before .before .before .before .before .before .before .before .before .next .ensures) (c .before .before .before .before .before .before .before .before .before .before .before .single .ensures) (c .before .before .before .before .before .before .before .otherwise .ensures) (c .before .before .before .next2 .ensures) (c .before .before .put .ensures)
 
   list-returns : list-lts.Need-returns (list-calls t) (list-at t) list.Post
   list-returns c = search list-none
@@ -177,11 +165,11 @@ module _ (t : ℕ) where
   list-single-requires : list-lts.Need-single-requires (list-calls t) (list-at t) list.Post
   list-single-requires c κs = search needs
 
-  list-sub-list : list-lts.Need-sub-list (list-calls t) (list-at t) list.Post
-  list-sub-list c = search needs
-
   list-word-requires : list-lts.Need-word-requires (list-calls t) (list-at t) list.Post
   list-word-requires c κs = search needs
+
+  list-sub-list : list-lts.Need-sub-list (list-calls t) (list-at t) list.Post
+  list-sub-list c = search needs
 
   list-list-requires : list-lts.Need-list-requires (list-calls t) (list-at t) list.Post
   list-list-requires c κs = search needs
@@ -208,7 +196,7 @@ module _ (t : ℕ) where
   otherwise-same-length c = search needs
 
   otherwise-returns : otherwise-lts.Need-returns (otherwise-calls t) (otherwise-at t) otherwise.Post
-  otherwise-returns c = otherwise-wrote (c .before .before .before .before .before .before .before .before .word .ensures .0) (c .before .before .before .before .before .before .before .next .ensures) (c .before .before .before .before .before .before .single .ensures) (c .before .before .put .ensures)
+  otherwise-returns c = otherwise-wrote (c .before .before .before .before .before .before .before .before .before .word .ensures .0) (c .before .before .before .before .before .before .before .next .ensures) (c .before .before .before .before .before .before .single .ensures) (c .before .before .put .ensures)
 
   single-returns : single-lts.Need-returns (single-calls t) (single-at t) single.Post
   single-returns c = search statement-none
@@ -216,17 +204,14 @@ module _ (t : ℕ) where
   single-kind-requires : single-lts.Need-kind-requires (single-calls t) (single-at t) single.Post
   single-kind-requires c κs = search needs
 
+  single-mark-requires : single-lts.Need-mark-requires (single-calls t) (single-at t) single.Post
+  single-mark-requires c κs = search needs
+
   single-word-requires : single-lts.Need-word-requires (single-calls t) (single-at t) single.Post
   single-word-requires c κs = search needs
 
-  single-put-requires : single-lts.Need-put-requires (single-calls t) (single-at t) single.Post
-  single-put-requires c κs = search needs
-
   single-sub-list : single-lts.Need-sub-list (single-calls t) (single-at t) single.Post
   single-sub-list c = search needs
-
-  single-word-requires-2 : single-lts.Need-word-requires-2 (single-calls t) (single-at t) single.Post
-  single-word-requires-2 c κs = search needs
 
   single-list-requires : single-lts.Need-list-requires (single-calls t) (single-at t) single.Post
   single-list-requires c κs = search needs
@@ -237,11 +222,11 @@ module _ (t : ℕ) where
   single-returns-2 : single-lts.Need-returns-2 (single-calls t) (single-at t) single.Post
   single-returns-2 c = search statement-block
 
-  single-sub-conditional : single-lts.Need-sub-conditional (single-calls t) (single-at t) single.Post
-  single-sub-conditional c = search needs
+  single-sub-tested : single-lts.Need-sub-tested (single-calls t) (single-at t) single.Post
+  single-sub-tested c = search needs
 
-  single-conditional-requires : single-lts.Need-conditional-requires (single-calls t) (single-at t) single.Post
-  single-conditional-requires c κs = search needs
+  single-tested-requires : single-lts.Need-tested-requires (single-calls t) (single-at t) single.Post
+  single-tested-requires c κs = search needs
 
   single-same-length-2 : single-lts.Need-same-length-2 (single-calls t) (single-at t) single.Post
   single-same-length-2 c = search needs
@@ -249,36 +234,23 @@ module _ (t : ℕ) where
   single-returns-3 : single-lts.Need-returns-3 (single-calls t) (single-at t) single.Post
   single-returns-3 c = search statement-if
 
-  single-sub-expression : single-lts.Need-sub-expression (single-calls t) (single-at t) single.Post
-  single-sub-expression c = search needs
+  single-sub-tested-2 : single-lts.Need-sub-tested-2 (single-calls t) (single-at t) single.Post
+  single-sub-tested-2 c = search needs
 
-  single-word-requires-3 : single-lts.Need-word-requires-3 (single-calls t) (single-at t) single.Post
-  single-word-requires-3 c κs = search needs
-
-  single-expression-requires : single-lts.Need-expression-requires (single-calls t) (single-at t) single.Post
-  single-expression-requires c κs = search needs
-
-  single-sub-body : single-lts.Need-sub-body (single-calls t) (single-at t) single.Post
-  single-sub-body c = search needs
-
-  single-body-requires : single-lts.Need-body-requires (single-calls t) (single-at t) single.Post
-  single-body-requires c κs = search needs
+  single-tested-requires-2 : single-lts.Need-tested-requires-2 (single-calls t) (single-at t) single.Post
+  single-tested-requires-2 c κs = search needs
 
   single-same-length-3 : single-lts.Need-same-length-3 (single-calls t) (single-at t) single.Post
   single-same-length-3 c = search needs
 
   single-returns-4 : single-lts.Need-returns-4 (single-calls t) (single-at t) single.Post
-  single-returns-4 c =
-      let d = c .before .before .before .before .before .before .before .before .before in
-      let e = d .before .before .before .before .before in
-      statement-while (e .before .before .before .before .if1 .left) (e .before .before .before .kind .ensures) (e .before .word .ensures .0) (e .put .ensures) (d .if4 .taken)
-      (loop-wrote (c .before .before .before .before .before .before .before .word3 .ensures .0) (c .before .before .before .before .before .before .expression .ensures) (c .before .before .body .ensures))
+  single-returns-4 c = search statement-while
 
-  single-sub-printed : single-lts.Need-sub-printed (single-calls t) (single-at t) single.Post
-  single-sub-printed c = search needs
+  single-sub-located : single-lts.Need-sub-located (single-calls t) (single-at t) single.Post
+  single-sub-located c = search needs
 
-  single-printed-requires : single-lts.Need-printed-requires (single-calls t) (single-at t) single.Post
-  single-printed-requires c κs = search needs
+  single-located-requires : single-lts.Need-located-requires (single-calls t) (single-at t) single.Post
+  single-located-requires c κs = search needs
 
   single-same-length-4 : single-lts.Need-same-length-4 (single-calls t) (single-at t) single.Post
   single-same-length-4 c = search needs
@@ -316,12 +288,36 @@ module _ (t : ℕ) where
   single-returns-7 : single-lts.Need-returns-7 (single-calls t) (single-at t) single.Post
   single-returns-7 c = search statement-assignment
 
-pub +body+branches+conditional+list+otherwise+single-spec : {M : Type 1} → statement M
-+body+branches+conditional+list+otherwise+single-spec =
-    close μ-body μ-branches μ-conditional μ-list μ-otherwise μ-single
+  tested-word-requires : tested-lts.Need-word-requires (tested-calls t) (tested-at t) tested.Post
+  tested-word-requires c κs = search needs
+
+  tested-expression-requires : tested-lts.Need-expression-requires (tested-calls t) (tested-at t) tested.Post
+  tested-expression-requires c κs = search needs
+
+  tested-branches-requires : tested-lts.Need-branches-requires (tested-calls t) (tested-at t) tested.Post
+  tested-branches-requires c κs = search needs
+
+  tested-same-length : tested-lts.Need-same-length (tested-calls t) (tested-at t) tested.Post
+  tested-same-length c = search needs
+
+  tested-returns : tested-lts.Need-returns (tested-calls t) (tested-at t) tested.Post
+  tested-returns c = search conditional-wrote
+
+  tested-body-requires : tested-lts.Need-body-requires (tested-calls t) (tested-at t) tested.Post
+  tested-body-requires c κs = search needs
+
+  tested-same-length-2 : tested-lts.Need-same-length-2 (tested-calls t) (tested-at t) tested.Post
+  tested-same-length-2 c = search needs
+
+  tested-returns-2 : tested-lts.Need-returns-2 (tested-calls t) (tested-at t) tested.Post
+  tested-returns-2 c = search loop-wrote
+
+pub +body+branches+list+otherwise+single+tested-spec : {M : Type 1} → statement M
++body+branches+list+otherwise+single+tested-spec =
+    close μ-body μ-branches μ-list μ-otherwise μ-single μ-tested
     (λ t. body-lts.spec (body-calls t) (body-at t) body.Post (body-word-requires t) (body-next-requires t) (body-single-requires t) (body-put-requires t) (body-put-requires-2 t) (body-same-length t) (body-returns t))
     (λ t. branches-lts.spec (branches-calls t) (branches-at t) branches.Post (branches-word-requires t) (branches-next-requires t) (branches-single-requires t) (branches-otherwise-requires t) (branches-next-requires-2 t) (branches-put-requires t) (branches-same-length t) (branches-returns t))
-    (λ t. conditional-lts.spec (conditional-calls t) (conditional-at t) conditional.Post (conditional-word-requires t) (conditional-expression-requires t) (conditional-branches-requires t) (conditional-same-length t) (conditional-returns t))
-    (λ t. list-lts.spec (list-calls t) (list-at t) list.Post (list-returns t) (list-returns-2 t) (list-single-requires t) (list-sub-list t) (list-word-requires t) (list-list-requires t) (list-same-length t) (list-returns-3 t))
+    (λ t. list-lts.spec (list-calls t) (list-at t) list.Post (list-returns t) (list-returns-2 t) (list-single-requires t) (list-word-requires t) (list-sub-list t) (list-list-requires t) (list-same-length t) (list-returns-3 t))
     (λ t. otherwise-lts.spec (otherwise-calls t) (otherwise-at t) otherwise.Post (otherwise-word-requires t) (otherwise-next-requires t) (otherwise-single-requires t) (otherwise-put-requires t) (otherwise-same-length t) (otherwise-returns t))
-    (λ t. single-lts.spec (single-calls t) (single-at t) single.Post (single-returns t) (single-kind-requires t) (single-word-requires t) (single-put-requires t) (single-sub-list t) (single-word-requires-2 t) (single-list-requires t) (single-same-length t) (single-returns-2 t) (single-sub-conditional t) (single-conditional-requires t) (single-same-length-2 t) (single-returns-3 t) (single-sub-expression t) (single-word-requires-3 t) (single-expression-requires t) (single-sub-body t) (single-body-requires t) (single-same-length-3 t) (single-returns-4 t) (single-sub-printed t) (single-printed-requires t) (single-same-length-4 t) (single-returns-5 t) (single-add-kind t) (single-kind-requires-2 t) (single-sub-element t) (single-element-requires t) (single-same-length-5 t) (single-returns-6 t) (single-sub-assigned t) (single-assigned-requires t) (single-same-length-6 t) (single-returns-7 t))
+    (λ t. single-lts.spec (single-calls t) (single-at t) single.Post (single-returns t) (single-kind-requires t) (single-mark-requires t) (single-word-requires t) (single-sub-list t) (single-list-requires t) (single-same-length t) (single-returns-2 t) (single-sub-tested t) (single-tested-requires t) (single-same-length-2 t) (single-returns-3 t) (single-sub-tested-2 t) (single-tested-requires-2 t) (single-same-length-3 t) (single-returns-4 t) (single-sub-located t) (single-located-requires t) (single-same-length-4 t) (single-returns-5 t) (single-add-kind t) (single-kind-requires-2 t) (single-sub-element t) (single-element-requires t) (single-same-length-5 t) (single-returns-6 t) (single-sub-assigned t) (single-assigned-requires t) (single-same-length-6 t) (single-returns-7 t))
+    (λ t. tested-lts.spec (tested-calls t) (tested-at t) tested.Post (tested-word-requires t) (tested-expression-requires t) (tested-branches-requires t) (tested-same-length t) (tested-returns t) (tested-body-requires t) (tested-same-length-2 t) (tested-returns-2 t))

@@ -1,44 +1,51 @@
 -- The cycle of calls on expressions. The measure is 5 for each node that may still come, and the rank of the function. Each return is a
 -- law of `ExpressionLaws`.
-use Rattle.writer.proofs.ExpressionLaws.{expression-none, expression-atom, expression-compound, compound-array, compound-object, compound-length, compound-call, compound-not, compound-element, compound-and, compound-operation, operation-wrote, single-wrote, pair-wrote, conjunction-wrote, call-wrote, arguments-none, arguments-end, arguments-more}
+use Rattle.writer.proofs.ExpressionLaws.{expression-none, expression-atom, expression-compound, compound-array, compound-object}
+use Rattle.writer.proofs.ExpressionLaws.{compound-length, compound-call, compound-not, compound-element, compound-binary}
+use Rattle.writer.proofs.ExpressionLaws.{binary-and, binary-operation, followed-wrote, located-wrote, pair-wrote, conjunction-wrote}
+use Rattle.writer.proofs.ExpressionLaws.{call-wrote, arguments-none, arguments-end, arguments-more}
+use borrow.Author.Needs.{needs}
 use Prim.Native.Nat.{ℕ, _<_}
 use borrow.Fn.Kinds.{In}
 use borrow.Fn.PlainCycle.{Measures, is, falls, and}
 use Rattle.writer.proofs.expr.arguments.Reads as arguments
 use Rattle.writer.proofs.expr.arguments.Kinds as arguments-kinds
-use Rattle.writer.proofs.expr.+arguments+call+compound+conjunction+expression+operation+pair+unary.Lts-arguments as arguments-lts
+use Rattle.writer.proofs.expr.+arguments+binary+call+compound+conjunction+expression+followed+located+pair.Lts-arguments as arguments-lts
+use Rattle.writer.proofs.expr.binary.Reads as binary
+use Rattle.writer.proofs.expr.binary.Kinds as binary-kinds
+use Rattle.writer.proofs.expr.+arguments+binary+call+compound+conjunction+expression+followed+located+pair.Lts-binary as binary-lts
 use Rattle.writer.proofs.expr.call.Reads as call
 use Rattle.writer.proofs.expr.call.Kinds as call-kinds
-use Rattle.writer.proofs.expr.+arguments+call+compound+conjunction+expression+operation+pair+unary.Lts-call as call-lts
+use Rattle.writer.proofs.expr.+arguments+binary+call+compound+conjunction+expression+followed+located+pair.Lts-call as call-lts
 use Rattle.writer.proofs.expr.compound.Reads as compound
 use Rattle.writer.proofs.expr.compound.Kinds as compound-kinds
-use Rattle.writer.proofs.expr.+arguments+call+compound+conjunction+expression+operation+pair+unary.Lts-compound as compound-lts
+use Rattle.writer.proofs.expr.+arguments+binary+call+compound+conjunction+expression+followed+located+pair.Lts-compound as compound-lts
 use Rattle.writer.proofs.expr.conjunction.Reads as conjunction
 use Rattle.writer.proofs.expr.conjunction.Kinds as conjunction-kinds
-use Rattle.writer.proofs.expr.+arguments+call+compound+conjunction+expression+operation+pair+unary.Lts-conjunction as conjunction-lts
+use Rattle.writer.proofs.expr.+arguments+binary+call+compound+conjunction+expression+followed+located+pair.Lts-conjunction as conjunction-lts
 use Rattle.writer.proofs.expr.expression.Reads as expression
 use Rattle.writer.proofs.expr.expression.Kinds as expression-kinds
-use Rattle.writer.proofs.expr.+arguments+call+compound+conjunction+expression+operation+pair+unary.Lts-expression as expression-lts
-use Rattle.writer.proofs.expr.operation.Reads as operation
-use Rattle.writer.proofs.expr.operation.Kinds as operation-kinds
-use Rattle.writer.proofs.expr.+arguments+call+compound+conjunction+expression+operation+pair+unary.Lts-operation as operation-lts
+use Rattle.writer.proofs.expr.+arguments+binary+call+compound+conjunction+expression+followed+located+pair.Lts-expression as expression-lts
+use Rattle.writer.proofs.expr.followed.Reads as followed
+use Rattle.writer.proofs.expr.followed.Kinds as followed-kinds
+use Rattle.writer.proofs.expr.+arguments+binary+call+compound+conjunction+expression+followed+located+pair.Lts-followed as followed-lts
+use Rattle.writer.proofs.expr.located.Reads as located
+use Rattle.writer.proofs.expr.located.Kinds as located-kinds
+use Rattle.writer.proofs.expr.+arguments+binary+call+compound+conjunction+expression+followed+located+pair.Lts-located as located-lts
 use Rattle.writer.proofs.expr.pair.Reads as pair
 use Rattle.writer.proofs.expr.pair.Kinds as pair-kinds
-use Rattle.writer.proofs.expr.+arguments+call+compound+conjunction+expression+operation+pair+unary.Lts-pair as pair-lts
-use Rattle.writer.proofs.expr.unary.Reads as unary
-use Rattle.writer.proofs.expr.unary.Kinds as unary-kinds
-use Rattle.writer.proofs.expr.+arguments+call+compound+conjunction+expression+operation+pair+unary.Lts-unary as unary-lts
-use Rattle.writer.proofs.code.next.Reads as next-reads
-use Rattle.writer.proofs.code.put.Reads as put-reads
-use Rattle.writer.proofs.expr.atom.Reads as atom-reads
-use Rattle.writer.proofs.expr.count.Reads as count-reads
-use Rattle.writer.proofs.expr.creation.Reads as creation-reads
+use Rattle.writer.proofs.expr.+arguments+binary+call+compound+conjunction+expression+followed+located+pair.Lts-pair as pair-lts
+use Rattle.lookup.proofs.member.count.Reads as count-reads
 use Rattle.lookup.proofs.rows.word.Reads as word-reads
 use Rattle.parser.proofs.kinds.is_atom.Reads as is-atom-reads
 use Rattle.parser.proofs.table.kind.Reads as kind-reads
-use Rattle.writer.proofs.expr.+arguments+call+compound+conjunction+expression+operation+pair+unary.{statement}
-use Rattle.writer.proofs.expr.+arguments+call+compound+conjunction+expression+operation+pair+unary.Tie.{close}
-use borrow.Author.Needs.{needs}
+use Rattle.writer.proofs.code.next.Reads as next-reads
+use Rattle.writer.proofs.code.put.Reads as put-reads
+use Rattle.writer.proofs.expr.atom.Reads as atom-reads
+use Rattle.writer.proofs.expr.creation.Reads as creation-reads
+use Rattle.writer.proofs.expr.mark.Reads as mark-reads
+use Rattle.writer.proofs.expr.+arguments+binary+call+compound+conjunction+expression+followed+located+pair.{statement}
+use Rattle.writer.proofs.expr.+arguments+binary+call+compound+conjunction+expression+followed+located+pair.Tie.{close}
 use Prim.Native.Nat.{_+_, _*_}
 
 abbrev μ-arguments : Measures 3 arguments-kinds.ps ℕ
@@ -49,6 +56,15 @@ arguments-at t = and 3 arguments-kinds.ps (is 3 arguments-kinds.ps μ-arguments 
 
 abbrev arguments-below : ℕ → In 3 arguments-kinds.ps
 arguments-below t = and 3 arguments-kinds.ps (falls 3 arguments-kinds.ps _<_ μ-arguments t) arguments.Pre
+
+abbrev μ-binary : Measures 3 binary-kinds.ps ℕ
+μ-binary κs a = 5 * a .1 .1 .1 .1 .0 + 3
+
+abbrev binary-at : ℕ → In 3 binary-kinds.ps
+binary-at t = and 3 binary-kinds.ps (is 3 binary-kinds.ps μ-binary t) binary.Pre
+
+abbrev binary-below : ℕ → In 3 binary-kinds.ps
+binary-below t = and 3 binary-kinds.ps (falls 3 binary-kinds.ps _<_ μ-binary t) binary.Pre
 
 abbrev μ-call : Measures 3 call-kinds.ps ℕ
 μ-call κs a = 5 * a .1 .1 .1 .1 .0 + 2
@@ -86,17 +102,26 @@ expression-at t = and 3 expression-kinds.ps (is 3 expression-kinds.ps μ-express
 abbrev expression-below : ℕ → In 3 expression-kinds.ps
 expression-below t = and 3 expression-kinds.ps (falls 3 expression-kinds.ps _<_ μ-expression t) expression.Pre
 
-abbrev μ-operation : Measures 3 operation-kinds.ps ℕ
-μ-operation κs a = 5 * a .1 .1 .1 .1 .0 + 2
+abbrev μ-followed : Measures 3 followed-kinds.ps ℕ
+μ-followed κs a = 5 * a .1 .1 .1 .1 .1 .1 .0 + 1
 
-abbrev operation-at : ℕ → In 3 operation-kinds.ps
-operation-at t = and 3 operation-kinds.ps (is 3 operation-kinds.ps μ-operation t) operation.Pre
+abbrev followed-at : ℕ → In 3 followed-kinds.ps
+followed-at t = and 3 followed-kinds.ps (is 3 followed-kinds.ps μ-followed t) followed.Pre
 
-abbrev operation-below : ℕ → In 3 operation-kinds.ps
-operation-below t = and 3 operation-kinds.ps (falls 3 operation-kinds.ps _<_ μ-operation t) operation.Pre
+abbrev followed-below : ℕ → In 3 followed-kinds.ps
+followed-below t = and 3 followed-kinds.ps (falls 3 followed-kinds.ps _<_ μ-followed t) followed.Pre
+
+abbrev μ-located : Measures 3 located-kinds.ps ℕ
+μ-located κs a = 5 * a .1 .1 .1 .1 .1 .0 + 2
+
+abbrev located-at : ℕ → In 3 located-kinds.ps
+located-at t = and 3 located-kinds.ps (is 3 located-kinds.ps μ-located t) located.Pre
+
+abbrev located-below : ℕ → In 3 located-kinds.ps
+located-below t = and 3 located-kinds.ps (falls 3 located-kinds.ps _<_ μ-located t) located.Pre
 
 abbrev μ-pair : Measures 3 pair-kinds.ps ℕ
-μ-pair κs a = 5 * a .1 .1 .1 .1 .1 .1 .0 + 1
+μ-pair κs a = 5 * a .1 .1 .1 .1 .1 .1 .0 + 2
 
 abbrev pair-at : ℕ → In 3 pair-kinds.ps
 pair-at t = and 3 pair-kinds.ps (is 3 pair-kinds.ps μ-pair t) pair.Pre
@@ -104,38 +129,32 @@ pair-at t = and 3 pair-kinds.ps (is 3 pair-kinds.ps μ-pair t) pair.Pre
 abbrev pair-below : ℕ → In 3 pair-kinds.ps
 pair-below t = and 3 pair-kinds.ps (falls 3 pair-kinds.ps _<_ μ-pair t) pair.Pre
 
-abbrev μ-unary : Measures 3 unary-kinds.ps ℕ
-μ-unary κs a = 5 * a .1 .1 .1 .1 .1 .1 .0 + 1
-
-abbrev unary-at : ℕ → In 3 unary-kinds.ps
-unary-at t = and 3 unary-kinds.ps (is 3 unary-kinds.ps μ-unary t) unary.Pre
-
-abbrev unary-below : ℕ → In 3 unary-kinds.ps
-unary-below t = and 3 unary-kinds.ps (falls 3 unary-kinds.ps _<_ μ-unary t) unary.Pre
-
 abbrev arguments-calls : ℕ → arguments-lts.Claims
 arguments-calls t = (expression-below t, expression.Post, word-reads.Asked, word-reads.Learnt, arguments-below t, arguments.Post)
+
+abbrev binary-calls : ℕ → binary-lts.Claims
+binary-calls t = (kind-reads.Asked, kind-reads.Learnt, conjunction-below t, conjunction.Post, pair-below t, pair.Post)
 
 abbrev call-calls : ℕ → call-lts.Claims
 call-calls t = (word-reads.Asked, word-reads.Learnt, expression-below t, expression.Post, arguments-below t, arguments.Post, count-reads.Asked, count-reads.Learnt, put-reads.Asked, put-reads.Learnt)
 
 abbrev compound-calls : ℕ → compound-lts.Claims
-compound-calls t = (word-reads.Asked, word-reads.Learnt, unary-below t, unary.Post, creation-reads.Asked, creation-reads.Learnt, call-below t, call.Post, pair-below t, pair.Post, conjunction-below t, conjunction.Post, operation-below t, operation.Post)
+compound-calls t = (located-below t, located.Post, creation-reads.Asked, creation-reads.Learnt, call-below t, call.Post, word-reads.Asked, word-reads.Learnt, followed-below t, followed.Post, pair-below t, pair.Post, binary-below t, binary.Post)
 
 abbrev conjunction-calls : ℕ → conjunction-lts.Claims
 conjunction-calls t = (word-reads.Asked, word-reads.Learnt, expression-below t, expression.Post, next-reads.Asked, next-reads.Learnt, put-reads.Asked, put-reads.Learnt)
 
 abbrev expression-calls : ℕ → expression-lts.Claims
-expression-calls t = (kind-reads.Asked, kind-reads.Learnt, word-reads.Asked, word-reads.Learnt, put-reads.Asked, put-reads.Learnt, is-atom-reads.Asked, is-atom-reads.Learnt, atom-reads.Asked, atom-reads.Learnt, compound-below t, compound.Post)
+expression-calls t = (kind-reads.Asked, kind-reads.Learnt, mark-reads.Asked, mark-reads.Learnt, is-atom-reads.Asked, is-atom-reads.Learnt, atom-reads.Asked, atom-reads.Learnt, compound-below t, compound.Post)
 
-abbrev operation-calls : ℕ → operation-lts.Claims
-operation-calls t = (kind-reads.Asked, kind-reads.Learnt, pair-below t, pair.Post)
+abbrev followed-calls : ℕ → followed-lts.Claims
+followed-calls t = (expression-below t, expression.Post, put-reads.Asked, put-reads.Learnt)
+
+abbrev located-calls : ℕ → located-lts.Claims
+located-calls t = (word-reads.Asked, word-reads.Learnt, followed-below t, followed.Post)
 
 abbrev pair-calls : ℕ → pair-lts.Claims
-pair-calls t = (word-reads.Asked, word-reads.Learnt, expression-below t, expression.Post, put-reads.Asked, put-reads.Learnt)
-
-abbrev unary-calls : ℕ → unary-lts.Claims
-unary-calls t = (word-reads.Asked, word-reads.Learnt, expression-below t, expression.Post, put-reads.Asked, put-reads.Learnt)
+pair-calls t = (word-reads.Asked, word-reads.Learnt, expression-below t, expression.Post, followed-below t, followed.Post)
 
 module _ (t : ℕ) where
   arguments-returns : arguments-lts.Need-returns (arguments-calls t) (arguments-at t) arguments.Post
@@ -147,11 +166,11 @@ module _ (t : ℕ) where
   arguments-expression-requires : arguments-lts.Need-expression-requires (arguments-calls t) (arguments-at t) arguments.Post
   arguments-expression-requires c κs = search needs
 
-  arguments-sub-arguments : arguments-lts.Need-sub-arguments (arguments-calls t) (arguments-at t) arguments.Post
-  arguments-sub-arguments c = search needs
-
   arguments-word-requires : arguments-lts.Need-word-requires (arguments-calls t) (arguments-at t) arguments.Post
   arguments-word-requires c κs = search needs
+
+  arguments-sub-arguments : arguments-lts.Need-sub-arguments (arguments-calls t) (arguments-at t) arguments.Post
+  arguments-sub-arguments c = search needs
 
   arguments-arguments-requires : arguments-lts.Need-arguments-requires (arguments-calls t) (arguments-at t) arguments.Post
   arguments-arguments-requires c κs = search needs
@@ -161,6 +180,30 @@ module _ (t : ℕ) where
 
   arguments-returns-3 : arguments-lts.Need-returns-3 (arguments-calls t) (arguments-at t) arguments.Post
   arguments-returns-3 c = search arguments-more
+
+  binary-kind-requires : binary-lts.Need-kind-requires (binary-calls t) (binary-at t) binary.Post
+  binary-kind-requires c κs = search needs
+
+  binary-conjunction-requires : binary-lts.Need-conjunction-requires (binary-calls t) (binary-at t) binary.Post
+  binary-conjunction-requires c κs = search needs
+
+  binary-same-length : binary-lts.Need-same-length (binary-calls t) (binary-at t) binary.Post
+  binary-same-length c = search needs
+
+  binary-returns : binary-lts.Need-returns (binary-calls t) (binary-at t) binary.Post
+  binary-returns c = search binary-and
+
+  binary-cast-operator : binary-lts.Need-cast-operator (binary-calls t) (binary-at t) binary.Post
+  binary-cast-operator c = search needs
+
+  binary-pair-requires : binary-lts.Need-pair-requires (binary-calls t) (binary-at t) binary.Post
+  binary-pair-requires c κs = search needs
+
+  binary-same-length-2 : binary-lts.Need-same-length-2 (binary-calls t) (binary-at t) binary.Post
+  binary-same-length-2 c = search needs
+
+  binary-returns-2 : binary-lts.Need-returns-2 (binary-calls t) (binary-at t) binary.Post
+  binary-returns-2 c = search binary-operation
 
   call-word-requires : call-lts.Need-word-requires (call-calls t) (call-at t) call.Post
   call-word-requires c κs = search needs
@@ -193,13 +236,10 @@ module _ (t : ℕ) where
   call-same-length c = search needs
 
   call-returns : call-lts.Need-returns (call-calls t) (call-at t) call.Post
-  call-returns c = call-wrote (c .before .before .before .before .before .before .before .before .before .before .before .before .before .before .before .word .ensures .0) (c .before .before .before .before .before .before .before .before .before .before .before .before .before .before .expression .ensures) (c .before .before .before .before .before .before .before .before .before .before .before .word2 .ensures .0) (c .before .before .before .before .before .before .before .before .before .arguments .ensures) (c .before .before .before .before .before .word3 .ensures .0) (c .before .before .before .before .word4 .ensures .0) (c .before .before .before .count .ensures) (c .before .before .put .ensures)
+  call-returns c = call-wrote (c .before .before .before .before .before .before .before .before .before .before .before .before .before .before .before .before .word .ensures .0) (c .before .before .before .before .before .before .before .before .before .before .before .before .before .before .expression .ensures) (c .before .before .before .before .before .before .before .before .before .before .before .word2 .ensures .0) (c .before .before .before .before .before .before .before .before .before .arguments .ensures) (c .before .before .before .before .before .before .word3 .ensures .0) (c .before .before .before .before .before .word4 .ensures .0) (c .before .before .before .count .ensures) (c .before .before .put .ensures)
 
-  compound-word-requires : compound-lts.Need-word-requires (compound-calls t) (compound-at t) compound.Post
-  compound-word-requires c κs = search needs
-
-  compound-unary-requires : compound-lts.Need-unary-requires (compound-calls t) (compound-at t) compound.Post
-  compound-unary-requires c κs = search needs
+  compound-located-requires : compound-lts.Need-located-requires (compound-calls t) (compound-at t) compound.Post
+  compound-located-requires c κs = search needs
 
   compound-same-length : compound-lts.Need-same-length (compound-calls t) (compound-at t) compound.Post
   compound-same-length c = search needs
@@ -216,8 +256,8 @@ module _ (t : ℕ) where
   compound-returns-2 : compound-lts.Need-returns-2 (compound-calls t) (compound-at t) compound.Post
   compound-returns-2 c = search compound-object
 
-  compound-unary-requires-2 : compound-lts.Need-unary-requires-2 (compound-calls t) (compound-at t) compound.Post
-  compound-unary-requires-2 c κs = search needs
+  compound-located-requires-2 : compound-lts.Need-located-requires-2 (compound-calls t) (compound-at t) compound.Post
+  compound-located-requires-2 c κs = search needs
 
   compound-same-length-3 : compound-lts.Need-same-length-3 (compound-calls t) (compound-at t) compound.Post
   compound-same-length-3 c = search needs
@@ -234,14 +274,20 @@ module _ (t : ℕ) where
   compound-returns-4 : compound-lts.Need-returns-4 (compound-calls t) (compound-at t) compound.Post
   compound-returns-4 c = search compound-call
 
-  compound-unary-requires-3 : compound-lts.Need-unary-requires-3 (compound-calls t) (compound-at t) compound.Post
-  compound-unary-requires-3 c κs = search needs
+  compound-word-requires : compound-lts.Need-word-requires (compound-calls t) (compound-at t) compound.Post
+  compound-word-requires c κs = search needs
+
+  compound-followed-requires : compound-lts.Need-followed-requires (compound-calls t) (compound-at t) compound.Post
+  compound-followed-requires c κs = search needs
 
   compound-same-length-5 : compound-lts.Need-same-length-5 (compound-calls t) (compound-at t) compound.Post
   compound-same-length-5 c = search needs
 
   compound-returns-5 : compound-lts.Need-returns-5 (compound-calls t) (compound-at t) compound.Post
   compound-returns-5 c = search compound-not
+
+  compound-word-requires-2 : compound-lts.Need-word-requires-2 (compound-calls t) (compound-at t) compound.Post
+  compound-word-requires-2 c κs = search needs
 
   compound-pair-requires : compound-lts.Need-pair-requires (compound-calls t) (compound-at t) compound.Post
   compound-pair-requires c κs = search needs
@@ -252,23 +298,14 @@ module _ (t : ℕ) where
   compound-returns-6 : compound-lts.Need-returns-6 (compound-calls t) (compound-at t) compound.Post
   compound-returns-6 c = search compound-element
 
-  compound-conjunction-requires : compound-lts.Need-conjunction-requires (compound-calls t) (compound-at t) compound.Post
-  compound-conjunction-requires c κs = search needs
+  compound-binary-requires : compound-lts.Need-binary-requires (compound-calls t) (compound-at t) compound.Post
+  compound-binary-requires c κs = search needs
 
   compound-same-length-7 : compound-lts.Need-same-length-7 (compound-calls t) (compound-at t) compound.Post
   compound-same-length-7 c = search needs
 
   compound-returns-7 : compound-lts.Need-returns-7 (compound-calls t) (compound-at t) compound.Post
-  compound-returns-7 c = search compound-and
-
-  compound-operation-requires : compound-lts.Need-operation-requires (compound-calls t) (compound-at t) compound.Post
-  compound-operation-requires c κs = search needs
-
-  compound-same-length-8 : compound-lts.Need-same-length-8 (compound-calls t) (compound-at t) compound.Post
-  compound-same-length-8 c = search needs
-
-  compound-returns-8 : compound-lts.Need-returns-8 (compound-calls t) (compound-at t) compound.Post
-  compound-returns-8 c = search compound-operation
+  compound-returns-7 c = search compound-binary
 
   conjunction-word-requires : conjunction-lts.Need-word-requires (conjunction-calls t) (conjunction-at t) conjunction.Post
   conjunction-word-requires c κs = search needs
@@ -292,7 +329,7 @@ module _ (t : ℕ) where
   conjunction-same-length c = search needs
 
   conjunction-returns : conjunction-lts.Need-returns (conjunction-calls t) (conjunction-at t) conjunction.Post
-  conjunction-returns c = conjunction-wrote (c .before .before .before .before .before .before .before .before .before .before .before .before .before .word .ensures .0) (c .before .before .before .before .before .before .before .before .before .before .before .before .expression .ensures) (c .before .before .before .before .before .before .before .before .word2 .ensures .0) (c .before .before .before .before .before .before .before .next .ensures) (c .before .before .before .before .before .before .expression2 .ensures) (c .before .before .put .ensures)
+  conjunction-returns c = conjunction-wrote (c .before .before .before .before .before .before .before .before .before .before .before .before .before .before .word .ensures .0) (c .before .before .before .before .before .before .before .before .before .before .before .before .expression .ensures) (c .before .before .before .before .before .before .before .before .before .word2 .ensures .0) (c .before .before .before .before .before .before .before .next .ensures) (c .before .before .before .before .before .before .expression2 .ensures) (c .before .before .put .ensures)
 
   expression-returns : expression-lts.Need-returns (expression-calls t) (expression-at t) expression.Post
   expression-returns c = search expression-none
@@ -300,11 +337,8 @@ module _ (t : ℕ) where
   expression-kind-requires : expression-lts.Need-kind-requires (expression-calls t) (expression-at t) expression.Post
   expression-kind-requires c κs = search needs
 
-  expression-word-requires : expression-lts.Need-word-requires (expression-calls t) (expression-at t) expression.Post
-  expression-word-requires c κs = search needs
-
-  expression-put-requires : expression-lts.Need-put-requires (expression-calls t) (expression-at t) expression.Post
-  expression-put-requires c κs = search needs
+  expression-mark-requires : expression-lts.Need-mark-requires (expression-calls t) (expression-at t) expression.Post
+  expression-mark-requires c κs = search needs
 
   expression-is-atom-requires : expression-lts.Need-is-atom-requires (expression-calls t) (expression-at t) expression.Post
   expression-is-atom-requires c κs = search needs
@@ -339,20 +373,32 @@ module _ (t : ℕ) where
   expression-returns-3 : expression-lts.Need-returns-3 (expression-calls t) (expression-at t) expression.Post
   expression-returns-3 c = search expression-compound
 
-  operation-kind-requires : operation-lts.Need-kind-requires (operation-calls t) (operation-at t) operation.Post
-  operation-kind-requires c κs = search needs
+  followed-expression-requires : followed-lts.Need-expression-requires (followed-calls t) (followed-at t) followed.Post
+  followed-expression-requires c κs = search needs
 
-  operation-cast-k : operation-lts.Need-cast-k (operation-calls t) (operation-at t) operation.Post
-  operation-cast-k c = search needs
+  followed-put-requires : followed-lts.Need-put-requires (followed-calls t) (followed-at t) followed.Post
+  followed-put-requires c κs = search needs
 
-  operation-pair-requires : operation-lts.Need-pair-requires (operation-calls t) (operation-at t) operation.Post
-  operation-pair-requires c κs = search needs
+  followed-same-length : followed-lts.Need-same-length (followed-calls t) (followed-at t) followed.Post
+  followed-same-length c = search needs
 
-  operation-same-length : operation-lts.Need-same-length (operation-calls t) (operation-at t) operation.Post
-  operation-same-length c = search needs
+  followed-returns : followed-lts.Need-returns (followed-calls t) (followed-at t) followed.Post
+  followed-returns c = search followed-wrote
 
-  operation-returns : operation-lts.Need-returns (operation-calls t) (operation-at t) operation.Post
-  operation-returns c = search operation-wrote
+  located-word-requires : located-lts.Need-word-requires (located-calls t) (located-at t) located.Post
+  located-word-requires c κs = search needs
+
+  located-word-requires-2 : located-lts.Need-word-requires-2 (located-calls t) (located-at t) located.Post
+  located-word-requires-2 c κs = search needs
+
+  located-followed-requires : located-lts.Need-followed-requires (located-calls t) (located-at t) located.Post
+  located-followed-requires c κs = search needs
+
+  located-same-length : located-lts.Need-same-length (located-calls t) (located-at t) located.Post
+  located-same-length c = search needs
+
+  located-returns : located-lts.Need-returns (located-calls t) (located-at t) located.Post
+  located-returns c = search located-wrote
 
   pair-word-requires : pair-lts.Need-word-requires (pair-calls t) (pair-at t) pair.Post
   pair-word-requires c κs = search needs
@@ -363,41 +409,24 @@ module _ (t : ℕ) where
   pair-word-requires-2 : pair-lts.Need-word-requires-2 (pair-calls t) (pair-at t) pair.Post
   pair-word-requires-2 c κs = search needs
 
-  pair-expression-requires-2 : pair-lts.Need-expression-requires-2 (pair-calls t) (pair-at t) pair.Post
-  pair-expression-requires-2 c κs = search needs
-
-  pair-put-requires : pair-lts.Need-put-requires (pair-calls t) (pair-at t) pair.Post
-  pair-put-requires c κs = search needs
+  pair-followed-requires : pair-lts.Need-followed-requires (pair-calls t) (pair-at t) pair.Post
+  pair-followed-requires c κs = search needs
 
   pair-same-length : pair-lts.Need-same-length (pair-calls t) (pair-at t) pair.Post
   pair-same-length c = search needs
 
   pair-returns : pair-lts.Need-returns (pair-calls t) (pair-at t) pair.Post
-  pair-returns c = pair-wrote (c .before .before .before .before .before .before .before .before .before .before .before .before .word .ensures .0) (c .before .before .before .before .before .before .before .before .before .before .before .expression .ensures) (c .before .before .before .before .before .before .before .word2 .ensures .0) (c .before .before .before .before .before .before .expression2 .ensures) (c .before .before .put .ensures)
+  pair-returns c = pair-wrote (c .before .before .before .before .before .before .before .before .before .word .ensures .0) (c .before .before .before .before .before .before .before .expression .ensures) (c .before .before .before .before .word2 .ensures .0) (c .before .before .followed .ensures)
 
-  unary-word-requires : unary-lts.Need-word-requires (unary-calls t) (unary-at t) unary.Post
-  unary-word-requires c κs = search needs
-
-  unary-expression-requires : unary-lts.Need-expression-requires (unary-calls t) (unary-at t) unary.Post
-  unary-expression-requires c κs = search needs
-
-  unary-put-requires : unary-lts.Need-put-requires (unary-calls t) (unary-at t) unary.Post
-  unary-put-requires c κs = search needs
-
-  unary-same-length : unary-lts.Need-same-length (unary-calls t) (unary-at t) unary.Post
-  unary-same-length c = search needs
-
-  unary-returns : unary-lts.Need-returns (unary-calls t) (unary-at t) unary.Post
-  unary-returns c = search single-wrote
-
-pub +arguments+call+compound+conjunction+expression+operation+pair+unary-spec : {M : Type 1} → statement M
-+arguments+call+compound+conjunction+expression+operation+pair+unary-spec =
-    close μ-arguments μ-call μ-compound μ-conjunction μ-expression μ-operation μ-pair μ-unary
-    (λ t. arguments-lts.spec (arguments-calls t) (arguments-at t) arguments.Post (arguments-returns t) (arguments-returns-2 t) (arguments-expression-requires t) (arguments-sub-arguments t) (arguments-word-requires t) (arguments-arguments-requires t) (arguments-same-length t) (arguments-returns-3 t))
+pub +arguments+binary+call+compound+conjunction+expression+followed+located+pair-spec : {M : Type 1} → statement M
++arguments+binary+call+compound+conjunction+expression+followed+located+pair-spec =
+    close μ-arguments μ-binary μ-call μ-compound μ-conjunction μ-expression μ-followed μ-located μ-pair
+    (λ t. arguments-lts.spec (arguments-calls t) (arguments-at t) arguments.Post (arguments-returns t) (arguments-returns-2 t) (arguments-expression-requires t) (arguments-word-requires t) (arguments-sub-arguments t) (arguments-arguments-requires t) (arguments-same-length t) (arguments-returns-3 t))
+    (λ t. binary-lts.spec (binary-calls t) (binary-at t) binary.Post (binary-kind-requires t) (binary-conjunction-requires t) (binary-same-length t) (binary-returns t) (binary-cast-operator t) (binary-pair-requires t) (binary-same-length-2 t) (binary-returns-2 t))
     (λ t. call-lts.spec (call-calls t) (call-at t) call.Post (call-word-requires t) (call-expression-requires t) (call-word-requires-2 t) (call-arguments-requires t) (call-word-requires-3 t) (call-add-word t) (call-word-requires-4 t) (call-count-requires t) (call-put-requires t) (call-same-length t) (call-returns t))
-    (λ t. compound-lts.spec (compound-calls t) (compound-at t) compound.Post (compound-word-requires t) (compound-unary-requires t) (compound-same-length t) (compound-returns t) (compound-creation-requires t) (compound-same-length-2 t) (compound-returns-2 t) (compound-unary-requires-2 t) (compound-same-length-3 t) (compound-returns-3 t) (compound-call-requires t) (compound-same-length-4 t) (compound-returns-4 t) (compound-unary-requires-3 t) (compound-same-length-5 t) (compound-returns-5 t) (compound-pair-requires t) (compound-same-length-6 t) (compound-returns-6 t) (compound-conjunction-requires t) (compound-same-length-7 t) (compound-returns-7 t) (compound-operation-requires t) (compound-same-length-8 t) (compound-returns-8 t))
+    (λ t. compound-lts.spec (compound-calls t) (compound-at t) compound.Post (compound-located-requires t) (compound-same-length t) (compound-returns t) (compound-creation-requires t) (compound-same-length-2 t) (compound-returns-2 t) (compound-located-requires-2 t) (compound-same-length-3 t) (compound-returns-3 t) (compound-call-requires t) (compound-same-length-4 t) (compound-returns-4 t) (compound-word-requires t) (compound-followed-requires t) (compound-same-length-5 t) (compound-returns-5 t) (compound-word-requires-2 t) (compound-pair-requires t) (compound-same-length-6 t) (compound-returns-6 t) (compound-binary-requires t) (compound-same-length-7 t) (compound-returns-7 t))
     (λ t. conjunction-lts.spec (conjunction-calls t) (conjunction-at t) conjunction.Post (conjunction-word-requires t) (conjunction-expression-requires t) (conjunction-word-requires-2 t) (conjunction-next-requires t) (conjunction-expression-requires-2 t) (conjunction-put-requires t) (conjunction-same-length t) (conjunction-returns t))
-    (λ t. expression-lts.spec (expression-calls t) (expression-at t) expression.Post (expression-returns t) (expression-kind-requires t) (expression-word-requires t) (expression-put-requires t) (expression-is-atom-requires t) (expression-sub-atom t) (expression-atom-requires t) (expression-same-length t) (expression-returns-2 t) (expression-add-kind t) (expression-kind-requires-2 t) (expression-sub-compound t) (expression-compound-requires t) (expression-same-length-2 t) (expression-returns-3 t))
-    (λ t. operation-lts.spec (operation-calls t) (operation-at t) operation.Post (operation-kind-requires t) (operation-cast-k t) (operation-pair-requires t) (operation-same-length t) (operation-returns t))
-    (λ t. pair-lts.spec (pair-calls t) (pair-at t) pair.Post (pair-word-requires t) (pair-expression-requires t) (pair-word-requires-2 t) (pair-expression-requires-2 t) (pair-put-requires t) (pair-same-length t) (pair-returns t))
-    (λ t. unary-lts.spec (unary-calls t) (unary-at t) unary.Post (unary-word-requires t) (unary-expression-requires t) (unary-put-requires t) (unary-same-length t) (unary-returns t))
+    (λ t. expression-lts.spec (expression-calls t) (expression-at t) expression.Post (expression-returns t) (expression-kind-requires t) (expression-mark-requires t) (expression-is-atom-requires t) (expression-sub-atom t) (expression-atom-requires t) (expression-same-length t) (expression-returns-2 t) (expression-add-kind t) (expression-kind-requires-2 t) (expression-sub-compound t) (expression-compound-requires t) (expression-same-length-2 t) (expression-returns-3 t))
+    (λ t. followed-lts.spec (followed-calls t) (followed-at t) followed.Post (followed-expression-requires t) (followed-put-requires t) (followed-same-length t) (followed-returns t))
+    (λ t. located-lts.spec (located-calls t) (located-at t) located.Post (located-word-requires t) (located-word-requires-2 t) (located-followed-requires t) (located-same-length t) (located-returns t))
+    (λ t. pair-lts.spec (pair-calls t) (pair-at t) pair.Post (pair-word-requires t) (pair-expression-requires t) (pair-word-requires-2 t) (pair-followed-requires t) (pair-same-length t) (pair-returns t))
