@@ -1,4 +1,5 @@
--- What the look-up of a name returns meets its contract: the parameters, then the locals, then the fields upwards from the declaring class are searched.
+-- What the look-up of a name returns meets its contract: the parameters, then the locals, then the fields upwards from the declaring
+-- class are searched.
 use Prim.Native.Nat.{ℕ, _+_, _≤_, _<_}
 use native.Mathlib.Omega.{arith}
 use mathlib.Core.Path.{_≡_}

@@ -23,6 +23,8 @@ use parser::table::kind;
 ghost use mathlib.Core.Path.{_≡_};
 ghost use Prim.Native.Nat.{_≤_, _<_};
 ghost use lib.ListN.{length};
+ghost use Rattle.base.specs.Word.{modulus};
+ghost use Rattle.base.specs.Codes.{tableLeast};
 ghost use Rattle.parser.specs.contracts.Post.{kindInTable};
 ghost use Rattle.reader.specs.contracts.WalkPost.{Walkable};
 ghost use Rattle.lookup.specs.contracts.Shows.{aBinary, anElement, aCall};
@@ -33,7 +35,7 @@ ghost use Rattle.bodies.specs.contracts.ExpressionPost.{ArgumentsPost, O
 
 // `this`, which main has not: 34.
 fn receiver(table: &[u32], s: Scope, row: usize) -> Judged
-    requires { ⌜ 16384 ≤ length (now table) ⌝ }
+    requires { ⌜ tableLeast ≤ length (now table) ⌝ }
     ensures { λ r. ⌜ ThisPost (now (table .entry)) s row r ⌝ }
 {
     if ABSENT <= s.owner {
@@ -76,7 +78,7 @@ fn atom(table: &[u32], fields: &[u32], s: Scope, k: u32, row: usize) -> Judged
 
 // `new C()`: 24.
 fn new_object(table: &[u32], n: usize, row: usize) -> Judged
-    requires { ⌜ Walkable (now table) n × (row < 4294967296) ⌝ }
+    requires { ⌜ Walkable (now table) n × (row < modulus) ⌝ }
     ensures { λ r. ⌜ ObjectPost (now (table .entry)) n row r ⌝ }
 {
     let x = word(table, columns::NUMBER, row + 1);
@@ -88,7 +90,7 @@ fn new_object(table: &[u32], n: usize, row: usize) -> Judged
 
 // Whether a list of arguments is as long as a list of parameters.
 fn same_count(table: &[u32], left: usize, a: usize, p: usize) -> bool
-    requires { ⌜ 16384 ≤ length (now table) ⌝ }
+    requires { ⌜ tableLeast ≤ length (now table) ⌝ }
     ensures { λ r. ⌜ SameCount (now (table .entry)) left a p r ⌝ }
 {
     if ABSENT <= a {

@@ -1,5 +1,5 @@
-// What a body sees: the declaring class, by the number of its name, and where its parameters and its locals begin; in main there are none of these. What the
-// fields of the class and those above it mean stands in `fields` (see `lookup`).
+// What a body sees: the declaring class, by the number of its name, and where its parameters and its locals begin; in main there are none
+// of these. What the fields of the class and those above it mean stands in `fields` (see `lookup`).
 use lookup::member::variable_type;
 use lookup::types::NOTHING;
 use parser::columns::ABSENT;

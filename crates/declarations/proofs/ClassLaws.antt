@@ -1,5 +1,5 @@
--- What the judgements of parents and classes return meets their contracts: the index tells whether a parent is a class of the table, and the other tests are
--- those of the look-ups and of the members, class by class.
+-- What the judgements of parents and classes return meets their contracts: the index tells whether a parent is a class of the table, and
+-- the other tests are those of the look-ups and of the members, class by class.
 use Prim.Native.Nat.{ℕ, _+_, _-_, _≤_, _<_}
 use native.Mathlib.Omega.{arith}
 use mathlib.Core.Path.{_≡_, refl, sym, ap, _∙_, subst}

@@ -1,5 +1,5 @@
--- Laws on the names declared earlier and on the row that is judged. The code looks for a parameter's or a local's name among the members of a list from its front on;
--- the definition keeps the latest name first; in both a name occurs just where a member has it.
+-- Laws on the names declared earlier and on the row that is judged. The code looks for a parameter's or a local's name among the members
+-- of a list from its front on; the definition keeps the latest name first; in both a name occurs just where a member has it.
 use Prim.Native.Nat.{ℕ, _+_, _<_}
 use native.Mathlib.Omega.{arith}
 use mathlib.Core.Path.{_≡_, refl, sym, ap, _∙_, subst}

@@ -1,5 +1,5 @@
--- What the judgements of method heads return meets their contracts: each test of the code is the definition's, on the method whose row it is. The method that is
--- redeclared stands on the chain from the parent on, which is the class's own chain without its first.
+-- What the judgements of method heads return meets their contracts: each test of the code is the definition's, on the method whose row it
+-- is. The method that is redeclared stands on the chain from the parent on, which is the class's own chain without its first.
 use Prim.Native.Nat.{ℕ, _-_, _≤_, _<_}
 use native.Mathlib.Omega.{arith}
 use mathlib.Core.Path.{_≡_, refl, sym, ap, _∙_, subst}

@@ -1,5 +1,5 @@
--- What climbing a chain and judging the chains return meets their contracts: a chain is higher by one than that of the parent, and the height of a name depends on
--- nothing but the table, so what is kept of one climb holds in the next.
+-- What climbing a chain and judging the chains return meets their contracts: a chain is higher by one than that of the parent, and the
+-- height of a name depends on nothing but the table, so what is kept of one climb holds in the next.
 use Prim.Native.Nat.{ℕ, zero, suc, _+_, _-_, _≤_, _<_}
 use native.Mathlib.Omega.{arith}
 use native.Mathlib.Decide.{ℕ-discrete}

@@ -1,5 +1,6 @@
--- What making the index returns meets the contracts. Clearing and entering write only to column 7 of rows that are no `if` token's, so the tokens and the tree stay; names
--- have one number just where they are equal, so a name is in the index just where a class of that name was entered.
+-- What making the index returns meets the contracts. Clearing and entering write only to column 7 of rows that are no `if` token's, so
+-- the tokens and the tree stay; names have one number just where they are equal, so a name is in the index just where a class of that
+-- name was entered.
 use Prim.Native.Nat.{ℕ, zero, suc, _+_, _-_, _*_, _≤_, _<_}
 use native.Mathlib.Omega.{arith}
 use native.Mathlib.Decide.{ℕ-discrete}

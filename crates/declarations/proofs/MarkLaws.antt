@@ -1,4 +1,5 @@
--- Laws on marks: what marking a name returns meets its contract; a name that is marked is one more with the stamp; and a stamp above all words is no name's.
+-- Laws on marks: what marking a name returns meets its contract; a name that is marked is one more with the stamp; and a stamp above all
+-- words is no name's.
 use Prim.Native.Nat.{ℕ, _≤_, _<_}
 use native.Mathlib.Omega.{arith}
 use native.Mathlib.Decide.{ℕ-discrete}

@@ -1,4 +1,5 @@
--- A table that holds a derived program has its classes standing in it: their rows are what the tree says, they match their tokens, and the derivation bounds their lists.
+-- A table that holds a derived program has its classes standing in it: their rows are what the tree says, they match their tokens, and
+-- the derivation bounds their lists.
 use Prim.Native.Nat.{ℕ, _+_, _≤_}
 use mathlib.Core.Path.{_≡_, refl}
 use mathlib.Core.List.{List, [], _∷_}

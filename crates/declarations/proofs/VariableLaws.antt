@@ -1,4 +1,5 @@
--- What the judgements of fields, parameters and locals return meets their contracts: each test of the code is the definition's, on the variable whose row it is.
+-- What the judgements of fields, parameters and locals return meets their contracts: each test of the code is the definition's, on the
+-- variable whose row it is.
 use Rattle.base.specs.Choice.{if_then_else_}
 use Prim.Native.Nat.{ℕ, _+_, _-_, _≤_, _<_}
 use native.Mathlib.Omega.{arith}

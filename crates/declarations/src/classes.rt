@@ -11,6 +11,8 @@ use parser::columns;
 use parser::columns::ABSENT;
 ghost use Prim.Native.Nat.{_+_, _*_, _≤_};
 ghost use lib.ListN.{length};
+ghost use Rattle.base.specs.contracts.Table.{rows};
+ghost use Rattle.base.specs.Codes.{tableLeast};
 ghost use Rattle.reader.specs.contracts.WalkPost.{Walkable};
 ghost use Rattle.declarations.specs.contracts.Marking.{StampsBelow};
 ghost use Rattle.declarations.specs.contracts.Climbs.{HeightsRight};
@@ -18,7 +20,7 @@ ghost use Rattle.declarations.specs.contracts.Judgements.{OrphanAt, Pare
 
 // Whether a class has a parent that is no class of the table.
 fn is_orphan(table: &[u32], class: usize) -> bool
-    requires { ⌜ 16384 ≤ length (now table) ⌝ }
+    requires { ⌜ tableLeast ≤ length (now table) ⌝ }
     ensures { λ r. ⌜ OrphanAt (now (table .entry)) class r ⌝ }
 {
     let p = word(table, columns::PARENT, class);
@@ -30,7 +32,7 @@ fn is_orphan(table: &[u32], class: usize) -> bool
 
 // 21: the first unknown class after `extends`.
 pub fn parents(table: &[u32], left: usize, row: usize) -> Judged
-    requires { ⌜ 16384 ≤ length (now table) ⌝ }
+    requires { ⌜ tableLeast ≤ length (now table) ⌝ }
     ensures { λ r. ⌜ ParentsJudged (now (table .entry)) left row r ⌝ }
 {
     if ABSENT <= row {
@@ -50,7 +52,8 @@ pub fn parents(table: &[u32], left: usize, row: usize) -> Judged
 
 // 22: the first class whose chain never ends.
 pub fn chains(table: &[u32], heights: &mut [u32], classes: usize, left: usize, row: usize) -> Judged
-    requires { ⌜ (16384 ≤ length (now table)) × (2048 ≤ length (now heights)) × (classes ≤ 2048) × HeightsRight (now table) (now heights) ⌝ }
+    requires { ⌜ (tableLeast ≤ length (now table)) × (rows ≤ length (now heights)) × (classes ≤ rows)
+        × HeightsRight (now table) (now heights) ⌝ }
     ensures { λ r. ⌜ ChainsJudged (now (table .entry)) classes left row r ⌝ }
 {
     if ABSENT <= row {
@@ -80,7 +83,7 @@ fn members(
     stamp: u32,
     class: usize,
 ) -> Judged
-    requires { ⌜ Walkable (now table) n × (2048 ≤ length (now marks)) × StampsBelow stamp (now marks) × (stamp ≤ 4096) ⌝ }
+    requires { ⌜ Walkable (now table) n × (rows ≤ length (now marks)) × StampsBelow stamp (now marks) × (stamp ≤ 4096) ⌝ }
     ensures { λ r. ⌜ MembersJudged (now (table .entry)) n classes stamp class (now (marks .exit)) r ⌝ }
 {
     let first = word(table, columns::FIELDS, class);
@@ -105,8 +108,7 @@ pub fn declarations(
     stamp: u32,
     row: usize,
 ) -> Judged
-    requires { ⌜ Walkable (now table) n × (2048 ≤ length (now marks)) × StampsBelow stamp (now marks)
-        × (stamp + 2 * left ≤ 4098) ⌝ }
+    requires { ⌜ Walkable (now table) n × (rows ≤ length (now marks)) × StampsBelow stamp (now marks) × (stamp + 2 * left ≤ 4098) ⌝ }
     ensures { λ r. ⌜ DeclarationsJudged (now (table .entry)) n classes left row r ⌝ }
 {
     if ABSENT <= row {

@@ -13,8 +13,10 @@ use parser::columns;
 use parser::columns::ABSENT;
 ghost use Prim.Native.Nat.{_≤_};
 ghost use lib.ListN.{length};
+ghost use Rattle.base.specs.contracts.Table.{rows};
 ghost use Rattle.reader.specs.contracts.WalkPost.{Walkable};
-ghost use Rattle.declarations.specs.contracts.Judgements.{TypesCompared, RedeclaresAt, CompatibleAt, OpeningJudged, RestJudged, HeadJudged, HeadsJudged};
+ghost use Rattle.declarations.specs.contracts.Judgements.{TypesCompared, RedeclaresAt, CompatibleAt, OpeningJudged, RestJudged};
+ghost use Rattle.declarations.specs.contracts.Judgements.{HeadJudged, HeadsJudged};
 
 // Whether two lists of parameters have equal types.
 fn same_types(table: &[u32], n: usize, left: usize, a: usize, b: usize) -> bool
@@ -86,7 +88,7 @@ fn is_compatible(table: &[u32], n: usize, classes: usize, parent: usize, row: us
 
 // What a head declares before the parameters: 24, 25.
 fn opening(table: &[u32], marks: &mut [u32], n: usize, stamp: u32, row: usize) -> Judged
-    requires { ⌜ Walkable (now table) n × (2048 ≤ length (now marks)) ⌝ }
+    requires { ⌜ Walkable (now table) n × (rows ≤ length (now marks)) ⌝ }
     ensures { λ r. ⌜ OpeningJudged (now (table .entry)) n stamp row (now (marks .entry)) (now (marks .exit)) r ⌝ }
 {
     let t = word(table, columns::TYPE, row);
@@ -127,7 +129,7 @@ fn head(
     stamp: u32,
     row: usize,
 ) -> Judged
-    requires { ⌜ Walkable (now table) n × (2048 ≤ length (now marks)) ⌝ }
+    requires { ⌜ Walkable (now table) n × (rows ≤ length (now marks)) ⌝ }
     ensures { λ r. ⌜ HeadJudged (now (table .entry)) n classes parent stamp row (now (marks .entry)) (now (marks .exit)) r ⌝ }
 {
     let o = opening(table, marks, n, stamp, row);
@@ -148,7 +150,7 @@ pub fn heads(
     stamp: u32,
     row: usize,
 ) -> Judged
-    requires { ⌜ Walkable (now table) n × (2048 ≤ length (now marks)) ⌝ }
+    requires { ⌜ Walkable (now table) n × (rows ≤ length (now marks)) ⌝ }
     ensures { λ r. ⌜ HeadsJudged (now (table .entry)) n classes left parent stamp row (now (marks .entry)) (now (marks .exit)) r ⌝ }
 {
     if ABSENT <= row {

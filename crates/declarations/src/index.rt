@@ -9,12 +9,14 @@ use parser::columns::ABSENT;
 ghost use mathlib.Core.Path.{_≡_};
 ghost use Prim.Native.Nat.{_≤_, _<_};
 ghost use lib.ListN.{length};
+ghost use Rattle.base.specs.contracts.Table.{rows};
+ghost use Rattle.base.specs.Codes.{tableLeast};
 ghost use Rattle.reader.specs.contracts.WalkPost.{Walkable};
 ghost use Rattle.declarations.specs.contracts.Indexing.{wiped, cleared, indexed, EntriesMade, IndexMade};
 
 // Clears column 7 of a row, but not where the token is an `if`: a part stands there.
 fn wipe(table: &mut [u32], row: usize)
-    requires { ⌜ (16384 ≤ length (now table)) × (row < 2048) ⌝ }
+    requires { ⌜ (tableLeast ≤ length (now table)) × (row < rows) ⌝ }
     ensures { λ _. ⌜ now (table .exit) ≡ wiped (now (table .entry)) row ⌝ }
 {
     if table[row] != IF {
@@ -36,7 +38,7 @@ fn clear(table: &mut [u32], n: usize)
 
 // Writes column 7 of a row.
 fn enter(table: &mut [u32], row: usize, class: usize)
-    requires { ⌜ (16384 ≤ length (now table)) × (class ≤ 2048) ⌝ }
+    requires { ⌜ (tableLeast ≤ length (now table)) × (class ≤ rows) ⌝ }
     ensures { λ _. ⌜ now (table .exit) ≡ indexed (now (table .entry)) row class ⌝ }
 {
     if row < ABSENT {
@@ -46,7 +48,7 @@ fn enter(table: &mut [u32], row: usize, class: usize)
 
 // Enters the classes from a row on, whose names are new: 20.
 fn entries(table: &mut [u32], main: usize, left: usize, row: usize) -> Judged
-    requires { ⌜ 16384 ≤ length (now table) ⌝ }
+    requires { ⌜ tableLeast ≤ length (now table) ⌝ }
     ensures { λ r. ⌜ EntriesMade main left row (now (table .entry)) r (now (table .exit)) ⌝ }
 {
     if ABSENT <= row {

@@ -1,5 +1,5 @@
-// Fields, parameters and locals: each has a known type and a new name. A list of parameters or locals begins at `first`, and `index` of its members stand
-// before `row`.
+// Fields, parameters and locals: each has a known type and a new name. A list of parameters or locals begins at `first`, and `index` of
+// its members stand before `row`.
 use crate::marks::mark;
 use base::codes;
 use base::codes::BROKEN;
@@ -12,6 +12,8 @@ use parser::columns;
 use parser::columns::ABSENT;
 ghost use Prim.Native.Nat.{_+_, _≤_, _<_};
 ghost use lib.ListN.{length};
+ghost use Rattle.base.specs.contracts.Table.{rows};
+ghost use Rattle.base.specs.Word.{modulus};
 ghost use Rattle.reader.specs.contracts.WalkPost.{Walkable};
 ghost use Rattle.declarations.specs.contracts.Judgements.{KnownAt, FieldsJudged, VariableJudged, VariablesJudged};
 
@@ -20,7 +22,7 @@ const VARIABLES_MOST: usize = 32;
 
 // Whether the type that begins in a row is known.
 pub fn is_known(table: &[u32], n: usize, row: usize) -> bool
-    requires { ⌜ Walkable (now table) n × (row < 4294967296) ⌝ }
+    requires { ⌜ Walkable (now table) n × (row < modulus) ⌝ }
     ensures { λ r. ⌜ KnownAt (now (table .entry)) n row r ⌝ }
 {
     known(table, n, type_of(table, n, row))
@@ -35,7 +37,7 @@ pub fn fields(
     stamp: u32,
     row: usize,
 ) -> Judged
-    requires { ⌜ Walkable (now table) n × (2048 ≤ length (now marks)) ⌝ }
+    requires { ⌜ Walkable (now table) n × (rows ≤ length (now marks)) ⌝ }
     ensures { λ r. ⌜ FieldsJudged (now (table .entry)) n left stamp row (now (marks .entry)) (now (marks .exit)) r ⌝ }
 {
     if ABSENT <= row {
@@ -71,7 +73,7 @@ fn variable(
     index: usize,
     row: usize,
 ) -> Judged
-    requires { ⌜ Walkable (now table) n × (before ≤ 2048) × (index ≤ 4096) ⌝ }
+    requires { ⌜ Walkable (now table) n × (before ≤ rows) × (index ≤ 4096) ⌝ }
     ensures { λ r. ⌜ VariableJudged (now (table .entry)) n others before first index row r ⌝ }
 {
     let t = word(table, columns::TYPE, row);
@@ -102,7 +104,7 @@ pub fn variables(
     index: usize,
     row: usize,
 ) -> Judged
-    requires { ⌜ Walkable (now table) n × (before ≤ 2048) × (index + left ≤ 4096) ⌝ }
+    requires { ⌜ Walkable (now table) n × (before ≤ rows) × (index + left ≤ 4096) ⌝ }
     ensures { λ r. ⌜ VariablesJudged (now (table .entry)) n left others before first index row r ⌝ }
 {
     if ABSENT <= row {

@@ -1,5 +1,6 @@
--- What the functions on the fields of a class meet: the index leads to the class of a name and the class to the name of its parent, so a climb goes through the chain class
--- by class. The words of a name are written for the classes from the topmost down, and in each from the last field to the first, so the nearest field stays.
+-- What the functions on the fields of a class meet: the index leads to the class of a name and the class to the name of its parent, so a
+-- climb goes through the chain class by class. The words of a name are written for the classes from the topmost down, and in each from
+-- the last field to the first, so the nearest field stays.
 use Prim.Native.Nat.{ℕ, _+_, _-_, _≤_, _<_}
 use native.Mathlib.Omega.{arith}
 use native.Mathlib.Decide.{ℕ-discrete}

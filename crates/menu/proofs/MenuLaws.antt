@@ -34,7 +34,7 @@ use Rattle.typecheck.specs.contracts.CheckPost.{FindsProgram, Leaves, checkAnsw
 use Rattle.menu.specs.Menu.{menuOrder, writing, positions, listing, menu, Menus}
 use Rattle.menu.specs.laws.Writing.{many-same}
 use Rattle.menu.specs.Order.{each-once}
-use Rattle.menu.specs.contracts.MenuPost.{nameRow, RowsRise, rising-none, rising-more, Tabled, Empty, Gathered, overwritten, ParentsWritten, Written, listingOf, FillsStrip}
+use Rattle.menu.specs.contracts.MenuPost.{nameRow, RowsRise, rising-none, rising-more, Tabled, Empty, Gathered, overwritten, ParentsWritten, StripWritten, listingOf, FillsStrip}
 
 -- THE STRIP
 
@@ -97,7 +97,7 @@ module _ {tab : List ℕ} {classes : ℕ} {before : List ℕ} where
 
   module _ {first : ℕ} (e₆ : first ≡ wordAt tab 6 0) {tree firsts next : List ℕ}
       (g : Gathered tab classes first (replicate 4096 2048) (replicate 2048 2048) tree firsts next) {after : List ℕ} {unwritten : ℕ}
-      (w : Written tab tree firsts next 0 classes before after unwritten) where
+      (w : StripWritten tab tree firsts next 0 classes before after unwritten) where
     -- what was written of the classes of a program
     told : {n : ℕ} {ts : List Token} {p : Program} → Ready tab n ts p → DerivesProgram ts p → length (p .classes) ≡ classes
         → (after ≡ overwritten 0 (positions (menuOrder (p .classes))) before) × (unwritten + length (menuOrder (p .classes)) ≡ length (p .classes))

@@ -34,8 +34,8 @@ use Rattle.menu.specs.Menu.{mayStand, earliest, writing, positions}
 use Rattle.menu.specs.laws.Writing.{among-more, all-there, earliest-sound}
 use Rattle.menu.specs.InOrder.{MayStand}
 use Rattle.menu.specs.contracts.Least.{Keeps, Entered, Removed}
-use Rattle.menu.specs.contracts.MenuPost.{nameRow, standing, RowsRise, rising-more, Tabled, isChild, childRows, Linked, linked-end, linked-more, ChildrenListed, Empty, Gathered}
-use Rattle.menu.specs.contracts.MenuPost.{ChildJoined, elem, Freed, overwritten, ParentsWritten, Written}
+use Rattle.menu.specs.contracts.MenuPost.{nameRow, standing, RowsRise, rising-more, Tabled, isChild, childRows, RowsLinked, linked-end, linked-more, ChildrenListed, Empty, Gathered}
+use Rattle.menu.specs.contracts.MenuPost.{ChildJoined, elem, Freed, overwritten, ParentsWritten, StripWritten}
 use Rattle.menu.proofs.LeastLaws.{top-least, top-in, keeps-same}
 
 on : {R : Type 0} (b : Bool) → (b ≡ true → R) → (b ≡ false → R) → R
@@ -63,7 +63,7 @@ module _ {next : List ℕ} {left row : ℕ} {tree : List ℕ} where
   unfolding elem
   free-past far = record { says = λ rows h few S k. go h k }
     where
-      go : {rows : List ℕ} → Linked next row rows → {S : ℕ → Bool} → Keeps tree S → Keeps tree (λ r. elem r rows || S r)
+      go : {rows : List ℕ} → RowsLinked next row rows → {S : ℕ → Bool} → Keeps tree S → Keeps tree (λ r. elem r rows || S r)
       go (linked-end h) k = keeps-same (λ r low. refl) k
       go (linked-more near e h) k = absurd (omega arith)
 
@@ -72,11 +72,11 @@ module _ {next : List ℕ} {left row : ℕ} {tree : List ℕ} where
   unfolding elem
   free-next more near {middle} e {after} q {last} g = record { says = λ rows h few S k. go h few S k }
     where
-      go : {rows : List ℕ} → Linked next row rows → length rows ≤ left → (S : ℕ → Bool) → Keeps tree S → Keeps last (λ r. elem r rows || S r)
+      go : {rows : List ℕ} → RowsLinked next row rows → length rows ≤ left → (S : ℕ → Bool) → Keeps tree S → Keeps last (λ r. elem r rows || S r)
       go (linked-end far) few S k = absurd (omega arith)
       go (linked-more {rows = rs} near′ f h) few S k =
           keeps-same (λ r low. or-swap (eqb row r) (elem r rs) (S r))
-          (g .says rs (subst (λ (j : ℕ). Linked next j rs) (sym (q ∙ f)) h) (omega arith) (λ r. eqb row r || S r) (e .says S k))
+          (g .says rs (subst (λ (j : ℕ). RowsLinked next j rs) (sym (q ∙ f)) h) (omega arith) (λ r. eqb row r || S r) (e .says S k))
 
 -- THE EARLIEST
 
@@ -256,7 +256,7 @@ rows-there : {tab : List ℕ} {n : ℕ} {ts : List Token} {G : List Class} → C
 rows-there w = all-weaken (λ k s. row-there (w .tokens) (nameRow k) (s .named .token .there)) (all-stand (w .classes))
 
 module _ {tab tree first next : List ℕ} {i left : ℕ} {before : List ℕ} where
-  pub write-none : left ≡ 0 → Written tab tree first next i left before before 0
+  pub write-none : left ≡ 0 → StripWritten tab tree first next i left before before 0
   unfolding overwritten positions writing
   write-none z =
       record {
@@ -265,7 +265,7 @@ module _ {tab tree first next : List ℕ} {i left : ℕ} {before : List ℕ} whe
       }
 
   module _ {row : ℕ} (top : row ≡ getD tree 1 0) where
-    pub write-past : absent ≤ row → Written tab tree first next i left before before left
+    pub write-past : absent ≤ row → StripWritten tab tree first next i left before before left
     unfolding overwritten positions
     write-past far =
         record {
@@ -278,7 +278,7 @@ module _ {tab tree first next : List ℕ} {i left : ℕ} {before : List ℕ} whe
     pub write-next : (left ≡ 0 → ⊥) → row < absent → {p : ℕ} → p ≡ wordAt tab 1 row → {strip : List ℕ} → strip ≡ set before i p → {tree₁ : List ℕ} → Removed row tree tree₁
         → {child : ℕ} → child ≡ getD first row 0 → {tree₂ : List ℕ} → Freed next 2048 child tree₁ tree₂ → {after : List ℕ}
         → {r : ℕ}
-        → Written tab tree₂ first next (i + 1) (left - 1) strip after r → Written tab tree first next i left before after r
+        → StripWritten tab tree₂ first next (i + 1) (left - 1) strip after r → StripWritten tab tree first next i left before after r
     unfolding overwritten positions
     write-next more near {p} e₁ {strip} put {tree₁} out {child} ec {tree₂} free {after} {r} rest = record { says = says }
       where
@@ -293,7 +293,7 @@ module _ {tab tree first next : List ℕ} {i left : ℕ} {before : List ℕ} whe
             let linked = all-there (f .before) (f .behind) (subst (λ (ks : List Class). ChildrenListed first next ks G) (f .there) l) in
             let facts = all-weaken (λ j h. beside G w stand own (f .may) j (h .0) (h .1 .0) (h .1 .1)) (all-zip (all-stand (t .world .classes)) (all-zip (t .own) c)) in
             let few : length (childRows (className k) G) ≤ 2048 = omega (arith, child-few (className k) G, t .world .few, t .world .tokens .few) in
-            let free₁ = free .says (childRows (className k) G) (subst (λ (x : ℕ). Linked next x (childRows (className k) G)) (ap (λ (x : ℕ). getD first x 0) (found .2) ∙ sym ec) linked) few _
+            let free₁ = free .says (childRows (className k) G) (subst (λ (x : ℕ). RowsLinked next x (childRows (className k) G)) (ap (λ (x : ℕ). getD first x 0) (found .2) ∙ sym ec) linked) few _
             (out .says (standing w G) kept) in
             let kept₂ = keeps-same (λ r low. ap (λ (x : ℕ). elem r (childRows (className k) G) || (not (eqb x r) && standing w G r)) (sym (found .2)) ∙ sym (standing-more w k G r facts)) free₁ in
             let closed = all-weaken (λ j h. closed-more G w stand own (f .may) j (h .0) (h .1)) (all-zip (t .own) c) in
@@ -358,7 +358,7 @@ pub link-row : {parent row : ℕ} {first next : List ℕ} → parent < length fi
 link-row {row = row} {next = next} p q e s h = record { is-parent = p; is-row = q; head = h; link = s ∙ ap (set next row) e }
 
 -- a link from a row that is not in a list leaves the list
-linked-kept : {next : List ℕ} (i v : ℕ) {row : ℕ} {rows : List ℕ} → All (λ (r : ℕ). r ≡ i → ⊥) rows → Linked next row rows → Linked (set next i v) row rows
+linked-kept : {next : List ℕ} (i v : ℕ) {row : ℕ} {rows : List ℕ} → All (λ (r : ℕ). r ≡ i → ⊥) rows → RowsLinked next row rows → RowsLinked (set next i v) row rows
 linked-kept i v h (linked-end far) = linked-end far
 linked-kept {next} i v (all-cons other h) (linked-more {row = row} near e l) = linked-more near (getD-set-other next i row v 0 other ∙ e) (linked-kept i v h l)
 
@@ -471,12 +471,12 @@ module _ {tab : List ℕ} {left row : ℕ} (more : left ≡ 0 → ⊥) (near : r
               all-weaken (λ j x. entry j (x .0) (x .1 .0) (x .1 .1) (h .here) (p .0) (p .1) at) (all-zip (all-stand (t .world .classes)) (all-zip (t .own) (h .listed))),
             )
           where
-            entry : (j : Class) → ClassHeld tab n ts j → classNamed G (className j) ≡ some j → Linked next (getD first (nameRow j) 0) (childRows (className j) ks) → nameRow k ≡ row
-                → (p : Name) → k .parent ≡ some p → ClassAt tab n ts G (some (p .text)) c parent → Linked next′ (getD first′ (nameRow j) 0) (childRows (className j) (k ∷ ks))
+            entry : (j : Class) → ClassHeld tab n ts j → classNamed G (className j) ≡ some j → RowsLinked next (getD first (nameRow j) 0) (childRows (className j) ks) → nameRow k ≡ row
+                → (p : Name) → k .parent ≡ some p → ClassAt tab n ts G (some (p .text)) c parent → RowsLinked next′ (getD first′ (nameRow j) 0) (childRows (className j) (k ∷ ks))
             entry j stands own old is p e (no-class nobody far) = absurd (omega arith)
             entry j stands own old is p e (a-class q found at near′ s sp) = rw (put .link, put .head) (by (ℕ-discrete (nameRow j) parent))
               where
-                by : Dec (nameRow j ≡ parent) → Linked (set next row (getD first parent 0)) (getD (set first parent row) (nameRow j) 0) (childRows (className j) (k ∷ ks))
+                by : Dec (nameRow j ≡ parent) → RowsLinked (set next row (getD first parent 0)) (getD (set first parent row) (nameRow j) 0) (childRows (className j) (k ∷ ks))
                 by (yes z) =
                     let name : className j ≡ p .text = one-text stands s (z ∙ sym at) ∙ class-name G (p .text) found in
                     let child : isChild (className j) k ≡ true = ap (λ (o : Option Name). option o false λ q. same (className j) (q .text)) e ∙ same-of name in

@@ -14,7 +14,7 @@ ghost use lib.ListN.{length};
 ghost use Rattle.base.specs.contracts.Table.{rows};
 ghost use Rattle.base.specs.Codes.{tableLeast};
 ghost use Rattle.base.specs.Word.{modulus};
-ghost use Rattle.menu.specs.contracts.MenuPost.{ChildJoined, Gathered, Freed, Written};
+ghost use Rattle.menu.specs.contracts.MenuPost.{ChildJoined, Gathered, Freed, StripWritten};
 
 // A class joins its parent's children, before the others.
 fn link(first: &mut [u32], next: &mut [u32], parent: usize, row: usize)
@@ -91,8 +91,8 @@ pub fn write(
     left: usize,
 ) -> usize
     requires { ⌜ (tableLeast ≤ length (now table)) × (length (now tree) ≡ 4096) × (i + left ≤ length (now strip)) ⌝ }
-    ensures { λ r. ⌜ Written (now (table .entry)) (now (tree .entry)) (now (first .entry)) (now (next .entry)) i left (now (strip .entry))
-        (now (strip .exit)) r ⌝ }
+    ensures { λ r. ⌜ StripWritten (now (table .entry)) (now (tree .entry)) (now (first .entry)) (now (next .entry)) i left
+        (now (strip .entry)) (now (strip .exit)) r ⌝ }
 {
     if left == 0 {
         return 0;

@@ -1,4 +1,5 @@
--- Positions of nodes that are too deep: in an ordered tree none is before its whole, so a node that is too deep is itself the first one; and how answers join.
+-- Positions of nodes that are too deep: in an ordered tree none is before its whole, so a node that is too deep is itself the first one;
+-- and how answers join.
 use Prim.Native.Nat.{ℕ, _+_, _≤_, _<_, min}
 use mathlib.Core.Path.{_≡_, refl, sym, ap, _∙_, subst}
 use mathlib.Core.Option.{Option, none, some}

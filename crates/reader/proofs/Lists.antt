@@ -1,4 +1,5 @@
--- Walking along a list by a loop. What has been walked, joined with the walk of what is left, is the walk of the whole: joining is associative, so a turn keeps that.
+-- Walking along a list by a loop. What has been walked, joined with the walk of what is left, is the walk of the whole: joining is
+-- associative, so a turn keeps that.
 use Prim.Native.Nat.{ℕ, _+_, _≤_, _<_, min}
 use mathlib.Core.Path.{_≡_, refl, sym, _∙_}
 use mathlib.Core.List.{List}

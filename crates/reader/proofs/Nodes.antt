@@ -1,4 +1,5 @@
--- A node of any kind taken apart as the code takes it: up to three parts, of which those that it lacks are empty lists, and the columns in which they lie.
+-- A node of any kind taken apart as the code takes it: up to three parts, of which those that it lacks are empty lists, and the columns
+-- in which they lie.
 use Prim.Native.Nat.{ℕ, _+_}
 use mathlib.Core.Path.{_≡_, refl, sym, ap, _∙_}
 use mathlib.Core.List.{List}

@@ -1,4 +1,5 @@
--- What `part` and `node` return meets their contracts, and a turn of the loop in `part` goes on from one member of a list to the next: a law for each.
+-- What `part` and `node` return meets their contracts, and a turn of the loop in `part` goes on from one member of a list to the next: a
+-- law for each.
 use Prim.Native.Nat.{ℕ, _+_, _≤_, _<_}
 use mathlib.Core.Path.{_≡_, refl, sym, ap, _∙_, subst}
 use mathlib.Core.List.{List}

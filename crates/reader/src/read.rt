@@ -9,6 +9,7 @@ use parser::decl;
 ghost use mathlib.Core.Path.{_≡_};
 ghost use Prim.Native.Nat.{_≤_};
 ghost use lib.ListN.{length};
+ghost use Rattle.base.specs.Codes.{tableLeast};
 ghost use Rattle.parser.specs.Read.{reading, Reads};
 ghost use Rattle.reader.specs.contracts.WalkPost.{Walkable};
 ghost use Rattle.reader.specs.contracts.ReadPost.{Fills, GrowPost, MeasurePost, placeIn, readAnswerOf};
@@ -66,7 +67,7 @@ fn grow(table: &mut [u32], n: usize, size: usize) -> Filled
 
 // Read, with the table left filled.
 pub fn fill(source: &[u8], table: &mut [u32]) -> Filled
-    requires { ⌜ 16384 ≤ length (now table) ⌝ }
+    requires { ⌜ tableLeast ≤ length (now table) ⌝ }
     ensures { λ r. ⌜ Fills (reading (now (source .entry))) r (now (table .exit)) ⌝ }
 {
     if codes::SOURCE_MOST < source.len() {

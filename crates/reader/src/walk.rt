@@ -1,7 +1,7 @@
-// The walk over the tree in the work table: how many nodes there are, and the smallest position of a node that is too deep.
-// It goes down the tree by calls, no deeper than the bound of depth, and along a list by a loop: a list may be as long as there are tokens.
-// A row's first two parts lie in columns 4 and 5,
-// and only three kinds of nodes tell more: a block's first part and a call's second are lists, linked by column 6, and an `if` has a third part, in column 7.
+// The walk over the tree in the work table: how many nodes there are, and the smallest position of a node that is too deep. It goes down
+// the tree by calls, no deeper than the bound of depth, and along a list by a loop: a list may be as long as there are tokens. A row's
+// first two parts lie in columns 4 and 5, and only three kinds of nodes tell more: a block's first part and a call's second are lists,
+// linked by column 6, and an `if` has a third part, in column 7.
 use lexer::kinds::DOT;
 use lexer::kinds::IF;
 use lexer::kinds::OPEN_BRACE;
@@ -11,6 +11,9 @@ ghost use mathlib.Core.Path.{_≡_};
 ghost use mathlib.Core.Bool.{false};
 ghost use Prim.Native.Nat.{_+_, _<_, _≤_, min};
 ghost use lib.ListN.{length};
+ghost use Rattle.base.specs.Word.{modulus};
+ghost use Rattle.base.specs.contracts.Table.{rows};
+ghost use Rattle.base.specs.Codes.{tableLeast};
 ghost use Rattle.base.specs.contracts.Table as Table;
 ghost use Rattle.reader.specs.contracts.WalkPost.{Walkable, follower, Walks, WalksMethods, WalksClasses, WalksProgram};
 
@@ -88,15 +91,15 @@ fn whole(parts: Walked) -> Walked
 
 // Column k of a row.
 fn column(table: &[u32], k: usize, row: usize) -> usize
-    requires { ⌜ (16384 ≤ length (now table)) × (k < 8) × (row < 2048) ⌝ }
-    ensures { λ r. ⌜ (r ≡ Table.col (now (table .entry)) k row) × (r < 4294967296) ⌝ }
+    requires { ⌜ (tableLeast ≤ length (now table)) × (k < 8) × (row < rows) ⌝ }
+    ensures { λ r. ⌜ (r ≡ Table.col (now (table .entry)) k row) × (r < modulus) ⌝ }
 {
     table[columns::ROWS * k + row] as usize
 }
 
 // The row of the member after this one in a list, 2048 where there is none. In a tree each link goes up: one that does not ends the walk.
 fn following(table: &[u32], chain: bool, row: usize) -> usize
-    requires { ⌜ (16384 ≤ length (now table)) × (row < 2048) ⌝ }
+    requires { ⌜ (tableLeast ≤ length (now table)) × (row < rows) ⌝ }
     ensures { λ r. ⌜ r ≡ follower (now (table .entry)) chain row ⌝ }
 {
     if chain {
@@ -125,7 +128,7 @@ fn part(table: &[u32], n: usize, chain: bool, row: usize, d: usize) -> Walked
 
 // The node of a row, at depth d. What lies below a node that is too deep begins no earlier.
 fn node(table: &[u32], n: usize, row: usize, d: usize) -> Walked
-    requires { ⌜ Walkable (now table) n × (row < 2048) × (d ≤ 65) ⌝ }
+    requires { ⌜ Walkable (now table) n × (row < rows) × (d ≤ 65) ⌝ }
     ensures { λ r. ⌜ Walks (now (table .entry)) n false row d r ⌝ }
 {
     if DEPTH_MOST < d {

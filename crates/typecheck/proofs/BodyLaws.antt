@@ -1,4 +1,5 @@
--- What the functions on the bodies of methods return meets their contracts: a method's row leads to its parameters, locals, statements and return expression.
+-- What the functions on the bodies of methods return meets their contracts: a method's row leads to its parameters, locals, statements
+-- and return expression.
 use Prim.Native.Nat.{ℕ, _+_, _-_, _≤_, _<_}
 use native.Mathlib.Omega.{arith}
 use mathlib.Core.Path.{_≡_, refl, sym, ap, _∙_, subst}

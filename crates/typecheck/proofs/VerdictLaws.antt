@@ -37,7 +37,7 @@ use Rattle.typecheck.specs.declared.check.Finding.{Finding}
 use Rattle.typecheck.specs.declared.check.Finding.the-variants.{Program as found, Refused as declined}
 use Rattle.typecheck.specs.declared.check.CheckAnswer.{CheckAnswer}
 use Rattle.typecheck.specs.contracts.MethodPost.{BodiesJudged}
-use Rattle.typecheck.specs.contracts.CheckPost.{told, Holding, Decides, Checked, FindsProgram, Leaves, contentsOf, ContentsJudged, chainsOn, ChainedJudged, parentsOn, IndexedJudged, TreeJudged, checkAnswerOf}
+use Rattle.typecheck.specs.contracts.CheckPost.{told, Holding, ProgramDecided, Checked, FindsProgram, Leaves, contentsOf, ContentsJudged, chainsOn, ChainedJudged, parentsOn, IndexedJudged, TreeJudged, checkAnswerOf}
 
 -- before the first list of members no name has a stamp
 pub zeros-below : (m : ℕ) → StampsBelow 1 (replicate m 0)
@@ -200,7 +200,7 @@ module _ (s : List ℕ) (a : Filled) (middle : List ℕ) (f : Fills (reading s) 
       go : (o : Outcome Reading) → reading s ≡ o → Fills o a middle → FindsProgram s (o >>= λ d. judged (d .tree)) r after
       go (accepted d) e h = let z = h .0 in let l : length (d .stream) ≡ n = cc in by (judged (d .tree)) refl (g .says d (h .1) l)
         where
-          by : (v : Outcome Program) → judged (d .tree) ≡ v → Decides (d .stream) v r after → FindsProgram s v r after
+          by : (v : Outcome Program) → judged (d .tree) ≡ v → ProgramDecided (d .stream) v r after → FindsProgram s v r after
           by (accepted p) q x = promised s d p after e q x
           by (refused k p) q x = x
       go (refused k p) e h = let z = h in apart (cc)

@@ -15,10 +15,13 @@ use reader::read::fill;
 ghost use mathlib.Core.Path.{_≡_};
 ghost use Prim.Native.Nat.{_≤_, _<_};
 ghost use lib.ListN.{length};
+ghost use Rattle.base.specs.Codes.{tableLeast};
+ghost use Rattle.base.specs.contracts.Table.{rows};
 ghost use Rattle.reader.specs.contracts.WalkPost.{Walkable};
 ghost use Rattle.typesystem.specs.Check.{checking, checkAnswer, Checks};
 ghost use Rattle.typecheck.specs.contracts.CheckPost as CheckPost;
-ghost use Rattle.typecheck.specs.contracts.CheckPost.{ContentsJudged, ChainedJudged, IndexedJudged, TreeJudged, Leaves, checkAnswerOf};
+ghost use Rattle.typecheck.specs.contracts.CheckPost.{ContentsJudged, ChainedJudged, IndexedJudged, TreeJudged, Leaves};
+ghost use Rattle.typecheck.specs.contracts.CheckPost.{checkAnswerOf};
 
 // The tokens and the classes of an accepted source; or a refusal and its position.
 pub enum Finding {
@@ -35,7 +38,7 @@ pub struct CheckAnswer {
 
 // Declarations and bodies.
 fn contents(table: &[u32], n: usize, classes: usize, first: usize) -> Judged
-    requires { ⌜ Walkable (now table) n × (classes ≤ 2048) ⌝ }
+    requires { ⌜ Walkable (now table) n × (classes ≤ rows) ⌝ }
     ensures { λ r. ⌜ ContentsJudged (now (table .entry)) n classes first r ⌝ }
 {
     let mut marks = [0u32; 2048];
@@ -48,7 +51,7 @@ fn contents(table: &[u32], n: usize, classes: usize, first: usize) -> Judged
 
 // Chains, then what the classes hold.
 fn chained(table: &[u32], n: usize, classes: usize, first: usize) -> Judged
-    requires { ⌜ Walkable (now table) n × (classes ≤ 2048) ⌝ }
+    requires { ⌜ Walkable (now table) n × (classes ≤ rows) ⌝ }
     ensures { λ r. ⌜ ChainedJudged (now (table .entry)) n classes first r ⌝ }
 {
     let mut heights = [0u32; 2048];
@@ -93,7 +96,7 @@ fn tree(table: &mut [u32], n: usize) -> Finding
 
 // Check, with the table left filled.
 pub fn find(source: &[u8], table: &mut [u32]) -> Finding
-    requires { ⌜ 16384 ≤ length (now table) ⌝ }
+    requires { ⌜ tableLeast ≤ length (now table) ⌝ }
     ensures { λ r. ⌜ Leaves (now (source .entry)) (checking (now (source .entry))) r (now (table .exit)) ⌝ }
 {
     let f = fill(source, table);
@@ -121,9 +124,10 @@ fn told(f: Finding) -> CheckAnswer
     }
 }
 
-// What Check answers, with the table left filled. It calls `tree` itself, as `find` does: the compiler leaves a function that is called in two places as it is, so the arrays of `tree` do not lie below the parser's calls.
+// What Check answers, with the table left filled. It calls `tree` itself, as `find` does: the compiler leaves a function that is called
+// in two places as it is, so the arrays of `tree` do not lie below the parser's calls.
 fn answer(source: &[u8], table: &mut [u32]) -> CheckAnswer
-    requires { ⌜ 16384 ≤ length (now table) ⌝ }
+    requires { ⌜ tableLeast ≤ length (now table) ⌝ }
     ensures { λ r. ⌜ checkAnswerOf r ≡ checkAnswer (checking (now (source .entry))) ⌝ }
 {
     let f = fill(source, table);

@@ -1,4 +1,5 @@
-// The bodies of all methods: locals, statements, the return expression. While those of a class are judged, `fields` holds what its fields mean to them.
+// The bodies of all methods: locals, statements, the return expression. While those of a class are judged, `fields` holds what its fields
+// mean to them.
 use base::codes::BROKEN;
 use bodies::expr::operand;
 use bodies::scope::Scope;
@@ -14,14 +15,17 @@ use parser::columns::ABSENT;
 use parser::columns::NEXT;
 ghost use Prim.Native.Nat.{_≤_, _<_};
 ghost use lib.ListN.{length};
+ghost use Rattle.base.specs.contracts.Table.{rows};
+ghost use Rattle.base.specs.Word.{modulus};
 ghost use Rattle.reader.specs.contracts.WalkPost.{Walkable};
 ghost use Rattle.lookup.specs.contracts.Fields.{FieldsHeld};
 ghost use Rattle.bodies.specs.contracts.Scoping.{Judgeable};
-ghost use Rattle.typecheck.specs.contracts.MethodPost.{CarriedJudged, BodyJudged, MethodsJudged, ClassJudged, ClassesJudged, BodiesJudged};
+ghost use Rattle.typecheck.specs.contracts.MethodPost.{CarriedJudged, BodyJudged, MethodsJudged, ClassJudged, ClassesJudged};
+ghost use Rattle.typecheck.specs.contracts.MethodPost.{BodiesJudged};
 
 // Statements and return expression of a method: the row after that of its name leads to them, and they lie behind its name.
 fn carried(table: &[u32], fields: &[u32], s: Scope, row: usize) -> Judged
-    requires { ⌜ Judgeable (now table) (now fields) s × (row < 4294967296) ⌝ }
+    requires { ⌜ Judgeable (now table) (now fields) s × (row < modulus) ⌝ }
     ensures { λ r. ⌜ CarriedJudged (now (table .entry)) s row r ⌝ }
 {
     let first = word(table, columns::BODY, row + 1);
@@ -38,7 +42,8 @@ fn carried(table: &[u32], fields: &[u32], s: Scope, row: usize) -> Judged
 
 // The body of a method in the class whose name has the number `owner`.
 fn body(table: &[u32], fields: &[u32], n: usize, classes: usize, owner: usize, row: usize) -> Judged
-    requires { ⌜ Walkable (now table) n × (4096 ≤ length (now fields)) × FieldsHeld (now table) n classes owner (now fields) × (row < 4294967296) ⌝ }
+    requires { ⌜ Walkable (now table) n × (4096 ≤ length (now fields)) × FieldsHeld (now table) n classes owner (now fields)
+        × (row < modulus) ⌝ }
     ensures { λ r. ⌜ BodyJudged (now (table .entry)) n classes owner row r ⌝ }
 {
     let parameters = word(table, columns::PARAMETERS, row);
@@ -96,7 +101,7 @@ fn methods(
 
 // The bodies of the class in a row.
 fn of_class(table: &[u32], fields: &mut [u32], n: usize, classes: usize, row: usize) -> Judged
-    requires { ⌜ Walkable (now table) n × (4096 ≤ length (now fields)) × (classes ≤ 2048) ⌝ }
+    requires { ⌜ Walkable (now table) n × (4096 ≤ length (now fields)) × (classes ≤ rows) ⌝ }
     ensures { λ r. ⌜ ClassJudged (now (table .entry)) n classes row r ⌝ }
 {
     let first = word(table, columns::METHODS, row);
@@ -117,7 +122,7 @@ fn all(
     left: usize,
     row: usize,
 ) -> Judged
-    requires { ⌜ Walkable (now table) n × (4096 ≤ length (now fields)) × (classes ≤ 2048) ⌝ }
+    requires { ⌜ Walkable (now table) n × (4096 ≤ length (now fields)) × (classes ≤ rows) ⌝ }
     ensures { λ r. ⌜ ClassesJudged (now (table .entry)) n classes left row r ⌝ }
 {
     if ABSENT <= row {
@@ -135,7 +140,7 @@ fn all(
 
 // All bodies, main first: its statement stands in row 14, and it sees no fields.
 pub fn bodies(table: &[u32], n: usize, classes: usize) -> Judged
-    requires { ⌜ Walkable (now table) n × (classes ≤ 2048) ⌝ }
+    requires { ⌜ Walkable (now table) n × (classes ≤ rows) ⌝ }
     ensures { λ r. ⌜ BodiesJudged (now (table .entry)) n classes r ⌝ }
 {
     let mut fields = [0u32; 4096];

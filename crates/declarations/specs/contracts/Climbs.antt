@@ -11,7 +11,8 @@ use Rattle.parser.specs.Tree.{Class}
 use Rattle.typesystem.specs.ClassTable.{endsWithin}
 use Rattle.lookup.specs.contracts.HeldClasses.{NameNumber, ClassTableHeld}
 
--- the chain of the name of number c has h classes, whatever the tokens and the classes are that the table holds: it ends within h and not within fewer
+-- the chain of the name of number c has h classes, whatever the tokens and the classes are that the table holds: it ends within h and not
+-- within fewer
 pub record Height (tab : List ℕ) (c h : ℕ) : Type 0 where
   pub says : (n : ℕ) (ts : List Token) (G : List Class) → ClassTableHeld tab n ts G → (name : List ℕ) → NameNumber ts name c → (left : ℕ) → endsWithin left G name ≡ leb h left
 

@@ -1,5 +1,5 @@
--- What making the index of the classes ensures: column 7 of the row that is the number of a name leads to the class of that name, and the table is ready for the
--- look-ups. Only column 7 is written, and not in the rows of `if` tokens, where a part stands.
+-- What making the index of the classes ensures: column 7 of the row that is the number of a name leads to the class of that name, and the
+-- table is ready for the look-ups. Only column 7 is written, and not in the rows of `if` tokens, where a part stands.
 use Rattle.base.specs.Choice.{if_then_else_}
 use Prim.Native.Nat.{ℕ, zero, suc, _≤_, _<_}
 use mathlib.Core.Path.{_≡_}

@@ -1,4 +1,5 @@
--- The names that a list of members has declared, by the words of an array: the word of a name's number is the list's stamp just where the name is declared.
+-- The names that a list of members has declared, by the words of an array: the word of a name's number is the list's stamp just where the
+-- name is declared.
 use Prim.Native.Nat.{ℕ, _<_}
 use mathlib.Core.Path.{_≡_}
 use mathlib.Core.List.{List}

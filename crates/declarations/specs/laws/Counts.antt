@@ -1,5 +1,5 @@
--- What is derived from the tokens i up to j has at most j - i members, since each has a token of its own there. So no list of a program's declarations is longer
--- than the tokens are many.
+-- What is derived from the tokens i up to j has at most j - i members, since each has a token of its own there. So no list of a program's
+-- declarations is longer than the tokens are many.
 use Prim.Native.Nat.{ℕ, _+_, _≤_}
 use mathlib.Core.List.{List}
 use native.Mathlib.Omega.{arith}

@@ -1,4 +1,5 @@
--- What a field of each name means to the bodies of a class, by two words of an array for each name, and what the functions ensure that write them.
+-- What a field of each name means to the bodies of a class, by two words of an array for each name, and what the functions ensure that
+-- write them.
 use Prim.Native.Nat.{ℕ, _+_, _*_, _≤_, _<_}
 use mathlib.Core.Path.{_≡_}
 use mathlib.Core.List.{List}

@@ -1,5 +1,5 @@
--- The class table as the work table holds it: the rows of the declarations match their tokens and lead to one another, no list of them is longer than the tokens are many,
--- and the index leads from the number of a name to the class of that name.
+-- The class table as the work table holds it: the rows of the declarations match their tokens and lead to one another, no list of them is
+-- longer than the tokens are many, and the index leads from the number of a name to the class of that name.
 use Rattle.base.specs.Choice.{if_then_else_}
 use Prim.Native.Nat.{ℕ, _+_, _≤_, _<_}
 use mathlib.Core.Path.{_≡_}

@@ -1,4 +1,5 @@
--- Laws on the class table in the work table: words of rows that are there, names and types by number, and the class to which the index leads.
+-- Laws on the class table in the work table: words of rows that are there, names and types by number, and the class to which the index
+-- leads.
 use Prim.Native.Nat.{ℕ, _≤_, _<_}
 use native.Mathlib.Omega.{arith}
 use mathlib.Core.Path.{_≡_, refl, sym, ap, _∙_, subst}

@@ -56,14 +56,14 @@ childRows c [] = []
 childRows c (k ∷ ks) = if isChild c k then (λ _. nameRow k ∷ childRows c ks) else λ _. childRows c ks
 
 -- these rows lead to one another
-pub data Linked (next : List ℕ) : ℕ → List ℕ → Type 0 where
-  linked-end : {row : ℕ} → absent ≤ row → Linked next row []
-  linked-more : {row after : ℕ} {rows : List ℕ} → row < absent → getD next row 0 ≡ after → Linked next after rows
-      → Linked next row (row ∷ rows)
+pub data RowsLinked (next : List ℕ) : ℕ → List ℕ → Type 0 where
+  linked-end : {row : ℕ} → absent ≤ row → RowsLinked next row []
+  linked-more : {row after : ℕ} {rows : List ℕ} → row < absent → getD next row 0 ≡ after → RowsLinked next after rows
+      → RowsLinked next row (row ∷ rows)
 
 -- of each class of a table, the children among ks
 abbrev pub ChildrenListed : (first next : List ℕ) (G ks : List Class) → Type 0
-ChildrenListed first next G ks = All (λ (q : Class). Linked next (getD first (nameRow q) 0) (childRows (className q) ks)) G
+ChildrenListed first next G ks = All (λ (q : Class). RowsLinked next (getD first (nameRow q) 0) (childRows (className q) ks)) G
 
 -- a row joins the list of a parent, before the others
 pub record ChildJoined (parent row : ℕ) (first next first′ next′ : List ℕ) : Type 0 where
@@ -87,7 +87,7 @@ elem row [] = false
 elem row (r ∷ rs) = eqb r row || elem row rs
 
 pub record Freed (next : List ℕ) (left row : ℕ) (before after : List ℕ) : Type 0 where
-  pub says : (rows : List ℕ) → Linked next row rows → length rows ≤ left → (S : ℕ → Bool) → Keeps before S
+  pub says : (rows : List ℕ) → RowsLinked next row rows → length rows ≤ left → (S : ℕ → Bool) → Keeps before S
       → Keeps after (λ r. elem r rows || S r)
 
 -- THE STRIP
@@ -102,7 +102,7 @@ abbrev pub ParentsWritten : (written G : List Class) → Type 0
 ParentsWritten w G = All (λ (j : Class). among (className j) w ≡ true → (option (j .parent) true λ p. among (p .text) w) ≡ true) G
 
 -- r is how many of the `left` places no class may take
-pub record Written (tab tree first next : List ℕ) (i left : ℕ) (before after : List ℕ) (r : ℕ) : Type 0 where
+pub record StripWritten (tab tree first next : List ℕ) (i left : ℕ) (before after : List ℕ) (r : ℕ) : Type 0 where
   pub says : (n : ℕ) (ts : List Token) (G : List Class) → Tabled tab n ts G → ChildrenListed first next G G
       → (w : List Class) → ParentsWritten w G → Keeps tree (standing w G)
       → (after ≡ overwritten i (positions (writing left G w)) before) × (r + length (writing left G w) ≡ left)

@@ -1,15 +1,13 @@
--- What the crates above may rely on once a program's tree is stored in the work table. It holds because the tree is derived from the tokens: each node and each declaration
--- has a row that is its token's, and no other has it.
+-- What the crates above may rely on once a program's tree is stored in the work table. It holds because the tree is derived from the
+-- tokens: each node and each declaration has a row that is its token's, and no other has it.
 use Prim.Native.Nat.{ℕ, _≤_, _<_}
 use mathlib.Core.Path.{_≡_, refl}
 use mathlib.Core.List.{List}
 use native.Mathlib.Omega.{arith}
 use lib.ListN.{length}
-use Rattle.base.specs.contracts.Table.{rows, size, put, col-put-other, SameColumn, put-columns}
-use Rattle.lexer.specs.Kinds.{kIf}
+use Rattle.base.specs.contracts.Table.{rows, size}
 use Rattle.lexer.specs.Tokens.{Token}
 use Rattle.parser.specs.Tree.{Program}
-use Rattle.parser.specs.Stream.{kindAt}
 use Rattle.parser.specs.Grammar.{DerivesProgram}
 use Rattle.parser.specs.contracts.Layout.{storeProgram}
 use Rattle.parser.specs.Measure.{programNodes}

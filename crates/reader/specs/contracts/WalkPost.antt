@@ -1,4 +1,5 @@
--- What the walk over a tree in the work table requires and ensures: the number of nodes, and the smallest position of a node that is too deep.
+-- What the walk over a tree in the work table requires and ensures: the number of nodes, and the smallest position of a node that is too
+-- deep.
 use Prim.Native.Nat.{ℕ, _≤_, _<_, min}
 use mathlib.Core.Path.{_≡_, refl, sym, ap}
 use mathlib.Core.List.{List, [], _∷_}

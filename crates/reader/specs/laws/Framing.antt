@@ -1,5 +1,6 @@
--- Framing, once. `Lies i j E f H` says that f writes only in rows i up to j of a table, that H then holds, and that H holds as well in every table that has the same
--- words in these rows, but for the words E, which H does not read. Two writings can follow one another where the second leaves alone what the first one's H reads.
+-- Framing, once. `Lies i j E f H` says that f writes only in rows i up to j of a table, that H then holds, and that H holds as well in
+-- every table that has the same words in these rows, but for the words E, which H does not read. Two writings can follow one another
+-- where the second leaves alone what the first one's H reads.
 use Prim.Native.Nat.{ℕ, _≤_, _<_}
 use mathlib.Core.Path.{_≡_, refl, _∙_}
 use mathlib.Core.List.{List}

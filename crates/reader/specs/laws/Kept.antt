@@ -1,5 +1,5 @@
--- What a table says of a tree stands in its columns 3 to 6 and, in the rows of `if` tokens, in column 7: each row that is read is that of a token which is there.
--- So column 7 of all other rows is free for what is found out about names.
+-- What a table says of a tree stands in its columns 3 to 6 and, in the rows of `if` tokens, in column 7: each row that is read is that of
+-- a token which is there. So column 7 of all other rows is free for what is found out about names.
 use Prim.Native.Nat.{ℕ, _+_, _≤_, _<_}
 use mathlib.Core.Path.{_≡_, _∙_}
 use mathlib.Core.List.{List, [], _∷_}

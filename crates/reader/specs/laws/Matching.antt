@@ -1,5 +1,5 @@
--- What the grammar derives matches its tokens: each rule says of which kind the tokens that it names are, and none of these is the kind past the last token,
--- so that they are there.
+-- What the grammar derives matches its tokens: each rule says of which kind the tokens that it names are, and none of these is the kind
+-- past the last token, so that they are there.
 use Prim.Native.Nat.{ℕ, _+_}
 use mathlib.Core.Path.{_≡_, refl, ap, _∙_}
 use mathlib.Core.List.{List}

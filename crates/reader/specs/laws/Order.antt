@@ -1,5 +1,5 @@
--- A derived tree is in order: its rows lie within the tokens that it was derived from, a part begins no earlier than its whole, and the rows of a list's members
--- rise, since tokens are read from the left.
+-- A derived tree is in order: its rows lie within the tokens that it was derived from, a part begins no earlier than its whole, and the
+-- rows of a list's members rise, since tokens are read from the left.
 use Prim.Native.Nat.{ℕ, _+_, _≤_, _<_}
 use mathlib.Core.Path.{_≡_, refl, sym, ap, _∙_}
 use mathlib.Core.Bool.{true, true≢false}

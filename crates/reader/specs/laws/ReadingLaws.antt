@@ -1,5 +1,5 @@
--- Reading, stage by stage: what the definition of Read answers where the source is too long, where the lexer or the parser refuses, where a node is too deep,
--- and where all of them accept; and how the lexer's rows are the tokens that the parser reads.
+-- Reading, stage by stage: what the definition of Read answers where the source is too long, where the lexer or the parser refuses, where
+-- a node is too deep, and where all of them accept; and how the lexer's rows are the tokens that the parser reads.
 use Prim.Native.Nat.{ℕ, _≤_, _<_}
 use mathlib.Core.Path.{_≡_, refl, sym, ap}
 use mathlib.Core.List.{List}

@@ -1,5 +1,5 @@
--- A table into which a program's tree was stored holds it: the rows of what is derived from the tokens i up to j lie between i and j, those of different parts in
--- different ranges of tokens, and a node's own row in none of these, so that no word is written twice.
+-- A table into which a program's tree was stored holds it: the rows of what is derived from the tokens i up to j lie between i and j,
+-- those of different parts in different ranges of tokens, and a node's own row in none of these, so that no word is written twice.
 use Prim.Native.Nat.{ℕ, _+_, _≤_, _<_}
 use mathlib.Core.Path.{_≡_}
 use mathlib.Core.List.{List}

@@ -1,4 +1,5 @@
--- What the functions of Check ensure: the answer of the definition, and where it accepts, the tokens, the tree and the index of the classes in the table.
+-- What the functions of Check ensure: the answer of the definition, and where it accepts, the tokens, the tree and the index of the
+-- classes in the table.
 use Prim.Native.Nat.{ℕ}
 use mathlib.Core.Path.{_≡_}
 use mathlib.Core.Bool.{true}
@@ -40,12 +41,13 @@ pub record Holding (ts : List Token) (p : Program) (r : Finding) (tab : List ℕ
   pub derived : DerivesProgram ts p
 
 -- the answers and tables that are right for what is found of a tree with these tokens
-abbrev pub Decides : List Token → Outcome Program → Finding → List ℕ → Type 0
-Decides ts (accepted p) r tab = Holding ts p r tab
-Decides ts (refused n q) r tab = r ≡ declined n q
+abbrev pub ProgramDecided : List Token → Outcome Program → Finding → List ℕ → Type 0
+ProgramDecided ts (accepted p) r tab = Holding ts p r tab
+ProgramDecided ts (refused n q) r tab = r ≡ declined n q
 
--- What Check promises of an accepted source, to Menu and to Run: the tokens are those of the source, and a name's text is the run of its bytes from its start; the table holds them
--- and the program that the grammar derives from them, whose main class is named by token 1 and main's parameter by token 11; no node is too deep, the rules hold, and chains end.
+-- What Check promises of an accepted source, to Menu and to Run: the tokens are those of the source, and a name's text is the run of its
+-- bytes from its start; the table holds them and the program that the grammar derives from them, whose main class is named by token 1 and
+-- main's parameter by token 11; no node is too deep, the rules hold, and chains end.
 pub record Checked (s : List ℕ) (p : Program) (r : Finding) (tab : List ℕ) : Type 0 where
   pub stream : List Token
   pub lexed : tokens s ≡ accepted stream
@@ -86,10 +88,10 @@ pub record ChainedJudged (tab : List ℕ) (n classes first : ℕ) (r : Judged) :
   pub says : (ts : List Token) (p : Program) → Ready tab n ts p → length (p .classes) ≡ classes → rowClasses (p .classes) ≡ first → r ≡ asJudged (chainsOn p)
 
 pub record IndexedJudged (tab : List ℕ) (n : ℕ) (r : Finding) : Type 0 where
-  pub says : (ts : List Token) (p : Program) → Ready tab n ts p → DerivesProgram ts p → Decides ts (parentsOn p) r tab
+  pub says : (ts : List Token) (p : Program) → Ready tab n ts p → DerivesProgram ts p → ProgramDecided ts (parentsOn p) r tab
 
 pub record TreeJudged (n : ℕ) (before : List ℕ) (r : Finding) (after : List ℕ) : Type 0 where
-  pub says : (rd : Reading) → Filling before rd → length (rd .stream) ≡ n → Decides (rd .stream) (judged (rd .tree)) r after
+  pub says : (rd : Reading) → Filling before rd → length (rd .stream) ≡ n → ProgramDecided (rd .stream) (judged (rd .tree)) r after
 
 -- the code's answer as document 01 counts it
 abbrev pub checkAnswerOf : CheckAnswer → SpecAnswer

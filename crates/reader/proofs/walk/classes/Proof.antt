@@ -1,4 +1,5 @@
--- `classes` meets its contract. Its loop keeps what `SoFar` says, by the laws of `Declarations`, and its measure is the number of rows left.
+-- `classes` meets its contract. Its loop keeps what `SoFar` says, by the laws of `Declarations`, and its measure is the number of rows
+-- left.
 use Prim.Native.Nat.{_-_}
 use mathlib.Core.Bool.{true}
 use native.Mathlib.Omega.{arith}
