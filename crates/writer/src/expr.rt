@@ -3,6 +3,7 @@ use crate::code::next;
 use crate::code::put;
 use crate::scope::Scope;
 use crate::scope::slot;
+use crate::sizes::SIZES;
 use codegen::numbers;
 use lexer::kinds;
 use lookup::member::count;
@@ -18,12 +19,13 @@ ghost use Rattle.parser.specs.Tree.{Sort};
 ghost use Rattle.reader.specs.contracts.WalkPost.{Walkable};
 ghost use Rattle.lookup.specs.contracts.HeldClasses.{wordAt};
 ghost use Rattle.lookup.specs.contracts.Shows.{Form, formAtom, formCompound};
-ghost use Rattle.writer.specs.contracts.Posts.{Writable, PutPost, LoadPost, WritePost, ExpressionPost};
+ghost use Rattle.writer.specs.contracts.Posts.{Writable, PutPost, LoadPost, WritePost, ExpressionPost, room};
 ghost use Rattle.writer.specs.contracts.Posts.{FollowedPost, PairPost, ConjunctionPost};
+ghost use Rattle.base.specs.Codes.{tableLeast};
 
 // The mark before a node: the position where it begins.
 pub fn mark(table: &[u32], code: &mut [u32], row: usize, at: usize) -> usize
-    requires { ⌜ (16384 ≤ length (now table)) × (at ≤ 8192) ⌝ }
+    requires { ⌜ (tableLeast ≤ length (now table)) × (at ≤ room) ⌝ }
     ensures { λ r. ⌜ PutPost at 0 (wordAt (now (table .entry)) 3 row) 0 0 (now (code .entry)) (now (code .exit)) r ⌝ }
 {
     let start = word(table, columns::BEGIN, row);
@@ -39,7 +41,7 @@ pub fn loaded(
     row: usize,
     at: usize,
 ) -> usize
-    requires { ⌜ Walkable (now table) (s .tokens) × (4096 ≤ length (now names)) × (at ≤ 8192) ⌝ }
+    requires { ⌜ Walkable (now table) (s .tokens) × (4096 ≤ length (now names)) × (at ≤ room) ⌝ }
     ensures { λ r. ⌜ LoadPost (now (table .entry)) (now (names .entry)) s row at (now (code .entry)) (now (code .exit)) r ⌝ }
 {
     let v = slot(table, names, s, word(table, columns::NUMBER, row));
@@ -94,7 +96,7 @@ fn creation(
     let x = word(table, columns::NUMBER, row + 1);
     let start = word(table, columns::BEGIN, row);
     if x < ABSENT {
-        let size = names[4096 + x] as usize;
+        let size = names[SIZES + x] as usize;
         return put(code, at, numbers::MAKE_OBJECT, start, x, size);
     }
     at

@@ -18,7 +18,7 @@ use parser::table::kind;
 ghost use Prim.Native.Nat.{_≤_};
 ghost use Rattle.parser.specs.Tree.{Sort};
 ghost use Rattle.lookup.specs.contracts.Shows.{Form};
-ghost use Rattle.writer.specs.contracts.Posts.{Writable, WritePost, formTested, StatementPost, BranchesPost, OtherwisePost};
+ghost use Rattle.writer.specs.contracts.Posts.{Writable, WritePost, formTested, StatementPost, BranchesPost, OtherwisePost, room};
 ghost use Rattle.writer.specs.contracts.Posts.{BodyPost};
 
 // The value, and its store.
@@ -180,7 +180,7 @@ fn body(
     top: usize,
     at: usize,
 ) -> usize
-    requires { ⌜ Writable (now table) (now names) (now code) (s .tokens) left row at × (top ≤ 8192) ⌝ }
+    requires { ⌜ Writable (now table) (now names) (now code) (s .tokens) left row at × (top ≤ room) ⌝ }
     ensures { λ r. ⌜ BodyPost (now (table .entry)) (now (names .entry)) s left row top at (now (code .entry)) (now (code .exit)) r ⌝ }
 {
     let second = word(table, columns::SECOND, row);

@@ -5,6 +5,8 @@ use mathlib.Core.List.{List, _∷_}
 use lib.ListN.{length}
 use lib.Dec.{eqb}
 use Rattle.base.specs.Choice.{if_then_else_}
+use Rattle.base.specs.Word.{modulus}
+use Rattle.base.specs.contracts.Table.{rows}
 use Rattle.lexer.specs.Kinds.{kIf}
 use Rattle.lexer.specs.Tokens.{Token}
 use Rattle.lexer.specs.contracts.Rows.{firstNamed}
@@ -25,6 +27,7 @@ use Rattle.codegen.specs.contracts.Code.{Instruction, push, load, save, self, n
 use Rattle.codegen.specs.contracts.Code.{makeArray, makeObject, storeElement}
 use Rattle.codegen.specs.contracts.Compile.{endBinary, emitBinary, end, emit, cellsOf}
 use Rattle.writer.specs.contracts.Words.{words, encode, putAt}
+use Rattle.writer.specs.contracts.Sizing.{namesLeast}
 use Rattle.writer.specs.contracts.Scoping.{Sees}
 use Rattle.writer.specs.laws.Emits.{Emits}
 
@@ -35,9 +38,9 @@ room = 8192
 -- what the functions on parts ask for
 pub record Writable (tab names code : List ℕ) (n left row at : ℕ) : Type 0 where
   pub walkable : Walkable tab n
-  pub names-long : 6144 ≤ length names
-  pub few : left ≤ 2048
-  pub low : row < 4294967296
+  pub names-long : namesLeast ≤ length names
+  pub few : left ≤ rows
+  pub low : row < modulus
   pub within : at ≤ room
 
 -- one instruction; where there is no room nothing is written, and the place stays
