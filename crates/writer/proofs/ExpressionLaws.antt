@@ -102,7 +102,8 @@ followed-wrote f p =
           next-to (λ j k. x ∷ k) suc u (put-one x is p (rw (u .ends) h));
     }
 
-pub located-wrote : {tab names : List ℕ} {s : Scope} {op start left : ℕ} (row : ℕ) {first at r : ℕ} {c c′ : List ℕ} → start ≡ wordAt tab 3 row
+pub located-wrote : {tab names : List ℕ} {s : Scope} {op start left : ℕ} (row : ℕ) {first at r : ℕ} {c c′ : List ℕ}
+    → start ≡ wordAt tab 3 row
     → first ≡ wordAt tab 4 row → FollowedPost tab names s op start left first at c c′ r
     → FollowedPost tab names s op (wordAt tab 3 row) left (wordAt tab 4 row) at c c′ r
 located-wrote {tab} {names} {s} {op} {start} {left} row {first} {at} {r} {c} {c′} e₃ e₄ f =
@@ -288,7 +289,8 @@ module _ {tab names : List ℕ} {s : Scope} {left row at r : ℕ} {c c′ : List
           let joins : isAnd o ≡ true = and-kind o ∙ ap (λ (j : ℕ). eqb j 24) (sym z ∙ sym kind ∙ is) in
           subst
           (λ (b : Bool).
-          Wrote (firstNamed ts) (λ n. emit G Γ l at (emitBinary b o (end l at) (end m) (emit G Γ m) n)) (endBinary b (end l at) (end m)) at c c′ r)
+          Wrote (firstNamed ts) (λ n. emit G Γ l at (emitBinary b o (end l at) (end m) (emit G Γ m) n))
+          (endBinary b (end l at) (end m)) at c c′ r)
           (sym joins)
           (f .says ts G Γ w l m x y (subst (λ (b : Bool). endBinary b (end l at) (end m) ≤ room) joins h))
 
@@ -300,7 +302,8 @@ module _ {tab names : List ℕ} {s : Scope} {left row at r : ℕ} {c c′ : List
           let plain : isAnd o ≡ false = and-kind o ∙ ne-eqb (operatorKind o) 24 (λ i. other (kind ∙ z ∙ i)) in
           subst
           (λ (b : Bool).
-          Wrote (firstNamed ts) (λ n. emit G Γ l at (emitBinary b o (end l at) (end m) (emit G Γ m) n)) (endBinary b (end l at) (end m)) at c c′ r)
+          Wrote (firstNamed ts) (λ n. emit G Γ l at (emitBinary b o (end l at) (end m) (emit G Γ m) n))
+          (endBinary b (end l at) (end m)) at c c′ r)
           (sym plain)
           (f .says ts G Γ w (operate o) (ap (λ (n : ℕ). words 8 n 0 0) (kind ∙ z)) l m x y
           (subst (λ (b : Bool). endBinary b (end l at) (end m) ≤ room) plain h))

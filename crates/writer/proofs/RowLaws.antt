@@ -1,5 +1,5 @@
--- A part has fewer nodes than the whole, so the laws of what the rows show hold where a part is bounded by its number of nodes; and how many
--- arguments lie in a list.
+-- A part has fewer nodes than the whole, so the laws of what the rows show hold where a part is bounded by its number of nodes. And how
+-- many arguments lie in a list.
 use Prim.Native.Nat.{ℕ, _-_, _≤_}
 use native.Mathlib.Omega.{arith}
 use mathlib.Core.Path.{_≡_, subst}

@@ -57,7 +57,8 @@ module _ {tab names : List ℕ} {s : Scope} {left row at r : ℕ} {c c′ : List
 -- JUMPS
 
 pub otherwise-wrote : {tab names : List ℕ} {s : Scope} {left row at third n r w : ℕ} {c c₁ c₂ : List ℕ} → third ≡ wordAt tab 7 row
-    → NextPost at n → WritePost tab names s statement left third n c c₁ r → PutPost at 9 r 0 0 c₁ c₂ w → OtherwisePost tab names s left row at c c₂ r
+    → NextPost at n → WritePost tab names s statement left third n c c₁ r → PutPost at 9 r 0 0 c₁ c₂ w
+    → OtherwisePost tab names s left row at c c₂ r
 otherwise-wrote {at = at} e₇ m f p =
     record {
       within = f .within;
@@ -98,7 +99,8 @@ body-wrote {top = top} {at = at} {b = b} e₅ m f q p =
           let is : b ≡ end l (suc at) = u .ends ∙ ap (end l) (m .next low) in
           let v = put-one (jump top) refl q (rw is h) in
           over (unless (suc (end l (suc at)))) (λ j k. emit G Γ l j (jump top ∷ k)) (λ j. suc (end l j)) m
-          (next-to (λ j k. jump top ∷ k) suc u v) (ap (λ (i : ℕ). words 10 i 0 0) (v .ends ∙ ap suc is)) p low (omega (arith, grows l (suc at)));
+          (next-to (λ j k. jump top ∷ k) suc u v) (ap (λ (i : ℕ). words 10 i 0 0) (v .ends ∙ ap suc is)) p low
+          (omega (arith, grows l (suc at)));
     }
 
 -- THE TEST AND WHAT FOLLOWS
@@ -120,7 +122,8 @@ module _ {tab names : List ℕ} {s : Scope} {left row at first a r : ℕ} {c c�
       go ts G Γ w t (shows-conditional {e = e} {s = y} {t = z} st x x′ x″) h =
           let u = f .says ts G Γ w e (rw e₄ x) (omega (arith, grows y (suc (end e at)), grows z (suc (end y (suc (end e at)))))) in
           next-to
-          (λ j k. unless (suc (end y (suc j))) ∷ emit G Γ y (suc j) (jump (end z (suc (end y (suc j)))) ∷ emit G Γ z (suc (end y (suc j))) k))
+          (λ j k. unless (suc (end y (suc j))) ∷ emit G Γ y (suc j)
+          (jump (end z (suc (end y (suc j)))) ∷ emit G Γ z (suc (end y (suc j))) k))
           (λ j. end z (suc (end y (suc j)))) u (g .says ts G Γ w y z x′ x″ (rw (u .ends) h))
 
   pub loop-wrote : (k ≡ 10 → ⊥) → BodyPost tab names s left row at a c₁ c₂ r → StatementPost tab names s (formTested k) left row at c c₂ r

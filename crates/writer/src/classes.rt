@@ -23,7 +23,8 @@ fn of_class(
     row: usize,
     at: usize,
 ) -> usize
-    requires { ⌜ Walkable (now table) n × (namesLeast ≤ length (now names)) × (rows ≤ length (now entries)) × (classes ≤ rows) × (at ≤ room) ⌝ }
+    requires { ⌜ Walkable (now table) n × (namesLeast ≤ length (now names)) × (rows ≤ length (now entries)) × (classes ≤ rows)
+        × (at ≤ room) ⌝ }
     ensures { λ r. ⌜ ClassPost (now (table .entry)) n classes row at (now (names .entry)) (now (names .exit)) (now (code .entry))
         (now (code .exit)) (now (entries .entry)) (now (entries .exit)) r ⌝ }
 {
@@ -47,7 +48,8 @@ pub fn each(
     row: usize,
     at: usize,
 )
-    requires { ⌜ Walkable (now table) n × (namesLeast ≤ length (now names)) × (rows ≤ length (now entries)) × (classes ≤ rows) × (at ≤ room) ⌝ }
+    requires { ⌜ Walkable (now table) n × (namesLeast ≤ length (now names)) × (rows ≤ length (now entries)) × (classes ≤ rows)
+        × (at ≤ room) ⌝ }
     ensures { λ _. ⌜ ClassesPost (now (table .entry)) n classes left row at (now (names .entry)) (now (code .entry)) (now (code .exit))
         (now (entries .entry)) (now (entries .exit)) ⌝ }
 {

@@ -184,7 +184,8 @@ module _ (tab names : List ℕ) (s : Scope) where
         → PartAt tab ts (wordAt tab 5 row) (AtMost left statement) y → PartAt tab ts (wordAt tab 7 row) (AtMost left statement) z
         → end z (suc (end y (suc at))) ≤ room
         → Wrote (firstNamed ts)
-        (λ k. unless (suc (end y (suc at))) ∷ emit G Γ y (suc at) (jump (end z (suc (end y (suc at)))) ∷ emit G Γ z (suc (end y (suc at))) k))
+        (λ k. unless (suc (end y (suc at))) ∷ emit G Γ y (suc at)
+        (jump (end z (suc (end y (suc at)))) ∷ emit G Γ z (suc (end y (suc at))) k))
         (end z (suc (end y (suc at)))) at c c′ r
 
   -- the jump over the second branch, and the branch

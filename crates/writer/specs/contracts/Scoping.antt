@@ -30,4 +30,5 @@ pub record Sees (tab names : List ℕ) (ts : List Token) (G : List Class) (Γ : 
 
 pub record SlotPost (tab names : List ℕ) (s : Scope) (x : ℕ) (r : ℕ) : Type 0 where
   pub most : r < 4294967296
-  pub says : (ts : List Token) (G : List Class) (Γ : Context) → CodeScope tab names ts G Γ s → (text : List ℕ) → NameNumber ts text x → r ≡ slotOf (meaning G Γ text)
+  pub says : (ts : List Token) (G : List Class) (Γ : Context) → CodeScope tab names ts G Γ s → (text : List ℕ) → NameNumber ts text x
+      → r ≡ slotOf (meaning G Γ text)

@@ -26,7 +26,8 @@ pub record SizesHeld (ts : List Token) (G : List Class) (names : List ℕ) : Typ
 -- the word of the name x is written, and no other
 pub record SizePost (tab : List ℕ) (n classes x : ℕ) (before after : List ℕ) : Type 0 where
   pub others : (j : ℕ) → (sizesFrom + x ≡ j → ⊥) → getD after j 0 ≡ getD before j 0
-  pub says : (ts : List Token) (G : List Class) → ClassTableHeld tab n ts G → length G ≡ classes → (c : List ℕ) → NameNumber ts c x → getD after (sizesFrom + x) 0 ≡ length (fieldsOf G c)
+  pub says : (ts : List Token) (G : List Class) → ClassTableHeld tab n ts G → length G ≡ classes → (c : List ℕ) → NameNumber ts c x
+      → getD after (sizesFrom + x) 0 ≡ length (fieldsOf G c)
 
 -- the word of a name after a class of that name was looked for
 abbrev pub counted : (old new : ℕ) → Option Class → ℕ
@@ -34,5 +35,7 @@ counted old new none = old
 counted old new (some k) = new
 
 pub record SizesPost (tab : List ℕ) (n classes left row : ℕ) (before after : List ℕ) : Type 0 where
-  pub says : (ts : List Token) (G : List Class) → ClassTableHeld tab n ts G → length G ≡ classes → (ks : List Class) → ClassesAt tab n ts ks left row
-      → (c : List ℕ) (x : ℕ) → NameNumber ts c x → getD after (sizesFrom + x) 0 ≡ counted (getD before (sizesFrom + x) 0) (length (fieldsOf G c)) (classNamed ks c)
+  pub says : (ts : List Token) (G : List Class) → ClassTableHeld tab n ts G → length G ≡ classes → (ks : List Class)
+      → ClassesAt tab n ts ks left row
+      → (c : List ℕ) (x : ℕ) → NameNumber ts c x
+      → getD after (sizesFrom + x) 0 ≡ counted (getD before (sizesFrom + x) 0) (length (fieldsOf G c)) (classNamed ks c)
