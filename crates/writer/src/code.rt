@@ -3,7 +3,7 @@ ghost use Prim.Native.Nat.{_≤_, _<_};
 ghost use mathlib.Core.Path.{_≡_};
 ghost use lib.ListN.{set};
 ghost use Rattle.base.specs.Word.{modulus};
-ghost use Rattle.writer.specs.contracts.Posts.{PutPost, NextPost, room};
+ghost use Rattle.writer.specs.contracts.Posts.{room, PutPost, NextPost};
 
 // How many instructions there is room for.
 pub const ROOM: usize = 8192;

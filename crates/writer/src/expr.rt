@@ -15,13 +15,13 @@ use parser::table::kind;
 ghost use Prim.Native.Nat.{_≤_, _<_};
 ghost use lib.ListN.{length};
 ghost use Rattle.base.specs.Word.{modulus};
+ghost use Rattle.base.specs.Codes.{tableLeast};
 ghost use Rattle.parser.specs.Tree.{Sort};
 ghost use Rattle.reader.specs.contracts.WalkPost.{Walkable};
 ghost use Rattle.lookup.specs.contracts.HeldClasses.{wordAt};
 ghost use Rattle.lookup.specs.contracts.Shows.{Form, formAtom, formCompound};
-ghost use Rattle.writer.specs.contracts.Posts.{Writable, PutPost, LoadPost, WritePost, ExpressionPost, room};
+ghost use Rattle.writer.specs.contracts.Posts.{room, Writable, PutPost, LoadPost, WritePost, ExpressionPost};
 ghost use Rattle.writer.specs.contracts.Posts.{FollowedPost, PairPost, ConjunctionPost};
-ghost use Rattle.base.specs.Codes.{tableLeast};
 
 // The mark before a node: the position where it begins.
 pub fn mark(table: &[u32], code: &mut [u32], row: usize, at: usize) -> usize

@@ -18,7 +18,7 @@ use parser::table::kind;
 ghost use Prim.Native.Nat.{_≤_};
 ghost use Rattle.parser.specs.Tree.{Sort};
 ghost use Rattle.lookup.specs.contracts.Shows.{Form};
-ghost use Rattle.writer.specs.contracts.Posts.{Writable, WritePost, formTested, StatementPost, BranchesPost, OtherwisePost, room};
+ghost use Rattle.writer.specs.contracts.Posts.{room, Writable, WritePost, formTested, StatementPost, BranchesPost, OtherwisePost};
 ghost use Rattle.writer.specs.contracts.Posts.{BodyPost};
 
 // The value, and its store.

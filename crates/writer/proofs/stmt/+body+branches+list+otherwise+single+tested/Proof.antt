@@ -378,7 +378,10 @@ module _ (t : ℕ) where
   tested-same-length-2 c = search needs
 
   tested-returns-2 : tested-lts.Need-returns-2 (tested-calls t) (tested-at t) tested.Post
-  tested-returns-2 c = search loop-wrote
+  tested-returns-2 c =
+      let d = c .before .before .before .before in
+      let e = d .before .before .before in
+      loop-wrote (e .before .before .word .ensures .0) (e .expression .ensures) (d .if1 .left) (c .before .before .body .ensures)
 
 pub +body+branches+list+otherwise+single+tested-spec : {M : Type 1} → statement M
 +body+branches+list+otherwise+single+tested-spec =
