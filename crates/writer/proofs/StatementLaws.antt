@@ -27,7 +27,8 @@ use Rattle.codegen.specs.contracts.Compile.{end, emit}
 use Rattle.writer.specs.contracts.Words.{words}
 use Rattle.writer.specs.laws.Emits.{no-code}
 use Rattle.writer.specs.laws.Lengths.{grows}
-use Rattle.writer.specs.contracts.Posts.{room, PutPost, NextPost, Wrote, AtMost, WritePost, innerS, endS, formTested, SaysS}
+use Rattle.writer.specs.contracts.Posts.{room, PutPost, NextPost, Wrote, AtMost, Written, Whatever, WritePost, innerS, endS}
+use Rattle.writer.specs.contracts.Posts.{formTested, SaysS}
 use Rattle.writer.specs.contracts.Posts.{StatementPost, LoadPost, FollowedPost, PairPost, BranchesPost, OtherwisePost, BodyPost}
 use Rattle.writer.proofs.RowLaws.{positive-statement, fewer, fewer-statements}
 use Rattle.writer.proofs.PieceLaws.{put-one, next-to, over, Opens, node-wrote}
@@ -239,7 +240,6 @@ module _ {tab names : List ℕ} {s : Scope} {left row at : ℕ} {c : List ℕ} w
   list-more more near {a} {next} {r} {c₁} {c₂} f e₆ g =
       record { within = g .within; says = λ ts G Γ w ss h l. go ts G Γ w ss (goes-onS (fewer-statements row left more) near ss h) l }
     where
-      go : (ts : List Token) (G : List Class) (Γ : Context) → Sees tab names ts G Γ s → (ss : Part statements)
-          → GoesOnS tab ts row (AtMost left statement) (AtMost (left - 1) statements) ss → end ss at ≤ room
-          → Wrote (firstNamed ts) (emit G Γ ss at) (end ss at) at c c₂ r
+      go : Whatever tab names s λ ts G Γ. (ss : Part statements)
+          → GoesOnS tab ts row (AtMost left statement) (AtMost (left - 1) statements) ss → Written ts (emit G Γ ss at) (end ss at) at c c₂ r
       go ts G Γ w t (one-more-statement {t = x} {ss = ss} y z) l = both-wrote f g ts G Γ w x ss y (rw e₆ z) l

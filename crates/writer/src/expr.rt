@@ -59,7 +59,7 @@ fn atom(
     row: usize,
     at: usize,
 ) -> usize
-    requires { ⌜ Writable (now table) (now names) (now code) (s .tokens) left row at ⌝ }
+    requires { ⌜ Writable (now table) (now names) (s .tokens) left row at ⌝ }
     ensures { λ r. ⌜ ExpressionPost (now (table .entry)) (now (names .entry)) s (formAtom k) left row at (now (code .entry))
         (now (code .exit)) r ⌝ }
 {
@@ -89,7 +89,7 @@ fn creation(
     row: usize,
     at: usize,
 ) -> usize
-    requires { ⌜ Writable (now table) (now names) (now code) (s .tokens) left row at ⌝ }
+    requires { ⌜ Writable (now table) (now names) (s .tokens) left row at ⌝ }
     ensures { λ r. ⌜ ExpressionPost (now (table .entry)) (now (names .entry)) s Form.aNewObject left row at (now (code .entry))
         (now (code .exit)) r ⌝ }
 {
@@ -112,7 +112,7 @@ pub fn expression(
     row: usize,
     at: usize,
 ) -> usize
-    requires { ⌜ Writable (now table) (now names) (now code) (s .tokens) left row at ⌝ }
+    requires { ⌜ Writable (now table) (now names) (s .tokens) left row at ⌝ }
     ensures { λ r. ⌜ WritePost (now (table .entry)) (now (names .entry)) s Sort.expression left row at (now (code .entry))
         (now (code .exit)) r ⌝ }
 {
@@ -140,7 +140,7 @@ fn compound(
     row: usize,
     at: usize,
 ) -> usize
-    requires { ⌜ Writable (now table) (now names) (now code) (s .tokens) left row at ⌝ }
+    requires { ⌜ Writable (now table) (now names) (s .tokens) left row at ⌝ }
     ensures { λ r. ⌜ ExpressionPost (now (table .entry)) (now (names .entry)) s (formCompound k after) left row at (now (code .entry))
         (now (code .exit)) r ⌝ }
 {
@@ -177,7 +177,7 @@ fn binary(
     row: usize,
     at: usize,
 ) -> usize
-    requires { ⌜ Writable (now table) (now names) (now code) (s .tokens) left row at ⌝ }
+    requires { ⌜ Writable (now table) (now names) (s .tokens) left row at ⌝ }
     ensures { λ r. ⌜ ExpressionPost (now (table .entry)) (now (names .entry)) s Form.aBinary left row at (now (code .entry))
         (now (code .exit)) r ⌝ }
 {
@@ -211,7 +211,7 @@ pub fn followed(
     row: usize,
     at: usize,
 ) -> usize
-    requires { ⌜ Writable (now table) (now names) (now code) (s .tokens) left row at × (op < modulus) × (arg < modulus) ⌝ }
+    requires { ⌜ Writable (now table) (now names) (s .tokens) left row at × (op < modulus) × (arg < modulus) ⌝ }
     ensures { λ r. ⌜ FollowedPost (now (table .entry)) (now (names .entry)) s op arg left row at (now (code .entry))
         (now (code .exit)) r ⌝ }
 {
@@ -230,7 +230,7 @@ pub fn located(
     row: usize,
     at: usize,
 ) -> usize
-    requires { ⌜ Writable (now table) (now names) (now code) (s .tokens) left row at × (op < modulus) ⌝ }
+    requires { ⌜ Writable (now table) (now names) (s .tokens) left row at × (op < modulus) ⌝ }
     ensures { λ r. ⌜ FollowedPost (now (table .entry)) (now (names .entry)) s op (wordAt (now (table .entry)) 3 row) left
         (wordAt (now (table .entry)) 4 row) at (now (code .entry)) (now (code .exit)) r ⌝ }
 {
@@ -251,7 +251,7 @@ pub fn pair(
     row: usize,
     at: usize,
 ) -> usize
-    requires { ⌜ Writable (now table) (now names) (now code) (s .tokens) left row at × (op < modulus) × (arg < modulus) ⌝ }
+    requires { ⌜ Writable (now table) (now names) (s .tokens) left row at × (op < modulus) × (arg < modulus) ⌝ }
     ensures { λ r. ⌜ PairPost (now (table .entry)) (now (names .entry)) s op arg left row at (now (code .entry)) (now (code .exit)) r ⌝ }
 {
     let first = word(table, columns::FIRST, row);
@@ -270,7 +270,7 @@ fn conjunction(
     row: usize,
     at: usize,
 ) -> usize
-    requires { ⌜ Writable (now table) (now names) (now code) (s .tokens) left row at ⌝ }
+    requires { ⌜ Writable (now table) (now names) (s .tokens) left row at ⌝ }
     ensures { λ r. ⌜ ConjunctionPost (now (table .entry)) (now (names .entry)) s left row at (now (code .entry)) (now (code .exit)) r ⌝ }
 {
     let first = word(table, columns::FIRST, row);
@@ -291,7 +291,7 @@ fn call(
     row: usize,
     at: usize,
 ) -> usize
-    requires { ⌜ Writable (now table) (now names) (now code) (s .tokens) left row at ⌝ }
+    requires { ⌜ Writable (now table) (now names) (s .tokens) left row at ⌝ }
     ensures { λ r. ⌜ ExpressionPost (now (table .entry)) (now (names .entry)) s Form.aCall left row at (now (code .entry))
         (now (code .exit)) r ⌝ }
 {
@@ -321,7 +321,7 @@ fn arguments(
     row: usize,
     at: usize,
 ) -> usize
-    requires { ⌜ Writable (now table) (now names) (now code) (s .tokens) left row at ⌝ }
+    requires { ⌜ Writable (now table) (now names) (s .tokens) left row at ⌝ }
     ensures { λ r. ⌜ WritePost (now (table .entry)) (now (names .entry)) s Sort.arguments left row at (now (code .entry))
         (now (code .exit)) r ⌝ }
 {
