@@ -8,15 +8,18 @@ use mathlib.Core.List.{List, [], _∷_}
 use lib.ListN.{length, set}
 use Rattle.lexer.specs.Tokens.{Token}
 use Rattle.lexer.specs.contracts.Rows.{firstNamed}
-use Rattle.parser.specs.Tree.{Sort.expression, Sort.statements, Method, Class}
-use Rattle.parser.specs.contracts.Layout.{absent, rowMethods}
+use Rattle.parser.specs.Tree.{Sort, Sort.expression, Sort.statements, Part, Method, Class}
+use Rattle.parser.specs.Measure.{nodes}
+use Rattle.parser.specs.contracts.Layout.{absent, rowOf, rowMethods}
+use Rattle.reader.specs.contracts.Holds.{Holds}
+use Rattle.reader.specs.contracts.Matches.{Matches}
 use Rattle.base.specs.contracts.Table.{col}
 use Rattle.typesystem.specs.ClassTable.{contextOf}
 use Rattle.lookup.specs.contracts.Shows.{PartAt}
 use Rattle.lookup.specs.contracts.HeldClasses.{wordAt, MethodHeld, MethodsHeld, more-methods}
 use Rattle.lookup.specs.laws.HeldLaws.{word-in, row-there}
 use Rattle.codegen.specs.contracts.Code.{return}
-use Rattle.codegen.specs.contracts.Compile.{end, emit, middle, valueEnd, endMethods, emitMethods}
+use Rattle.codegen.specs.contracts.Compile.{emit, middle, valueEnd, endMethods, emitMethods}
 use Rattle.writer.specs.laws.Emits.{no-code}
 use Rattle.writer.specs.laws.Lengths.{grows}
 use Rattle.writer.specs.contracts.Scoping.{Sees}
@@ -28,6 +31,12 @@ use Rattle.writer.proofs.ExpressionLaws.{both-wrote}
 -- a word of a row of a declaration
 word : (tab : List ℕ) (k : ℕ) {row r v w : ℕ} → w ≡ wordAt tab k row → r ≡ row → r < absent → col tab k r ≡ v → w ≡ v
 word tab k {row} {r} e at low h = e ∙ ap (wordAt tab k) (sym at) ∙ word-in tab k r low h
+
+-- the part to which a column of such a row leads
+part : (tab : List ℕ) (ts : List Token) (k n : ℕ) {q : Sort} (t : Part q) {row r w : ℕ} → w ≡ wordAt tab k row → r ≡ row → r < absent
+    → col tab k r ≡ rowOf t → Holds tab t → Matches ts t → nodes t ≤ n → PartAt tab ts w (AtMost n q) t
+part tab ts k n t e at low h holds matches few =
+    record { at = sym (word tab k e at low h); holds = holds; matches = matches; within = few }
 
 pub method-wrote : {tab names : List ℕ} {n row at p l first a second b r : ℕ} {c c₁ c₂ c₃ : List ℕ} → p ≡ wordAt tab 4 row
     → l ≡ wordAt tab 5 row → first ≡ wordAt tab 4 (row + 1)
@@ -60,20 +69,10 @@ method-wrote {tab} {names} {n} {row} {at} {p} {l} {first} {a} {second} {b} {r} {
               };
           sizes = w .sizes;
         } in
-        let x : PartAt tab ts first (AtMost n statements) (F .body) =
-        record {
-          at = sym (word tab 4 e₄′ is′ near′ (h .start));
-          holds = h .body;
-          matches = h .body-matches;
-          within = omega (arith, h .body-covers, nodes-covered (F .body));
-        } in
-        let y : PartAt tab ts second (AtMost n expression) (F .value) =
-        record {
-          at = sym (word tab 5 e₅′ is′ near′ (h .return));
-          holds = h .value;
-          matches = h .value-matches;
-          within = omega (arith, h .value-covers, nodes-covered (F .value));
-        } in
+        let x = part tab ts 4 n (F .body) e₄′ is′ near′ (h .start) (h .body) (h .body-matches)
+        (omega (arith, h .body-covers, nodes-covered (F .body))) in
+        let y = part tab ts 5 n (F .value) e₅′ is′ near′ (h .return) (h .value) (h .value-matches)
+        (omega (arith, h .value-covers, nodes-covered (F .value))) in
         let u = both-wrote f g ts G (contextOf d F) sees (F .body) (F .value) x y (omega arith) in
         next-to (λ j k. return ∷ k) suc u (put-one return refl o (rw (u .ends) low))
 

@@ -6,7 +6,6 @@ use mathlib.Core.Path.{_≡_, refl, sym, ap, _∙_, subst}
 use mathlib.Core.List.{List, _∷_}
 use borrow.Author.Tests.{ne-eqb}
 use Rattle.lexer.specs.Tokens.{Token}
-use Rattle.lexer.specs.contracts.Rows.{firstNamed}
 use Rattle.parser.specs.Tree.{Sort.expression, Sort.statement, Sort.statements, Part, Statement, Class, placeS}
 use Rattle.parser.specs.Tree.{Part.block, Part.conditional, Part.loop, Part.print, Part.assign, Part.assignElement}
 use Rattle.parser.specs.Tree.{Part.noStatements, Part.sequence}
@@ -20,14 +19,14 @@ use Rattle.lookup.specs.contracts.Shows.{Bound, ShowsS, shows-block, shows-cond
 use Rattle.lookup.specs.contracts.Shows.{shows-element-store, GoesOnS, one-more-statement}
 use Rattle.lookup.specs.laws.ShowLaws.{shownS, goes-onS, endedS}
 use Rattle.writer.specs.declared.scope.Scope.{Scope}
-use Rattle.writer.specs.contracts.Scoping.{Sees, SlotPost}
+use Rattle.writer.specs.contracts.Scoping.{SlotPost}
 use Rattle.codegen.specs.contracts.Code as Code
 use Rattle.codegen.specs.contracts.Code.{save, jump, unless, storeElement}
 use Rattle.codegen.specs.contracts.Compile.{end, emit}
 use Rattle.writer.specs.contracts.Words.{words}
 use Rattle.writer.specs.laws.Emits.{no-code}
 use Rattle.writer.specs.laws.Lengths.{grows}
-use Rattle.writer.specs.contracts.Posts.{room, PutPost, NextPost, Wrote, AtMost, Written, Whatever, WritePost, innerS, endS}
+use Rattle.writer.specs.contracts.Posts.{room, PutPost, NextPost, AtMost, Written, Whatever, WritePost, innerS, endS}
 use Rattle.writer.specs.contracts.Posts.{formTested, SaysS}
 use Rattle.writer.specs.contracts.Posts.{StatementPost, LoadPost, FollowedPost, PairPost, BranchesPost, OtherwisePost, BodyPost}
 use Rattle.writer.proofs.RowLaws.{positive-statement, fewer, fewer-statements}
