@@ -10,7 +10,8 @@ use Rattle.lexer.specs.Tokens.{Token}
 use Rattle.lexer.specs.contracts.Rows.{firstNamed}
 use Rattle.parser.specs.Tree.{Method, Class}
 use Rattle.parser.specs.contracts.Layout.{absent, rowMethods, rowClasses}
-use Rattle.lookup.specs.contracts.HeldClasses.{wordAt, NameNumber, a-name, MethodsHeld, more-methods, ClassHeld, ClassesHeld, more-classes, ClassTableHeld}
+use Rattle.lookup.specs.contracts.HeldClasses.{wordAt, NameNumber, a-name, MethodsHeld, more-methods, ClassHeld, ClassesHeld, more-classes}
+use Rattle.lookup.specs.contracts.HeldClasses.{ClassTableHeld}
 use Rattle.lookup.specs.laws.HeldLaws.{word-in, name-word, row-there}
 use Rattle.lookup.specs.contracts.Fields.{FieldsOf, KeptBehind, FieldsFilled}
 use Rattle.codegen.specs.contracts.Compile.{endMethods, emitMethods, emitClasses}
@@ -25,10 +26,12 @@ use Rattle.writer.proofs.MethodLaws.{grows-methods}
 -- ONE CLASS
 
 -- the sizes stand behind what stays
-pub sizes-kept : {names names′ : List ℕ} → KeptBehind names names′ → {ts : List Token} {G : List Class} → SizesHeld ts G names → SizesHeld ts G names′
+pub sizes-kept : {names names′ : List ℕ} → KeptBehind names names′ → {ts : List Token} {G : List Class} → SizesHeld ts G names
+    → SizesHeld ts G names′
 sizes-kept keep h = record { says = λ c x sp. keep _ (omega arith) ∙ h .says c x sp }
 
-first-method : {tab : List ℕ} {n row first : ℕ} → first ≡ wordAt tab 5 row → {ts : List Token} {G : List Class} → ClassTableHeld tab n ts G → (k : Class) → k .name .row ≡ row
+first-method : {tab : List ℕ} {n row first : ℕ} → first ≡ wordAt tab 5 row → {ts : List Token} {G : List Class} → ClassTableHeld tab n ts G
+    → (k : Class) → k .name .row ≡ row
     → ClassHeld tab n ts k → rowMethods (k .methods) ≡ first
 first-method {tab} e₅ w k is s =
     sym (word-in tab 5 (k .name .row) (row-there (w .tokens) (k .name .row) (s .named .token .there)) (s .second)) ∙ ap (wordAt tab 5) is ∙ sym e₅
@@ -38,19 +41,23 @@ module _ {tab : List ℕ} {n classes row at first : ℕ} {names c E : List ℕ} 
   unfolding emitMethods endMethods entered
   class-empty far low = record { within = low; stays = λ j h. refl; says = λ ts G w l z k is s lim. go ts G w (k .name .text) (k .methods) (first-method e₅ w k is s) (s .methods) }
     where
-      go : (ts : List Token) (G : List Class) → ClassTableHeld tab n ts G → (d : List ℕ) (M : List Method) → rowMethods M ≡ first → MethodsHeld tab n ts M
+      go : (ts : List Token) (G : List Class) → ClassTableHeld tab n ts G → (d : List ℕ) (M : List Method) → rowMethods M ≡ first
+          → MethodsHeld tab n ts M
           → Wrote (firstNamed ts) (emitMethods G d M at) (endMethods M at) at c c at × (E ≡ entered M at E)
       go ts G w d [] is h = (record { ends = refl; code = no-code }, refl)
       go ts G w d (F ∷ M) is (more-methods h e hs) = absurd (omega (arith, is, row-there (w .tokens) (F .name .row) (h .head .name .token .there)))
 
-  pub class-wrote : {x : ℕ} → x ≡ wordAt tab 2 row → {names′ : List ℕ} → FieldsFilled tab n classes x names names′ → {c′ E′ : List ℕ} {r : ℕ}
+  pub class-wrote : {x : ℕ} → x ≡ wordAt tab 2 row → {names′ : List ℕ} → FieldsFilled tab n classes x names names′
+      → {c′ E′ : List ℕ} {r : ℕ}
       → MethodsPost tab names′ n n first at c c′ E E′ r → ClassPost tab n classes row at names names′ c c′ E E′ r
   class-wrote {x} e₂ {names′} f {c′} {E′} {r} m = record { within = m .within; stays = f .stays; says = go }
     where
-      fields : {ts : List Token} {G : List Class} → ClassTableHeld tab n ts G → length G ≡ classes → (d : List ℕ) → NameNumber ts d x → FieldsOf ts G (length G) (some d) names′
+      fields : {ts : List Token} {G : List Class} → ClassTableHeld tab n ts G → length G ≡ classes → (d : List ℕ) → NameNumber ts d x
+          → FieldsOf ts G (length G) (some d) names′
       fields {ts} {G} w l d own = subst (λ (i : ℕ). FieldsOf ts G i (some d) names′) (sym l) (f .held .says ts G w (some d) (a-name own))
 
-      go : (ts : List Token) (G : List Class) → ClassTableHeld tab n ts G → length G ≡ classes → SizesHeld ts G names → (k : Class) → k .name .row ≡ row → ClassHeld tab n ts k
+      go : (ts : List Token) (G : List Class) → ClassTableHeld tab n ts G → length G ≡ classes → SizesHeld ts G names → (k : Class)
+          → k .name .row ≡ row → ClassHeld tab n ts k
           → endMethods (k .methods) at ≤ room
           → Wrote (firstNamed ts) (emitMethods G (k .name .text) (k .methods) at) (endMethods (k .methods) at) at c c′ r × (E′ ≡ entered (k .methods) at E)
       go ts G w l sizes k is s lim =
@@ -69,7 +76,8 @@ module _ {tab : List ℕ} {n classes left row at : ℕ} {names c E : List ℕ} w
   unfolding emitClasses enteredClasses store
   classes-none z = record { says = λ ts G w l s ks h lim. go ts G ks (h .few) }
     where
-      go : (ts : List Token) (G ks : List Class) → length ks ≤ left → (c ≡ store (firstNamed ts) (emitClasses G ks at) at c) × (E ≡ enteredClasses ks at E)
+      go : (ts : List Token) (G ks : List Class) → length ks ≤ left
+          → (c ≡ store (firstNamed ts) (emitClasses G ks at) at c) × (E ≡ enteredClasses ks at E)
       go ts G [] few = (refl, refl)
       go ts G (k ∷ ks) few = absurd (omega arith)
 
@@ -77,18 +85,23 @@ module _ {tab : List ℕ} {n classes left row at : ℕ} {names c E : List ℕ} w
   unfolding emitClasses enteredClasses store
   classes-end far = record { says = λ ts G w l s ks h lim. go ts G w ks (h .here) (h .stand) }
     where
-      go : (ts : List Token) (G : List Class) → ClassTableHeld tab n ts G → (ks : List Class) → rowClasses ks ≡ row → ClassesHeld tab n ts ks
+      go : (ts : List Token) (G : List Class) → ClassTableHeld tab n ts G → (ks : List Class) → rowClasses ks ≡ row
+          → ClassesHeld tab n ts ks
           → (c ≡ store (firstNamed ts) (emitClasses G ks at) at c) × (E ≡ enteredClasses ks at E)
       go ts G w [] is h = (refl, refl)
       go ts G w (k ∷ ks) is (more-classes s e h) = absurd (omega (arith, is, row-there (w .tokens) (k .name .row) (s .named .token .there)))
 
-  pub classes-more : row < absent → {a : ℕ} {names′ c₁ E₁ : List ℕ} → ClassPost tab n classes row at names names′ c c₁ E E₁ a → {next : ℕ} → next ≡ wordAt tab 6 row
-      → {c₂ E₂ : List ℕ} → ClassesPost tab n classes (left - 1) next a names′ c₁ c₂ E₁ E₂ → ClassesPost tab n classes left row at names c c₂ E E₂
+  pub classes-more : row < absent → {a : ℕ} {names′ c₁ E₁ : List ℕ} → ClassPost tab n classes row at names names′ c c₁ E E₁ a → {next : ℕ}
+      → next ≡ wordAt tab 6 row
+      → {c₂ E₂ : List ℕ} → ClassesPost tab n classes (left - 1) next a names′ c₁ c₂ E₁ E₂
+      → ClassesPost tab n classes left row at names c c₂ E E₂
   unfolding emitClasses endClasses enteredClasses
   classes-more near {a} {names′} {c₁} {E₁} f {next} e₆ {c₂} {E₂} g = record { says = λ ts G w l s ks h lim. go ts G w l s ks (h .here) (h .stand) (h .few) lim }
     where
-      go : (ts : List Token) (G : List Class) → ClassTableHeld tab n ts G → length G ≡ classes → SizesHeld ts G names → (ks : List Class) → rowClasses ks ≡ row → ClassesHeld tab n ts ks
-          → length ks ≤ left → endClasses ks at ≤ room → (c₂ ≡ store (firstNamed ts) (emitClasses G ks at) at c) × (E₂ ≡ enteredClasses ks at E)
+      go : (ts : List Token) (G : List Class) → ClassTableHeld tab n ts G → length G ≡ classes → SizesHeld ts G names → (ks : List Class)
+          → rowClasses ks ≡ row → ClassesHeld tab n ts ks
+          → length ks ≤ left → endClasses ks at ≤ room
+          → (c₂ ≡ store (firstNamed ts) (emitClasses G ks at) at c) × (E₂ ≡ enteredClasses ks at E)
       go ts G w l s [] is h few lim = absurd (omega (arith, is))
       go ts G w l s (k ∷ ks) is (more-classes st e h) few lim =
           let stop = endMethods (k .methods) at in

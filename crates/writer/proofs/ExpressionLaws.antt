@@ -36,7 +36,8 @@ use Rattle.codegen.specs.contracts.Compile.{endBinary, emitBinary, end, emit, c
 use Rattle.writer.specs.contracts.Words.{words, encode}
 use Rattle.writer.specs.laws.Emits.{no-code}
 use Rattle.writer.specs.laws.Lengths.{grows}
-use Rattle.writer.specs.contracts.Posts.{room, PutPost, NextPost, Wrote, AtMost, WritePost, innerE, endE, Says, ExpressionPost}
+use Rattle.writer.specs.contracts.Posts.{room, PutPost, NextPost, Wrote, AtMost, Written, Whatever, WritePost, innerE, endE, Says}
+use Rattle.writer.specs.contracts.Posts.{ExpressionPost}
 use Rattle.writer.specs.contracts.Posts.{LoadPost, FollowedPost, PairPost, ConjunctionPost}
 use Rattle.writer.proofs.RowLaws.{positive, fewer, fewer-arguments, counted}
 use Rattle.writer.proofs.PieceLaws.{put-one, next-to, over, Opens, node-wrote}
@@ -58,9 +59,8 @@ spelt e h = e ∙ sym (h .first)
 -- a part behind another
 pub both-wrote : {tab names : List ℕ} {s : Scope} {p q : Sort} {left left′ row row′ at a b : ℕ} {c c₁ c₂ : List ℕ}
     → WritePost tab names s p left row at c c₁ a → WritePost tab names s q left′ row′ a c₁ c₂ b
-    → (ts : List Token) (G : List Class) (Γ : Context) → Sees tab names ts G Γ s → (x : Part p) (y : Part q)
-    → PartAt tab ts row (AtMost left p) x → PartAt tab ts row′ (AtMost left′ q) y → end y (end x at) ≤ room
-    → Wrote (firstNamed ts) (λ k. emit G Γ x at (emit G Γ y (end x at) k)) (end y (end x at)) at c c₂ b
+    → Whatever tab names s λ ts G Γ. (x : Part p) (y : Part q) → PartAt tab ts row (AtMost left p) x
+    → PartAt tab ts row′ (AtMost left′ q) y → Written ts (λ k. emit G Γ x at (emit G Γ y (end x at) k)) (end y (end x at)) at c c₂ b
 both-wrote {at = at} f g ts G Γ w x y h h′ l =
     let u = f .says ts G Γ w x h (omega (arith, grows y (end x at))) in
     next-to (emit G Γ y) (end y) u (g .says ts G Γ w y h′ (rw (u .ends) l))
@@ -102,7 +102,8 @@ followed-wrote f p =
           next-to (λ j k. x ∷ k) suc u (put-one x is p (rw (u .ends) h));
     }
 
-pub located-wrote : {tab names : List ℕ} {s : Scope} {op start left : ℕ} (row : ℕ) {first at r : ℕ} {c c′ : List ℕ} → start ≡ wordAt tab 3 row
+pub located-wrote : {tab names : List ℕ} {s : Scope} {op start left : ℕ} (row : ℕ) {first at r : ℕ} {c c′ : List ℕ}
+    → start ≡ wordAt tab 3 row
     → first ≡ wordAt tab 4 row → FollowedPost tab names s op start left first at c c′ r
     → FollowedPost tab names s op (wordAt tab 3 row) left (wordAt tab 4 row) at c c′ r
 located-wrote {tab} {names} {s} {op} {start} {left} row {first} {at} {r} {c} {c′} e₃ e₄ f =
@@ -288,7 +289,8 @@ module _ {tab names : List ℕ} {s : Scope} {left row at r : ℕ} {c c′ : List
           let joins : isAnd o ≡ true = and-kind o ∙ ap (λ (j : ℕ). eqb j 24) (sym z ∙ sym kind ∙ is) in
           subst
           (λ (b : Bool).
-          Wrote (firstNamed ts) (λ n. emit G Γ l at (emitBinary b o (end l at) (end m) (emit G Γ m) n)) (endBinary b (end l at) (end m)) at c c′ r)
+          Wrote (firstNamed ts) (λ n. emit G Γ l at (emitBinary b o (end l at) (end m) (emit G Γ m) n))
+          (endBinary b (end l at) (end m)) at c c′ r)
           (sym joins)
           (f .says ts G Γ w l m x y (subst (λ (b : Bool). endBinary b (end l at) (end m) ≤ room) joins h))
 
@@ -300,7 +302,8 @@ module _ {tab names : List ℕ} {s : Scope} {left row at r : ℕ} {c c′ : List
           let plain : isAnd o ≡ false = and-kind o ∙ ne-eqb (operatorKind o) 24 (λ i. other (kind ∙ z ∙ i)) in
           subst
           (λ (b : Bool).
-          Wrote (firstNamed ts) (λ n. emit G Γ l at (emitBinary b o (end l at) (end m) (emit G Γ m) n)) (endBinary b (end l at) (end m)) at c c′ r)
+          Wrote (firstNamed ts) (λ n. emit G Γ l at (emitBinary b o (end l at) (end m) (emit G Γ m) n))
+          (endBinary b (end l at) (end m)) at c c′ r)
           (sym plain)
           (f .says ts G Γ w (operate o) (ap (λ (n : ℕ). words 8 n 0 0) (kind ∙ z)) l m x y
           (subst (λ (b : Bool). endBinary b (end l at) (end m) ≤ room) plain h))
@@ -373,7 +376,6 @@ module _ {tab names : List ℕ} {s : Scope} {left row at : ℕ} {c : List ℕ} w
   arguments-more more near {a} {next} {r} {c₁} {c₂} f e₆ g =
       record { within = g .within; says = λ ts G Γ w es h l. go ts G Γ w es (goes-on (fewer-arguments row left more) near es h) l }
     where
-      go : (ts : List Token) (G : List Class) (Γ : Context) → Sees tab names ts G Γ s → (es : Part arguments)
-          → GoesOn tab ts row (AtMost left expression) (AtMost (left - 1) arguments) es → end es at ≤ room
-          → Wrote (firstNamed ts) (emit G Γ es at) (end es at) at c c₂ r
+      go : Whatever tab names s λ ts G Γ. (es : Part arguments)
+          → GoesOn tab ts row (AtMost left expression) (AtMost (left - 1) arguments) es → Written ts (emit G Γ es at) (end es at) at c c₂ r
       go ts G Γ w t (one-more-argument {e = e} {es = es} x y) l = both-wrote f g ts G Γ w e es x (rw e₆ y) l

@@ -48,7 +48,8 @@ node-wrote {t = t} {start} {inner} {stop} o some {ν} {at = at} {c = c} e p h f 
 
 -- a piece behind an instruction that is written after it
 pub over : (x : Instruction) (g : ℕ → Piece) (stop : ℕ → ℕ) {ν : List ℕ → ℕ} {at n op a b d r j : ℕ} {c c₁ c₂ : List ℕ}
-    → NextPost at n → Wrote ν (g n) (stop n) n c c₁ j → words op a b d ≡ encode ν x → PutPost at op a b d c₁ c₂ r → suc at ≤ room → suc at ≤ stop (suc at) → Wrote ν (λ k. x ∷ g (suc at) k) (stop (suc at)) at c c₂ j
+    → NextPost at n → Wrote ν (g n) (stop n) n c c₁ j → words op a b d ≡ encode ν x → PutPost at op a b d c₁ c₂ r → suc at ≤ room
+    → suc at ≤ stop (suc at) → Wrote ν (λ k. x ∷ g (suc at) k) (stop (suc at)) at c c₂ j
 over x g stop {ν} {at} {n} {op} {a} {b} {d} {r} {j} {c} {c₁} {c₂} m v e p h l =
     let w : Wrote ν (g (suc at)) (stop (suc at)) (suc at) c c₁ j = subst (λ (i : ℕ). Wrote ν (g i) (stop i) i c c₁ j) (m .next h) v in
     record { ends = w .ends; code = rw (p .says h, e) (before x (omega (arith, w .ends)) (w .code)) }

@@ -34,7 +34,8 @@ module _ {tab : List ℕ} {left row x at : ℕ} where
   unfolding variableNamed
   place-absent far = record { most = omega arith; says = λ n ts lx vs d s few text sp. go n ts lx vs d s text }
     where
-      go : (n : ℕ) (ts : List Token) → Lexemes tab n ts → (vs : List Variable) → rowVariables vs ≡ row → VariablesHeld tab ts vs → (text : List ℕ)
+      go : (n : ℕ) (ts : List Token) → Lexemes tab n ts → (vs : List Variable) → rowVariables vs ≡ row → VariablesHeld tab ts vs
+          → (text : List ℕ)
           → absent ≡ placeFrom at (variableNamed vs text)
       go n ts lx [] d s text = refl
       go n ts lx (v ∷ vs) d (more-variables m e₃ e₆ s) text = absurd (omega (arith, d, row-there lx (v .name .row) (m .name .token .there)))
@@ -44,17 +45,20 @@ module _ {tab : List ℕ} {left row x at : ℕ} where
     unfolding variableNamed
     place-here is low = record { most = omega arith; says = λ n ts lx vs d s few text sp. go n ts lx vs d s text sp }
       where
-        go : (n : ℕ) (ts : List Token) → Lexemes tab n ts → (vs : List Variable) → rowVariables vs ≡ row → VariablesHeld tab ts vs → (text : List ℕ) → NameNumber ts text x
+        go : (n : ℕ) (ts : List Token) → Lexemes tab n ts → (vs : List Variable) → rowVariables vs ≡ row → VariablesHeld tab ts vs
+            → (text : List ℕ) → NameNumber ts text x
             → at ≡ placeFrom at (variableNamed vs text)
         go n ts lx [] d s text sp = absurd (omega (arith, d))
         go n ts lx (v ∷ vs) d (more-variables m c₃ c₆ s) text sp =
             rw (same-names (subst (NameNumber ts (v .name .text)) (ap (wordAt tab 2) d ∙ sym word) (name-word lx (v .name .row) (m .name .token))) sp is) (omega arith)
 
-    pub place-next : (w ≡ x → ⊥) → {next r : ℕ} → next ≡ wordAt tab 6 row → PlacePost tab (left - 1) next x (at + 1) r → PlacePost tab left row x at r
+    pub place-next : (w ≡ x → ⊥) → {next r : ℕ} → next ≡ wordAt tab 6 row → PlacePost tab (left - 1) next x (at + 1) r
+        → PlacePost tab left row x at r
     unfolding variableNamed
     place-next other {next} {r} e₆ h = record { most = h .most; says = λ n ts lx vs d s few text sp. go n ts lx vs d s few text sp }
       where
-        go : (n : ℕ) (ts : List Token) → Lexemes tab n ts → (vs : List Variable) → rowVariables vs ≡ row → VariablesHeld tab ts vs → length vs ≤ left → (text : List ℕ)
+        go : (n : ℕ) (ts : List Token) → Lexemes tab n ts → (vs : List Variable) → rowVariables vs ≡ row → VariablesHeld tab ts vs
+            → length vs ≤ left → (text : List ℕ)
             → NameNumber ts text x → r ≡ placeFrom at (variableNamed vs text)
         go n ts lx [] d s few text sp = absurd (omega (arith, d))
         go n ts lx (v ∷ vs) d (more-variables m c₃ c₆ s) few text sp =
@@ -69,7 +73,8 @@ place-below [] x e = absurd (none-some refl e)
 place-below (v ∷ vs) x {s} e = go (same (v .name .text) x) (variableNamed vs x) (λ t q. place-below vs x q) e
   where
     go : (b : Bool) (o : Option Slot) → ((t : Slot) → o ≡ some t → t .place < length vs)
-        → (if b then (λ _. some (record { place = 0; type = v .type .type })) else λ _. option o none λ s. some (moved 1 s)) ≡ some s → s .place < length (v ∷ vs)
+        → (if b then (λ _. some (record { place = 0; type = v .type .type })) else λ _. option o none λ s. some (moved 1 s)) ≡ some s
+        → s .place < length (v ∷ vs)
     go true o f h = let z : 0 ≡ s .place = cc in omega (arith, z)
     go false none f h = absurd (none-some refl h)
     go false (some t) f h = let z : 1 + t .place ≡ s .place = cc in omega (arith, z, f t refl)

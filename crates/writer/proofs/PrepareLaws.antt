@@ -7,7 +7,8 @@ use Rattle.writer.specs.laws.Room.{compile-fits}
 use Rattle.writer.specs.contracts.Writing.{Writes}
 use Rattle.writer.specs.contracts.Preparing.{Prepares}
 
-pub prepared : {n k : ℕ} {tab code code′ entries entries′ : List ℕ} → Writes tab n k code code′ entries entries′ → Prepares n k tab code code′ entries entries′
+pub prepared : {n k : ℕ} {tab code code′ entries entries′ : List ℕ} → Writes tab n k code code′ entries entries′
+    → Prepares n k tab code code′ entries entries′
 prepared {n} {k} {tab} {code} {code′} {entries} {entries′} g =
     record {
       says = λ ts p h.

@@ -32,7 +32,8 @@ use Rattle.writer.proofs.ClassLaws.{sizes-kept, grows-classes}
 
 -- WHAT MAIN SEES
 
-pub begun : (size : ℕ) {tab names₁ names₂ names₃ : List ℕ} {n classes first : ℕ} → names₁ ≡ replicate size 0 → SizesPost tab n classes n first names₁ names₂
+pub begun : (size : ℕ) {tab names₁ names₂ names₃ : List ℕ} {n classes first : ℕ} → names₁ ≡ replicate size 0
+    → SizesPost tab n classes n first names₁ names₂
     → FieldsFilled tab n classes absent names₂ names₃ → BeginPost tab n classes first names₃
 begun size {names₁ = names₁} {names₃ = names₃} zero s f =
     record {
@@ -45,11 +46,13 @@ begun size {names₁ = names₁} {names₃ = names₃} zero s f =
 
 -- MAIN
 
-pub main-wrote : {tab names : List ℕ} {n a r : ℕ} {c c₁ c₂ : List ℕ} → WritePost tab names (record { tokens = n; parameters = absent; locals = absent }) statement n 14 0 c c₁ a
+pub main-wrote : {tab names : List ℕ} {n a r : ℕ} {c c₁ c₂ : List ℕ}
+    → WritePost tab names (record { tokens = n; parameters = absent; locals = absent }) statement n 14 0 c c₁ a
     → PutPost a 7 0 0 0 c₁ c₂ r → MainPost tab names n c c₂ r
 main-wrote {tab} {names} {n} {a} {r} {c} {c₁} {c₂} f o = record { within = o .within; says = go }
   where
-    go : (ts : List Token) (p : Program) → Ready tab n ts p → FieldsOf ts (p .classes) (length (p .classes)) none names → SizesHeld ts (p .classes) names → suc (end (p .statement) 0) ≤ room
+    go : (ts : List Token) (p : Program) → Ready tab n ts p → FieldsOf ts (p .classes) (length (p .classes)) none names
+        → SizesHeld ts (p .classes) names → suc (end (p .statement) 0) ≤ room
         → Wrote (firstNamed ts) (λ k. emit (p .classes) mainContext (p .statement) 0 (halt ∷ k)) (suc (end (p .statement) 0)) 0 c c₂ r
     go ts p w fields sizes lim =
         let sees : Sees tab names ts (p .classes) mainContext (record { tokens = n; parameters = absent; locals = absent }) =
@@ -66,13 +69,20 @@ main-wrote {tab} {names} {n} {a} {r} {c} {c₁} {c₂} f o = record { within = o
               };
           sizes = sizes;
         } in
-        let x : PartAt tab ts 14 (AtMost n statement) (p .statement) = record { at = w .row; holds = w .statement; matches = w .matches; within = w .statement-nodes } in
+        let x : PartAt tab ts 14 (AtMost n statement) (p .statement) =
+        record {
+          at = w .row;
+          holds = w .statement;
+          matches = w .matches;
+          within = w .statement-nodes;
+        } in
         let u = f .says ts (p .classes) mainContext sees (p .statement) x (omega arith) in
         next-to (λ j k. halt ∷ k) suc u (put-one halt refl o (rw (u .ends) lim))
 
 -- ALL
 
-pub all-wrote : {tab names : List ℕ} {n classes first a : ℕ} {c c₁ c₂ E E₂ : List ℕ} → first ≡ wordAt tab 6 0 → BeginPost tab n classes first names → MainPost tab names n c c₁ a
+pub all-wrote : {tab names : List ℕ} {n classes first a : ℕ} {c c₁ c₂ E E₂ : List ℕ} → first ≡ wordAt tab 6 0
+    → BeginPost tab n classes first names → MainPost tab names n c c₁ a
     → ClassesPost tab n classes n first a names c₁ c₂ E E₂ → Writes tab n classes c c₂ E E₂
 unfolding compile
 all-wrote {tab} {names} {n} {classes} {first} {a} {c} {c₁} {c₂} {E} {E₂} e₆ b m g = record { says = go }

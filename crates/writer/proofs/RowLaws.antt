@@ -1,5 +1,5 @@
--- A part has fewer nodes than the whole, so the laws of what the rows show hold where a part is bounded by its number of nodes; and how many
--- arguments lie in a list.
+-- A part has fewer nodes than the whole, so the laws of what the rows show hold where a part is bounded by its number of nodes. And how
+-- many arguments lie in a list.
 use Prim.Native.Nat.{ℕ, _-_, _≤_}
 use native.Mathlib.Omega.{arith}
 use mathlib.Core.Path.{_≡_, subst}
@@ -17,7 +17,7 @@ use Rattle.reader.specs.contracts.Matches.{Matches}
 use Rattle.typesystem.specs.Judge.{arity}
 use Rattle.lookup.specs.contracts.Shows.{PartAt}
 use Rattle.lookup.specs.contracts.Lookups.{Many, many-none, many-more, Counts}
-use Rattle.lookup.specs.laws.ShowLaws.{Bounds, there}
+use Rattle.lookup.specs.laws.ShowLaws.{Bounds, BoundsS, there}
 use Rattle.writer.specs.contracts.Posts.{AtMost}
 
 pub positive : (e : Expression) → 1 ≤ nodes e
@@ -56,6 +56,12 @@ module _ (row left : ℕ) (more : left ≡ 0 → ⊥) where
         of-element = λ at w. (omega arith, omega arith);
         of-length = λ at w. omega arith;
         of-call = λ at w. (omega arith, omega arith);
+      }
+
+  pub fewerS : BoundsS row (AtMost left) (AtMost (left - 1))
+  unfolding nodes
+  fewerS =
+      record {
         of-block = λ at w. omega arith;
         of-conditional = λ at w. (omega arith, omega arith, omega arith);
         of-loop = λ at w. (omega arith, omega arith);

@@ -32,7 +32,8 @@ abbrev objectSlot : Option Slot → ℕ
 objectSlot none = absent
 objectSlot (some s) = 32 + s .place
 
-meaning-row : (G : List Class) (Γ : Context) (x : List ℕ) {s : Slot} → variableNamed (Γ .variables) x ≡ some s → meaning G Γ x ≡ some (ofRow s)
+meaning-row : (G : List Class) (Γ : Context) (x : List ℕ) {s : Slot} → variableNamed (Γ .variables) x ≡ some s
+    → meaning G Γ x ≡ some (ofRow s)
 unfolding meaning
 meaning-row G Γ x e = rw e
 
@@ -45,12 +46,14 @@ meaning-field G Γ x e = rw e (go (Γ .owner))
     object none = refl
     object (some s) = refl
 
-    go : (o : Option (List ℕ)) → slotOf (option o none λ c. option (nearestField (chain G c) x) none λ s. some (ofObject s)) ≡ objectSlot (nearestField (chainFrom (length G) G o) x)
+    go : (o : Option (List ℕ))
+        → slotOf (option o none λ c. option (nearestField (chain G c) x) none λ s. some (ofObject s)) ≡ objectSlot (nearestField (chainFrom (length G) G o) x)
     go none = refl
     go (some c) = object (nearestField (chain G c) x)
 
 -- a variable of two lists that the first has not is one of the second
-variable-second : (vs ws : List Variable) (x : List ℕ) → variableNamed vs x ≡ none → variableNamed (vs ++ ws) x ≡ option (variableNamed ws x) none λ s. some (moved (length vs) s)
+variable-second : (vs ws : List Variable) (x : List ℕ) → variableNamed vs x ≡ none
+    → variableNamed (vs ++ ws) x ≡ option (variableNamed ws x) none λ s. some (moved (length vs) s)
 unfolding variableNamed
 variable-second [] ws x e = go (variableNamed ws x)
   where
@@ -62,11 +65,13 @@ variable-second [] ws x e = go (variableNamed ws x)
         same-slot s = let z : s .place ≡ 0 + s .place = omega arith in ap (λ (i : ℕ). record { place = i; type = s .type }) z
 variable-second (v ∷ vs) ws x e = go (same (v .name .text) x) (variableNamed vs x) (λ q. variable-second vs ws x q) e
   where
-    further : (o : Option Slot) (n : ℕ) → (option (option o none λ s. some (moved n s)) none λ s. some (moved 1 s)) ≡ option o none λ s. some (moved (1 + n) s)
+    further : (o : Option Slot) (n : ℕ)
+        → (option (option o none λ s. some (moved n s)) none λ s. some (moved 1 s)) ≡ option o none λ s. some (moved (1 + n) s)
     further none n = refl
     further (some s) n = let z : 1 + (n + s .place) ≡ 1 + n + s .place = omega arith in ap (λ (i : ℕ). some (record { place = i; type = s .type })) z
 
-    go : (b : Bool) (o : Option Slot) → (o ≡ none → variableNamed (vs ++ ws) x ≡ option (variableNamed ws x) none λ s. some (moved (length vs) s))
+    go : (b : Bool) (o : Option Slot)
+        → (o ≡ none → variableNamed (vs ++ ws) x ≡ option (variableNamed ws x) none λ s. some (moved (length vs) s))
         → (if b then (λ _. some (record { place = 0; type = v .type .type })) else λ _. option o none λ s. some (moved 1 s)) ≡ none
         → (if b then (λ _. some (record { place = 0; type = v .type .type })) else λ _. option (variableNamed (vs ++ ws) x) none λ s. some (moved 1 s))
         ≡ option (variableNamed ws x) none λ s. some (moved (length (v ∷ vs)) s)
@@ -81,7 +86,8 @@ found : (i : ℕ) (o : Option Slot) → i < absent → i ≡ placeFrom 0 o → (
 found i none low e = absurd (omega (arith, e))
 found i (some s) low e = (s, refl, omega (arith, e))
 
-missing : (i : ℕ) (vs : List Variable) (x : List ℕ) → absent ≤ i → length vs ≤ 2048 → i ≡ placeFrom 0 (variableNamed vs x) → variableNamed vs x ≡ none
+missing : (i : ℕ) (vs : List Variable) (x : List ℕ) → absent ≤ i → length vs ≤ 2048 → i ≡ placeFrom 0 (variableNamed vs x)
+    → variableNamed vs x ≡ none
 missing i vs x high few e = go (variableNamed vs x) (λ s q. place-below vs x q) e
   where
     go : (o : Option Slot) → ((s : Slot) → o ≡ some s → s .place < length vs) → i ≡ placeFrom 0 o → o ≡ none
@@ -89,7 +95,8 @@ missing i vs x high few e = go (variableNamed vs x) (λ s q. place-below vs x q)
     go (some s) f e = absurd (omega (arith, f s refl, e))
 
 -- the place of a variable in one of the lists
-place-in : {tab : List ℕ} {n x : ℕ} {ts : List Token} {G : List Class} {i row : ℕ} {vs : List Variable} → ClassTableHeld tab n ts G → ListedAt tab n ts row vs → PlacePost tab n row x 0 i
+place-in : {tab : List ℕ} {n x : ℕ} {ts : List Token} {G : List Class} {i row : ℕ} {vs : List Variable} → ClassTableHeld tab n ts G
+    → ListedAt tab n ts row vs → PlacePost tab n row x 0 i
     → (text : List ℕ) → NameNumber ts text x → i ≡ placeFrom 0 (variableNamed vs text)
 place-in {n = n} {ts = ts} {vs = vs} w l h text sp = h .says n ts (w .tokens) vs (l .at) (l .stand) (l .few) text sp
 
@@ -97,19 +104,23 @@ module _ {tab names : List ℕ} {s : Scope} {x : ℕ} where
   pub slot-parameter : {i : ℕ} → PlacePost tab (s .tokens) (s .parameters) x 0 i → i < absent → SlotPost tab names s x i
   slot-parameter {i} h low = record { most = omega arith; says = go }
     where
-      go : (ts : List Token) (G : List Class) (Γ : Context) → CodeScope tab names ts G Γ s → (text : List ℕ) → NameNumber ts text x → i ≡ slotOf (meaning G Γ text)
+      go : (ts : List Token) (G : List Class) (Γ : Context) → CodeScope tab names ts G Γ s → (text : List ℕ) → NameNumber ts text x
+          → i ≡ slotOf (meaning G Γ text)
       go ts G Γ w text sp =
           let f = found i (variableNamed (w .given) text) low (place-in (w .world) (w .given-listed) h text sp) in
           rw (meaning-row G Γ text (ap (λ (vs : List Variable). variableNamed vs text) (w .seen) ∙ variable-left (w .given) (w .own) text (f .1))) (f .2)
 
   module _ (few : s .tokens ≤ 2048) {i : ℕ} (h : PlacePost tab (s .tokens) (s .parameters) x 0 i) (high : absent ≤ i) where
-    not-given : {ts : List Token} {G : List Class} {Γ : Context} (w : CodeScope tab names ts G Γ s) (text : List ℕ) → NameNumber ts text x → variableNamed (w .given) text ≡ none
+    not-given : {ts : List Token} {G : List Class} {Γ : Context} (w : CodeScope tab names ts G Γ s) (text : List ℕ) → NameNumber ts text x
+        → variableNamed (w .given) text ≡ none
     not-given w text sp = missing i (w .given) text high (omega (arith, w .given-listed .few)) (place-in (w .world) (w .given-listed) h text sp)
 
-    pub slot-local : {j : ℕ} → PlacePost tab (s .tokens) (s .locals) x 0 j → j < absent → {n : ℕ} → Counts tab (s .tokens) (s .parameters) n → SlotPost tab names s x (n + j)
+    pub slot-local : {j : ℕ} → PlacePost tab (s .tokens) (s .locals) x 0 j → j < absent → {n : ℕ} → Counts tab (s .tokens) (s .parameters) n
+        → SlotPost tab names s x (n + j)
     slot-local {j} h′ low {n} c = record { most = omega (arith, c .most); says = go }
       where
-        go : (ts : List Token) (G : List Class) (Γ : Context) → CodeScope tab names ts G Γ s → (text : List ℕ) → NameNumber ts text x → n + j ≡ slotOf (meaning G Γ text)
+        go : (ts : List Token) (G : List Class) (Γ : Context) → CodeScope tab names ts G Γ s → (text : List ℕ) → NameNumber ts text x
+            → n + j ≡ slotOf (meaning G Γ text)
         go ts G Γ w text sp =
             let f = found j (variableNamed (w .own) text) low (place-in (w .world) (w .own-listed) h′ text sp) in
             let many = subst (λ (i : ℕ). Many tab i (length (w .given))) (w .given-listed .at) (variables-many (w .world .tokens) (w .given-listed .stand)) in

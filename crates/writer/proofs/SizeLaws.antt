@@ -25,12 +25,14 @@ unfolding fieldsOf chain
 size-of G x = refl
 
 module _ {tab : List ℕ} {n classes x : ℕ} {before : List ℕ} where
-  pub size-written : x < absent → 6144 ≤ length before → {v : ℕ} → ObjectSize tab n classes x v → {after : List ℕ} → after ≡ set before (4096 + x) v
+  pub size-written : x < absent → 6144 ≤ length before → {v : ℕ} → ObjectSize tab n classes x v → {after : List ℕ}
+      → after ≡ set before (4096 + x) v
       → SizePost tab n classes x before after
   size-written low large {v} h {after} e =
       record { others = λ j other. ap (λ (l : List ℕ). getD l j 0) e ∙ getD-set-other before (4096 + x) j v 0 (λ z. other (sym z)); says = go }
     where
-      go : (ts : List Token) (G : List Class) → ClassTableHeld tab n ts G → length G ≡ classes → (c : List ℕ) → NameNumber ts c x → getD after (4096 + x) 0 ≡ length (fieldsOf G c)
+      go : (ts : List Token) (G : List Class) → ClassTableHeld tab n ts G → length G ≡ classes → (c : List ℕ) → NameNumber ts c x
+          → getD after (4096 + x) 0 ≡ length (fieldsOf G c)
       go ts G w l c sp =
           ap (λ (m : List ℕ). getD m (4096 + x) 0) e ∙ getD-set-same before (4096 + x) v 0 (omega arith)
           ∙ h .says ts G w (some c) (a-name sp) ∙ ap (λ (i : ℕ). length (layout (chainFrom i G (some c)))) (sym l) ∙ size-of G c
@@ -46,7 +48,8 @@ module _ {tab : List ℕ} {n classes left row : ℕ} {before : List ℕ} where
   unfolding classNamed
   sizes-none z = record { says = λ ts G w l ks h c x sp. go G ks (h .few) c x }
     where
-      go : (G ks : List Class) → length ks ≤ left → (c : List ℕ) (x : ℕ) → getD before (4096 + x) 0 ≡ counted (getD before (4096 + x) 0) (length (fieldsOf G c)) (classNamed ks c)
+      go : (G ks : List Class) → length ks ≤ left → (c : List ℕ) (x : ℕ)
+          → getD before (4096 + x) 0 ≡ counted (getD before (4096 + x) 0) (length (fieldsOf G c)) (classNamed ks c)
       go G [] few c x = refl
       go G (k ∷ ks) few c x = absurd (omega arith)
 
@@ -54,12 +57,14 @@ module _ {tab : List ℕ} {n classes left row : ℕ} {before : List ℕ} where
   unfolding classNamed
   sizes-end far = record { says = λ ts G w l ks h c x sp. go ts G w ks (h .here) (h .stand) c x }
     where
-      go : (ts : List Token) (G : List Class) → ClassTableHeld tab n ts G → (ks : List Class) → rowClasses ks ≡ row → ClassesHeld tab n ts ks → (c : List ℕ) (x : ℕ)
+      go : (ts : List Token) (G : List Class) → ClassTableHeld tab n ts G → (ks : List Class) → rowClasses ks ≡ row
+          → ClassesHeld tab n ts ks → (c : List ℕ) (x : ℕ)
           → getD before (4096 + x) 0 ≡ counted (getD before (4096 + x) 0) (length (fieldsOf G c)) (classNamed ks c)
       go ts G w [] is h c x = refl
       go ts G w (k ∷ ks) is (more-classes s e h) c x = absurd (omega (arith, is, row-there (w .tokens) (k .name .row) (s .named .token .there)))
 
-  pub sizes-more : row < absent → {x : ℕ} → x ≡ wordAt tab 2 row → {mid : List ℕ} → SizePost tab n classes x before mid → {next : ℕ} → next ≡ wordAt tab 6 row
+  pub sizes-more : row < absent → {x : ℕ} → x ≡ wordAt tab 2 row → {mid : List ℕ} → SizePost tab n classes x before mid → {next : ℕ}
+      → next ≡ wordAt tab 6 row
       → {after : List ℕ} → SizesPost tab n classes (left - 1) next mid after → SizesPost tab n classes left row before after
   unfolding classNamed
   sizes-more near {x} e₂ {mid} p {next} e₆ {after} h =
@@ -69,8 +74,10 @@ module _ {tab : List ℕ} {n classes left row : ℕ} {before : List ℕ} where
       twice new none = refl
       twice new (some k) = refl
 
-      go : (ts : List Token) (G : List Class) → ClassTableHeld tab n ts G → length G ≡ classes → (ks : List Class) → rowClasses ks ≡ row → ClassesHeld tab n ts ks → length ks ≤ left
-          → (c : List ℕ) (y : ℕ) → NameNumber ts c y → getD after (4096 + y) 0 ≡ counted (getD before (4096 + y) 0) (length (fieldsOf G c)) (classNamed ks c)
+      go : (ts : List Token) (G : List Class) → ClassTableHeld tab n ts G → length G ≡ classes → (ks : List Class) → rowClasses ks ≡ row
+          → ClassesHeld tab n ts ks → length ks ≤ left
+          → (c : List ℕ) (y : ℕ) → NameNumber ts c y
+          → getD after (4096 + y) 0 ≡ counted (getD before (4096 + y) 0) (length (fieldsOf G c)) (classNamed ks c)
       go ts G w l [] is st few c y sp = absurd (omega (arith, is))
       go ts G w l (k ∷ ks) is (more-classes s e st) few c y sp =
           let own : NameNumber ts (k .name .text) x = subst (NameNumber ts (k .name .text)) (ap (wordAt tab 2) is ∙ sym e₂) (name-word (w .tokens) (k .name .row) (s .named .token)) in
@@ -93,13 +100,15 @@ no-fields : (G : List Class) (c : List ℕ) → classNamed G c ≡ none → 0 �
 unfolding layout
 no-fields G c e = ap (λ (ks : List Class). length (layout ks)) (sym (chain-none (length G) G (some c) e)) ∙ size-of G c
 
-pub all-sizes : {tab : List ℕ} {n classes row : ℕ} {before after : List ℕ} → SizesPost tab n classes n row before after → ((j : ℕ) → getD before j 0 ≡ 0)
+pub all-sizes : {tab : List ℕ} {n classes row : ℕ} {before after : List ℕ} → SizesPost tab n classes n row before after
+    → ((j : ℕ) → getD before j 0 ≡ 0)
     → {ts : List Token} {G : List Class} → ClassTableHeld tab n ts G → length G ≡ classes → rowClasses G ≡ row → SizesHeld ts G after
 all-sizes {before = before} h zeros {ts} {G} w l is =
     record {
       says = λ c x sp. h .says ts G w l G (record { here = is; stand = w .classes; few = w .few }) c x sp ∙ go c (getD before (4096 + x) 0) (zeros (4096 + x)) (classNamed G c) refl;
     }
   where
-    go : (c : List ℕ) (old : ℕ) → old ≡ 0 → (o : Option Class) → classNamed G c ≡ o → counted old (length (fieldsOf G c)) o ≡ length (fieldsOf G c)
+    go : (c : List ℕ) (old : ℕ) → old ≡ 0 → (o : Option Class) → classNamed G c ≡ o
+        → counted old (length (fieldsOf G c)) o ≡ length (fieldsOf G c)
     go c old z none e = z ∙ no-fields G c e
     go c old z (some k) e = refl

@@ -6,7 +6,6 @@ use mathlib.Core.Path.{_≡_, refl, sym, ap, _∙_, subst}
 use mathlib.Core.List.{List, _∷_}
 use borrow.Author.Tests.{ne-eqb}
 use Rattle.lexer.specs.Tokens.{Token}
-use Rattle.lexer.specs.contracts.Rows.{firstNamed}
 use Rattle.parser.specs.Tree.{Sort.expression, Sort.statement, Sort.statements, Part, Statement, Class, placeS}
 use Rattle.parser.specs.Tree.{Part.block, Part.conditional, Part.loop, Part.print, Part.assign, Part.assignElement}
 use Rattle.parser.specs.Tree.{Part.noStatements, Part.sequence}
@@ -20,16 +19,17 @@ use Rattle.lookup.specs.contracts.Shows.{Bound, ShowsS, shows-block, shows-cond
 use Rattle.lookup.specs.contracts.Shows.{shows-element-store, GoesOnS, one-more-statement}
 use Rattle.lookup.specs.laws.ShowLaws.{shownS, goes-onS, endedS}
 use Rattle.writer.specs.declared.scope.Scope.{Scope}
-use Rattle.writer.specs.contracts.Scoping.{Sees, SlotPost}
+use Rattle.writer.specs.contracts.Scoping.{SlotPost}
 use Rattle.codegen.specs.contracts.Code as Code
 use Rattle.codegen.specs.contracts.Code.{save, jump, unless, storeElement}
 use Rattle.codegen.specs.contracts.Compile.{end, emit}
 use Rattle.writer.specs.contracts.Words.{words}
 use Rattle.writer.specs.laws.Emits.{no-code}
 use Rattle.writer.specs.laws.Lengths.{grows}
-use Rattle.writer.specs.contracts.Posts.{room, PutPost, NextPost, Wrote, AtMost, WritePost, innerS, endS, formTested, SaysS}
+use Rattle.writer.specs.contracts.Posts.{room, PutPost, NextPost, AtMost, Written, Whatever, WritePost, innerS, endS}
+use Rattle.writer.specs.contracts.Posts.{formTested, SaysS}
 use Rattle.writer.specs.contracts.Posts.{StatementPost, LoadPost, FollowedPost, PairPost, BranchesPost, OtherwisePost, BodyPost}
-use Rattle.writer.proofs.RowLaws.{positive-statement, fewer, fewer-statements}
+use Rattle.writer.proofs.RowLaws.{positive-statement, fewer, fewerS-statements}
 use Rattle.writer.proofs.PieceLaws.{put-one, next-to, over, Opens, node-wrote}
 use Rattle.writer.proofs.ExpressionLaws.{lexemes, both-wrote, nothing-wrote}
 
@@ -57,7 +57,8 @@ module _ {tab names : List ℕ} {s : Scope} {left row at r : ℕ} {c c′ : List
 -- JUMPS
 
 pub otherwise-wrote : {tab names : List ℕ} {s : Scope} {left row at third n r w : ℕ} {c c₁ c₂ : List ℕ} → third ≡ wordAt tab 7 row
-    → NextPost at n → WritePost tab names s statement left third n c c₁ r → PutPost at 9 r 0 0 c₁ c₂ w → OtherwisePost tab names s left row at c c₂ r
+    → NextPost at n → WritePost tab names s statement left third n c c₁ r → PutPost at 9 r 0 0 c₁ c₂ w
+    → OtherwisePost tab names s left row at c c₂ r
 otherwise-wrote {at = at} e₇ m f p =
     record {
       within = f .within;
@@ -98,7 +99,8 @@ body-wrote {top = top} {at = at} {b = b} e₅ m f q p =
           let is : b ≡ end l (suc at) = u .ends ∙ ap (end l) (m .next low) in
           let v = put-one (jump top) refl q (rw is h) in
           over (unless (suc (end l (suc at)))) (λ j k. emit G Γ l j (jump top ∷ k)) (λ j. suc (end l j)) m
-          (next-to (λ j k. jump top ∷ k) suc u v) (ap (λ (i : ℕ). words 10 i 0 0) (v .ends ∙ ap suc is)) p low (omega (arith, grows l (suc at)));
+          (next-to (λ j k. jump top ∷ k) suc u v) (ap (λ (i : ℕ). words 10 i 0 0) (v .ends ∙ ap suc is)) p low
+          (omega (arith, grows l (suc at)));
     }
 
 -- THE TEST AND WHAT FOLLOWS
@@ -120,7 +122,8 @@ module _ {tab names : List ℕ} {s : Scope} {left row at first a r : ℕ} {c c�
       go ts G Γ w t (shows-conditional {e = e} {s = y} {t = z} st x x′ x″) h =
           let u = f .says ts G Γ w e (rw e₄ x) (omega (arith, grows y (suc (end e at)), grows z (suc (end y (suc (end e at)))))) in
           next-to
-          (λ j k. unless (suc (end y (suc j))) ∷ emit G Γ y (suc j) (jump (end z (suc (end y (suc j)))) ∷ emit G Γ z (suc (end y (suc j))) k))
+          (λ j k. unless (suc (end y (suc j))) ∷ emit G Γ y (suc j)
+          (jump (end z (suc (end y (suc j)))) ∷ emit G Γ z (suc (end y (suc j))) k))
           (λ j. end z (suc (end y (suc j)))) u (g .says ts G Γ w y z x′ x″ (rw (u .ends) h))
 
   pub loop-wrote : (k ≡ 10 → ⊥) → BodyPost tab names s left row at a c₁ c₂ r → StatementPost tab names s (formTested k) left row at c c₂ r
@@ -135,8 +138,8 @@ module _ {tab names : List ℕ} {s : Scope} {left row at first a r : ℕ} {c c�
 
 -- THE MARK
 
-starts : {tab : List ℕ} {ts : List Token} {n row : ℕ} {Before Behind : Bound} {F : Form} {t : Statement}
-    → ShowsS tab ts n row Before Behind F t → wordAt tab 3 row ≡ placeS t .start
+starts : {tab : List ℕ} {ts : List Token} {row : ℕ} {Behind : Bound} {F : Form} {t : Statement}
+    → ShowsS tab ts row Behind F t → wordAt tab 3 row ≡ placeS t .start
 starts (shows-block s x) = s
 starts (shows-conditional s x y z) = s
 starts (shows-loop s x y) = s
@@ -165,8 +168,8 @@ module _ {tab names : List ℕ} {s : Scope} {left row at : ℕ} {c : List ℕ} w
         record {
           within = fits;
           says = λ ts G Γ w t h l.
-              let sh : ShowsS tab ts (s .tokens) row (AtMost (left - 1)) (AtMost (left - 1)) F t
-              = shownS (lexemes w) row (AtMost left) (AtMost (left - 1)) (AtMost (left - 1)) (fewer row left more)
+              let sh : ShowsS tab ts row (AtMost (left - 1)) F t
+              = shownS (lexemes w) row (AtMost left) (AtMost (left - 1)) (fewerS row left more)
               (ap (λ (j : ℕ). formS j (kindInTable tab (s .tokens) (row + 1))) (sym kind) ∙ form) t h in
               node-wrote (opens G Γ t) (positive-statement t) (starts sh) p l (f ts G Γ w t sh);
         }
@@ -236,7 +239,6 @@ module _ {tab names : List ℕ} {s : Scope} {left row at : ℕ} {c : List ℕ} w
   list-more more near {a} {next} {r} {c₁} {c₂} f e₆ g =
       record { within = g .within; says = λ ts G Γ w ss h l. go ts G Γ w ss (goes-onS (fewer-statements row left more) near ss h) l }
     where
-      go : (ts : List Token) (G : List Class) (Γ : Context) → Sees tab names ts G Γ s → (ss : Part statements)
-          → GoesOnS tab ts row (AtMost left statement) (AtMost (left - 1) statements) ss → end ss at ≤ room
-          → Wrote (firstNamed ts) (emit G Γ ss at) (end ss at) at c c₂ r
+      go : Whatever tab names s λ ts G Γ. (ss : Part statements)
+          → GoesOnS tab ts row (AtMost left statement) (AtMost (left - 1) statements) ss → Written ts (emit G Γ ss at) (end ss at) at c c₂ r
       go ts G Γ w t (one-more-statement {t = x} {ss = ss} y z) l = both-wrote f g ts G Γ w x ss y (rw e₆ z) l

@@ -9,6 +9,8 @@ ghost use lib.ListN.{length};
 ghost use Rattle.base.specs.contracts.Table.{rows};
 ghost use Rattle.reader.specs.contracts.WalkPost.{Walkable};
 ghost use Rattle.writer.specs.contracts.Classes.{ClassPost, ClassesPost};
+ghost use Rattle.writer.specs.contracts.Posts.{room};
+ghost use Rattle.writer.specs.contracts.Sizing.{namesLeast};
 
 // The class in a row.
 fn of_class(
@@ -21,7 +23,8 @@ fn of_class(
     row: usize,
     at: usize,
 ) -> usize
-    requires { ⌜ Walkable (now table) n × (6144 ≤ length (now names)) × (rows ≤ length (now entries)) × (classes ≤ rows) × (at ≤ 8192) ⌝ }
+    requires { ⌜ Walkable (now table) n × (namesLeast ≤ length (now names)) × (rows ≤ length (now entries)) × (classes ≤ rows)
+        × (at ≤ room) ⌝ }
     ensures { λ r. ⌜ ClassPost (now (table .entry)) n classes row at (now (names .entry)) (now (names .exit)) (now (code .entry))
         (now (code .exit)) (now (entries .entry)) (now (entries .exit)) r ⌝ }
 {
@@ -45,7 +48,8 @@ pub fn each(
     row: usize,
     at: usize,
 )
-    requires { ⌜ Walkable (now table) n × (6144 ≤ length (now names)) × (rows ≤ length (now entries)) × (classes ≤ rows) × (at ≤ 8192) ⌝ }
+    requires { ⌜ Walkable (now table) n × (namesLeast ≤ length (now names)) × (rows ≤ length (now entries)) × (classes ≤ rows)
+        × (at ≤ room) ⌝ }
     ensures { λ _. ⌜ ClassesPost (now (table .entry)) n classes left row at (now (names .entry)) (now (code .entry)) (now (code .exit))
         (now (entries .entry)) (now (entries .exit)) ⌝ }
 {
@@ -56,15 +60,6 @@ pub fn each(
         return;
     }
     let a = of_class(table, names, code, entries, n, classes, row, at);
-    each(
-        table,
-        names,
-        code,
-        entries,
-        n,
-        classes,
-        left - 1,
-        word(table, columns::NEXT, row),
-        a,
-    );
+    let rest = word(table, columns::NEXT, row);
+    each(table, names, code, entries, n, classes, left - 1, rest, a);
 }

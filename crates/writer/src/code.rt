@@ -3,7 +3,7 @@ ghost use Prim.Native.Nat.{_≤_, _<_};
 ghost use mathlib.Core.Path.{_≡_};
 ghost use lib.ListN.{set};
 ghost use Rattle.base.specs.Word.{modulus};
-ghost use Rattle.writer.specs.contracts.Posts.{PutPost, NextPost};
+ghost use Rattle.writer.specs.contracts.Posts.{room, PutPost, NextPost};
 
 // How many instructions there is room for.
 pub const ROOM: usize = 8192;
@@ -20,7 +20,7 @@ fn put_word(code: &mut [u32], at: usize, word: usize)
 
 // One instruction; the answer is the place behind it.
 pub fn put(code: &mut [u32], at: usize, op: usize, a: usize, b: usize, c: usize) -> usize
-    requires { ⌜ (at ≤ 8192) × (op < modulus) × (a < modulus) × (b < modulus) × (c < modulus) ⌝ }
+    requires { ⌜ (at ≤ room) × (op < modulus) × (a < modulus) × (b < modulus) × (c < modulus) ⌝ }
     ensures { λ r. ⌜ PutPost at op a b c (now (code .entry)) (now (code .exit)) r ⌝ }
 {
     if at < ROOM {
@@ -35,7 +35,7 @@ pub fn put(code: &mut [u32], at: usize, op: usize, a: usize, b: usize, c: usize)
 
 // The place behind an instruction that is written later.
 pub fn next(at: usize) -> usize
-    requires { ⌜ at ≤ 8192 ⌝ }
+    requires { ⌜ at ≤ room ⌝ }
     ensures { λ r. ⌜ NextPost at r ⌝ }
 {
     if at < ROOM {

@@ -3,6 +3,7 @@ use crate::code::next;
 use crate::code::put;
 use crate::scope::Scope;
 use crate::scope::slot;
+use crate::sizes::SIZES;
 use codegen::numbers;
 use lexer::kinds;
 use lookup::member::count;
@@ -14,16 +15,17 @@ use parser::table::kind;
 ghost use Prim.Native.Nat.{_≤_, _<_};
 ghost use lib.ListN.{length};
 ghost use Rattle.base.specs.Word.{modulus};
+ghost use Rattle.base.specs.Codes.{tableLeast};
 ghost use Rattle.parser.specs.Tree.{Sort};
 ghost use Rattle.reader.specs.contracts.WalkPost.{Walkable};
 ghost use Rattle.lookup.specs.contracts.HeldClasses.{wordAt};
 ghost use Rattle.lookup.specs.contracts.Shows.{Form, formAtom, formCompound};
-ghost use Rattle.writer.specs.contracts.Posts.{Writable, PutPost, LoadPost, WritePost, ExpressionPost};
+ghost use Rattle.writer.specs.contracts.Posts.{room, Writable, PutPost, LoadPost, WritePost, ExpressionPost};
 ghost use Rattle.writer.specs.contracts.Posts.{FollowedPost, PairPost, ConjunctionPost};
 
 // The mark before a node: the position where it begins.
 pub fn mark(table: &[u32], code: &mut [u32], row: usize, at: usize) -> usize
-    requires { ⌜ (16384 ≤ length (now table)) × (at ≤ 8192) ⌝ }
+    requires { ⌜ (tableLeast ≤ length (now table)) × (at ≤ room) ⌝ }
     ensures { λ r. ⌜ PutPost at 0 (wordAt (now (table .entry)) 3 row) 0 0 (now (code .entry)) (now (code .exit)) r ⌝ }
 {
     let start = word(table, columns::BEGIN, row);
@@ -39,7 +41,7 @@ pub fn loaded(
     row: usize,
     at: usize,
 ) -> usize
-    requires { ⌜ Walkable (now table) (s .tokens) × (4096 ≤ length (now names)) × (at ≤ 8192) ⌝ }
+    requires { ⌜ Walkable (now table) (s .tokens) × (4096 ≤ length (now names)) × (at ≤ room) ⌝ }
     ensures { λ r. ⌜ LoadPost (now (table .entry)) (now (names .entry)) s row at (now (code .entry)) (now (code .exit)) r ⌝ }
 {
     let v = slot(table, names, s, word(table, columns::NUMBER, row));
@@ -57,7 +59,7 @@ fn atom(
     row: usize,
     at: usize,
 ) -> usize
-    requires { ⌜ Writable (now table) (now names) (now code) (s .tokens) left row at ⌝ }
+    requires { ⌜ Writable (now table) (now names) (s .tokens) left row at ⌝ }
     ensures { λ r. ⌜ ExpressionPost (now (table .entry)) (now (names .entry)) s (formAtom k) left row at (now (code .entry))
         (now (code .exit)) r ⌝ }
 {
@@ -87,14 +89,14 @@ fn creation(
     row: usize,
     at: usize,
 ) -> usize
-    requires { ⌜ Writable (now table) (now names) (now code) (s .tokens) left row at ⌝ }
+    requires { ⌜ Writable (now table) (now names) (s .tokens) left row at ⌝ }
     ensures { λ r. ⌜ ExpressionPost (now (table .entry)) (now (names .entry)) s Form.aNewObject left row at (now (code .entry))
         (now (code .exit)) r ⌝ }
 {
     let x = word(table, columns::NUMBER, row + 1);
     let start = word(table, columns::BEGIN, row);
     if x < ABSENT {
-        let size = names[4096 + x] as usize;
+        let size = names[SIZES + x] as usize;
         return put(code, at, numbers::MAKE_OBJECT, start, x, size);
     }
     at
@@ -110,7 +112,7 @@ pub fn expression(
     row: usize,
     at: usize,
 ) -> usize
-    requires { ⌜ Writable (now table) (now names) (now code) (s .tokens) left row at ⌝ }
+    requires { ⌜ Writable (now table) (now names) (s .tokens) left row at ⌝ }
     ensures { λ r. ⌜ WritePost (now (table .entry)) (now (names .entry)) s Sort.expression left row at (now (code .entry))
         (now (code .exit)) r ⌝ }
 {
@@ -138,7 +140,7 @@ fn compound(
     row: usize,
     at: usize,
 ) -> usize
-    requires { ⌜ Writable (now table) (now names) (now code) (s .tokens) left row at ⌝ }
+    requires { ⌜ Writable (now table) (now names) (s .tokens) left row at ⌝ }
     ensures { λ r. ⌜ ExpressionPost (now (table .entry)) (now (names .entry)) s (formCompound k after) left row at (now (code .entry))
         (now (code .exit)) r ⌝ }
 {
@@ -175,7 +177,7 @@ fn binary(
     row: usize,
     at: usize,
 ) -> usize
-    requires { ⌜ Writable (now table) (now names) (now code) (s .tokens) left row at ⌝ }
+    requires { ⌜ Writable (now table) (now names) (s .tokens) left row at ⌝ }
     ensures { λ r. ⌜ ExpressionPost (now (table .entry)) (now (names .entry)) s Form.aBinary left row at (now (code .entry))
         (now (code .exit)) r ⌝ }
 {
@@ -209,7 +211,7 @@ pub fn followed(
     row: usize,
     at: usize,
 ) -> usize
-    requires { ⌜ Writable (now table) (now names) (now code) (s .tokens) left row at × (op < modulus) × (arg < modulus) ⌝ }
+    requires { ⌜ Writable (now table) (now names) (s .tokens) left row at × (op < modulus) × (arg < modulus) ⌝ }
     ensures { λ r. ⌜ FollowedPost (now (table .entry)) (now (names .entry)) s op arg left row at (now (code .entry))
         (now (code .exit)) r ⌝ }
 {
@@ -228,7 +230,7 @@ pub fn located(
     row: usize,
     at: usize,
 ) -> usize
-    requires { ⌜ Writable (now table) (now names) (now code) (s .tokens) left row at × (op < modulus) ⌝ }
+    requires { ⌜ Writable (now table) (now names) (s .tokens) left row at × (op < modulus) ⌝ }
     ensures { λ r. ⌜ FollowedPost (now (table .entry)) (now (names .entry)) s op (wordAt (now (table .entry)) 3 row) left
         (wordAt (now (table .entry)) 4 row) at (now (code .entry)) (now (code .exit)) r ⌝ }
 {
@@ -249,7 +251,7 @@ pub fn pair(
     row: usize,
     at: usize,
 ) -> usize
-    requires { ⌜ Writable (now table) (now names) (now code) (s .tokens) left row at × (op < modulus) × (arg < modulus) ⌝ }
+    requires { ⌜ Writable (now table) (now names) (s .tokens) left row at × (op < modulus) × (arg < modulus) ⌝ }
     ensures { λ r. ⌜ PairPost (now (table .entry)) (now (names .entry)) s op arg left row at (now (code .entry)) (now (code .exit)) r ⌝ }
 {
     let first = word(table, columns::FIRST, row);
@@ -268,7 +270,7 @@ fn conjunction(
     row: usize,
     at: usize,
 ) -> usize
-    requires { ⌜ Writable (now table) (now names) (now code) (s .tokens) left row at ⌝ }
+    requires { ⌜ Writable (now table) (now names) (s .tokens) left row at ⌝ }
     ensures { λ r. ⌜ ConjunctionPost (now (table .entry)) (now (names .entry)) s left row at (now (code .entry)) (now (code .exit)) r ⌝ }
 {
     let first = word(table, columns::FIRST, row);
@@ -289,7 +291,7 @@ fn call(
     row: usize,
     at: usize,
 ) -> usize
-    requires { ⌜ Writable (now table) (now names) (now code) (s .tokens) left row at ⌝ }
+    requires { ⌜ Writable (now table) (now names) (s .tokens) left row at ⌝ }
     ensures { λ r. ⌜ ExpressionPost (now (table .entry)) (now (names .entry)) s Form.aCall left row at (now (code .entry))
         (now (code .exit)) r ⌝ }
 {
@@ -319,7 +321,7 @@ fn arguments(
     row: usize,
     at: usize,
 ) -> usize
-    requires { ⌜ Writable (now table) (now names) (now code) (s .tokens) left row at ⌝ }
+    requires { ⌜ Writable (now table) (now names) (s .tokens) left row at ⌝ }
     ensures { λ r. ⌜ WritePost (now (table .entry)) (now (names .entry)) s Sort.arguments left row at (now (code .entry))
         (now (code .exit)) r ⌝ }
 {

@@ -13,10 +13,12 @@ ghost use lib.ListN.{length, set};
 ghost use Rattle.base.specs.contracts.Table.{rows};
 ghost use Rattle.reader.specs.contracts.WalkPost.{Walkable};
 ghost use Rattle.writer.specs.contracts.Methods.{MethodPost, MethodsPost};
+ghost use Rattle.writer.specs.contracts.Posts.{room};
+ghost use Rattle.writer.specs.contracts.Sizing.{namesLeast};
 
 // The method whose name stands in this row.
 fn method(table: &[u32], names: &[u32], code: &mut [u32], n: usize, row: usize, at: usize) -> usize
-    requires { ⌜ Walkable (now table) n × (6144 ≤ length (now names)) × (at ≤ 8192) × (row < rows) ⌝ }
+    requires { ⌜ Walkable (now table) n × (namesLeast ≤ length (now names)) × (at ≤ room) × (row < rows) ⌝ }
     ensures { λ r. ⌜ MethodPost (now (table .entry)) (now (names .entry)) n row at (now (code .entry)) (now (code .exit)) r ⌝ }
 {
     let parameters = word(table, columns::PARAMETERS, row);
@@ -26,30 +28,16 @@ fn method(table: &[u32], names: &[u32], code: &mut [u32], n: usize, row: usize, 
         parameters,
         locals,
     };
-    let a = list(
-        table,
-        names,
-        code,
-        s,
-        n,
-        word(table, columns::BODY, row + 1),
-        at,
-    );
-    let b = expression(
-        table,
-        names,
-        code,
-        s,
-        n,
-        word(table, columns::VALUE, row + 1),
-        a,
-    );
+    let body = word(table, columns::BODY, row + 1);
+    let a = list(table, names, code, s, n, body, at);
+    let value = word(table, columns::VALUE, row + 1);
+    let b = expression(table, names, code, s, n, value, a);
     put(code, b, numbers::RETURN, 0, 0, 0)
 }
 
 // A method's code begins here.
 fn enter(entries: &mut [u32], row: usize, at: usize)
-    requires { ⌜ (rows ≤ length (now entries)) × (row < rows) × (at ≤ 8192) ⌝ }
+    requires { ⌜ (rows ≤ length (now entries)) × (row < rows) × (at ≤ room) ⌝ }
     ensures { λ _. ⌜ now (entries .exit) ≡ set (now (entries .entry)) row at ⌝ }
 {
     entries[row] = at as u32;
@@ -66,7 +54,7 @@ pub fn methods(
     row: usize,
     at: usize,
 ) -> usize
-    requires { ⌜ Walkable (now table) n × (6144 ≤ length (now names)) × (rows ≤ length (now entries)) × (at ≤ 8192) ⌝ }
+    requires { ⌜ Walkable (now table) n × (namesLeast ≤ length (now names)) × (rows ≤ length (now entries)) × (at ≤ room) ⌝ }
     ensures { λ r. ⌜ MethodsPost (now (table .entry)) (now (names .entry)) n left row at (now (code .entry)) (now (code .exit))
         (now (entries .entry)) (now (entries .exit)) r ⌝ }
 {
@@ -78,14 +66,6 @@ pub fn methods(
     }
     enter(entries, row, at);
     let a = method(table, names, code, n, row, at);
-    methods(
-        table,
-        names,
-        code,
-        entries,
-        n,
-        left - 1,
-        word(table, columns::NEXT, row),
-        a,
-    )
+    let rest = word(table, columns::NEXT, row);
+    methods(table, names, code, entries, n, left - 1, rest, a)
 }

@@ -15,10 +15,11 @@ ghost use lib.ListN.{length};
 ghost use Rattle.base.specs.contracts.Table.{rows};
 ghost use Rattle.reader.specs.contracts.WalkPost.{Walkable};
 ghost use Rattle.writer.specs.contracts.Writing.{BeginPost, MainPost, Writes};
+ghost use Rattle.writer.specs.contracts.Sizing.{namesLeast};
 
 // What main sees: no fields, and how many fields the objects of each class hold, where the classes begin in a row.
 fn begin(table: &[u32], names: &mut [u32], n: usize, classes: usize, first: usize)
-    requires { ⌜ Walkable (now table) n × (6144 ≤ length (now names)) × (classes ≤ rows) ⌝ }
+    requires { ⌜ Walkable (now table) n × (namesLeast ≤ length (now names)) × (classes ≤ rows) ⌝ }
     ensures { λ _. ⌜ BeginPost (now (table .entry)) n classes first (now (names .exit)) ⌝ }
 {
     zero_words(names);
@@ -28,7 +29,7 @@ fn begin(table: &[u32], names: &mut [u32], n: usize, classes: usize, first: usiz
 
 // Main's statement, which stands in row 14 and sees no names, and the end.
 fn main_code(table: &[u32], names: &[u32], code: &mut [u32], n: usize) -> usize
-    requires { ⌜ Walkable (now table) n × (6144 ≤ length (now names)) ⌝ }
+    requires { ⌜ Walkable (now table) n × (namesLeast ≤ length (now names)) ⌝ }
     ensures { λ r. ⌜ MainPost (now (table .entry)) (now (names .entry)) n (now (code .entry)) (now (code .exit)) r ⌝ }
 {
     let s = Scope {
@@ -50,7 +51,7 @@ pub fn write(
     n: usize,
     classes: usize,
 )
-    requires { ⌜ Walkable (now table) n × (6144 ≤ length (now names)) × (rows ≤ length (now entries)) × (classes ≤ rows) ⌝ }
+    requires { ⌜ Walkable (now table) n × (namesLeast ≤ length (now names)) × (rows ≤ length (now entries)) × (classes ≤ rows) ⌝ }
     ensures { λ _. ⌜ Writes (now (table .entry)) n classes (now (code .entry)) (now (code .exit)) (now (entries .entry))
         (now (entries .exit)) ⌝ }
 {

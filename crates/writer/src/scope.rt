@@ -9,6 +9,9 @@ ghost use lib.ListN.{length};
 ghost use Rattle.reader.specs.contracts.WalkPost.{Walkable};
 ghost use Rattle.writer.specs.contracts.Scoping.{SlotPost};
 
+// Where the slots of fields begin in `names`, behind their types.
+const SLOTS: usize = 2048;
+
 pub struct Scope {
     pub tokens: usize,
     pub parameters: usize,
@@ -34,5 +37,5 @@ pub fn slot(table: &[u32], names: &[u32], s: Scope, x: usize) -> usize
     if NOTHING <= names[x] as usize {
         return ABSENT;
     }
-    names[2048 + x] as usize
+    names[SLOTS + x] as usize
 }

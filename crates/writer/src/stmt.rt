@@ -18,7 +18,7 @@ use parser::table::kind;
 ghost use Prim.Native.Nat.{_≤_};
 ghost use Rattle.parser.specs.Tree.{Sort};
 ghost use Rattle.lookup.specs.contracts.Shows.{Form};
-ghost use Rattle.writer.specs.contracts.Posts.{Writable, WritePost, formTested, StatementPost, BranchesPost, OtherwisePost};
+ghost use Rattle.writer.specs.contracts.Posts.{room, Writable, WritePost, formTested, StatementPost, BranchesPost, OtherwisePost};
 ghost use Rattle.writer.specs.contracts.Posts.{BodyPost};
 
 // The value, and its store.
@@ -31,7 +31,7 @@ fn assigned(
     row: usize,
     at: usize,
 ) -> usize
-    requires { ⌜ Writable (now table) (now names) (now code) (s .tokens) left row at ⌝ }
+    requires { ⌜ Writable (now table) (now names) (s .tokens) left row at ⌝ }
     ensures { λ r. ⌜ StatementPost (now (table .entry)) (now (names .entry)) s Form.anAssignment left row at (now (code .entry))
         (now (code .exit)) r ⌝ }
 {
@@ -50,7 +50,7 @@ fn element(
     row: usize,
     at: usize,
 ) -> usize
-    requires { ⌜ Writable (now table) (now names) (now code) (s .tokens) left row at ⌝ }
+    requires { ⌜ Writable (now table) (now names) (s .tokens) left row at ⌝ }
     ensures { λ r. ⌜ StatementPost (now (table .entry)) (now (names .entry)) s Form.anElementStore left row at (now (code .entry))
         (now (code .exit)) r ⌝ }
 {
@@ -79,7 +79,7 @@ pub fn single(
     row: usize,
     at: usize,
 ) -> usize
-    requires { ⌜ Writable (now table) (now names) (now code) (s .tokens) left row at ⌝ }
+    requires { ⌜ Writable (now table) (now names) (s .tokens) left row at ⌝ }
     ensures { λ r. ⌜ WritePost (now (table .entry)) (now (names .entry)) s Sort.statement left row at (now (code .entry))
         (now (code .exit)) r ⌝ }
 {
@@ -118,7 +118,7 @@ fn tested(
     row: usize,
     at: usize,
 ) -> usize
-    requires { ⌜ Writable (now table) (now names) (now code) (s .tokens) left row at ⌝ }
+    requires { ⌜ Writable (now table) (now names) (s .tokens) left row at ⌝ }
     ensures { λ r. ⌜ StatementPost (now (table .entry)) (now (names .entry)) s (formTested k) left row at (now (code .entry))
         (now (code .exit)) r ⌝ }
 {
@@ -140,7 +140,7 @@ fn branches(
     row: usize,
     at: usize,
 ) -> usize
-    requires { ⌜ Writable (now table) (now names) (now code) (s .tokens) left row at ⌝ }
+    requires { ⌜ Writable (now table) (now names) (s .tokens) left row at ⌝ }
     ensures { λ r. ⌜ BranchesPost (now (table .entry)) (now (names .entry)) s left row at (now (code .entry)) (now (code .exit)) r ⌝ }
 {
     let second = word(table, columns::SECOND, row);
@@ -160,7 +160,7 @@ fn otherwise(
     row: usize,
     at: usize,
 ) -> usize
-    requires { ⌜ Writable (now table) (now names) (now code) (s .tokens) left row at ⌝ }
+    requires { ⌜ Writable (now table) (now names) (s .tokens) left row at ⌝ }
     ensures { λ r. ⌜ OtherwisePost (now (table .entry)) (now (names .entry)) s left row at (now (code .entry)) (now (code .exit)) r ⌝ }
 {
     let third = word(table, columns::THIRD, row);
@@ -180,7 +180,7 @@ fn body(
     top: usize,
     at: usize,
 ) -> usize
-    requires { ⌜ Writable (now table) (now names) (now code) (s .tokens) left row at × (top ≤ 8192) ⌝ }
+    requires { ⌜ Writable (now table) (now names) (s .tokens) left row at × (top ≤ room) ⌝ }
     ensures { λ r. ⌜ BodyPost (now (table .entry)) (now (names .entry)) s left row top at (now (code .entry)) (now (code .exit)) r ⌝ }
 {
     let second = word(table, columns::SECOND, row);
@@ -200,7 +200,7 @@ pub fn list(
     row: usize,
     at: usize,
 ) -> usize
-    requires { ⌜ Writable (now table) (now names) (now code) (s .tokens) left row at ⌝ }
+    requires { ⌜ Writable (now table) (now names) (s .tokens) left row at ⌝ }
     ensures { λ r. ⌜ WritePost (now (table .entry)) (now (names .entry)) s Sort.statements left row at (now (code .entry))
         (now (code .exit)) r ⌝ }
 {

@@ -29,10 +29,12 @@ module _ (tab : List ℕ) (n classes : ℕ) where
   pub record ClassPost (row at : ℕ) (names names′ c c′ E E′ : List ℕ) (r : ℕ) : Type 0 where
     pub within : r ≤ room
     pub stays : KeptBehind names names′
-    pub says : (ts : List Token) (G : List Class) → ClassTableHeld tab n ts G → length G ≡ classes → SizesHeld ts G names → (k : Class) → k .name .row ≡ row → ClassHeld tab n ts k
+    pub says : (ts : List Token) (G : List Class) → ClassTableHeld tab n ts G → length G ≡ classes → SizesHeld ts G names → (k : Class)
+        → k .name .row ≡ row → ClassHeld tab n ts k
         → endMethods (k .methods) at ≤ room
         → Wrote (firstNamed ts) (emitMethods G (k .name .text) (k .methods) at) (endMethods (k .methods) at) at c c′ r × (E′ ≡ entered (k .methods) at E)
 
   pub record ClassesPost (left row at : ℕ) (names c c′ E E′ : List ℕ) : Type 0 where
-    pub says : (ts : List Token) (G : List Class) → ClassTableHeld tab n ts G → length G ≡ classes → SizesHeld ts G names → (ks : List Class) → ClassesAt tab n ts ks left row
+    pub says : (ts : List Token) (G : List Class) → ClassTableHeld tab n ts G → length G ≡ classes → SizesHeld ts G names
+        → (ks : List Class) → ClassesAt tab n ts ks left row
         → endClasses ks at ≤ room → (c′ ≡ store (firstNamed ts) (emitClasses G ks at) at c) × (E′ ≡ enteredClasses ks at E)

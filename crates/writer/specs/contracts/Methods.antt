@@ -29,10 +29,12 @@ entered (F ∷ M) i E = entered M (suc (valueEnd F i)) (set E (F .name .row) i)
 
 pub record MethodPost (tab names : List ℕ) (n row at : ℕ) (c c′ : List ℕ) (r : ℕ) : Type 0 where
   pub within : r ≤ room
-  pub says : (ts : List Token) (G : List Class) (d : List ℕ) → SeesClass tab names n ts G d → (F : Method) → F .name .row ≡ row → MethodHeld tab n ts F → suc (valueEnd F at) ≤ room
+  pub says : (ts : List Token) (G : List Class) (d : List ℕ) → SeesClass tab names n ts G d → (F : Method) → F .name .row ≡ row
+      → MethodHeld tab n ts F → suc (valueEnd F at) ≤ room
       → Wrote (firstNamed ts) (λ k. emit G (contextOf d F) (F .body) at (emit G (contextOf d F) (F .value) (middle F at) (return ∷ k))) (suc (valueEnd F at)) at c c′ r
 
 pub record MethodsPost (tab names : List ℕ) (n left row at : ℕ) (c c′ E E′ : List ℕ) (r : ℕ) : Type 0 where
   pub within : r ≤ room
-  pub says : (ts : List Token) (G : List Class) (d : List ℕ) → SeesClass tab names n ts G d → (M : List Method) → rowMethods M ≡ row → MethodsHeld tab n ts M → length M ≤ left
+  pub says : (ts : List Token) (G : List Class) (d : List ℕ) → SeesClass tab names n ts G d → (M : List Method) → rowMethods M ≡ row
+      → MethodsHeld tab n ts M → length M ≤ left
       → endMethods M at ≤ room → Wrote (firstNamed ts) (emitMethods G d M at) (endMethods M at) at c c′ r × (E′ ≡ entered M at E)

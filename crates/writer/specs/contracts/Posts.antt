@@ -5,6 +5,8 @@ use mathlib.Core.List.{List, _∷_}
 use lib.ListN.{length}
 use lib.Dec.{eqb}
 use Rattle.base.specs.Choice.{if_then_else_}
+use Rattle.base.specs.Word.{modulus}
+use Rattle.base.specs.contracts.Table.{rows}
 use Rattle.lexer.specs.Kinds.{kIf}
 use Rattle.lexer.specs.Tokens.{Token}
 use Rattle.lexer.specs.contracts.Rows.{firstNamed}
@@ -25,6 +27,7 @@ use Rattle.codegen.specs.contracts.Code.{Instruction, push, load, save, self, n
 use Rattle.codegen.specs.contracts.Code.{makeArray, makeObject, storeElement}
 use Rattle.codegen.specs.contracts.Compile.{endBinary, emitBinary, end, emit, cellsOf}
 use Rattle.writer.specs.contracts.Words.{words, encode, putAt}
+use Rattle.writer.specs.contracts.Sizing.{namesLeast}
 use Rattle.writer.specs.contracts.Scoping.{Sees}
 use Rattle.writer.specs.laws.Emits.{Emits}
 
@@ -33,11 +36,11 @@ abbrev pub room : ℕ
 room = 8192
 
 -- what the functions on parts ask for
-pub record Writable (tab names code : List ℕ) (n left row at : ℕ) : Type 0 where
+pub record Writable (tab names : List ℕ) (n left row at : ℕ) : Type 0 where
   pub walkable : Walkable tab n
-  pub names-long : 6144 ≤ length names
-  pub few : left ≤ 2048
-  pub low : row < 4294967296
+  pub names-long : namesLeast ≤ length names
+  pub few : left ≤ rows
+  pub low : row < modulus
   pub within : at ≤ room
 
 -- one instruction; where there is no room nothing is written, and the place stays
@@ -115,19 +118,25 @@ AtMost left s t = nodes t ≤ left
 unfoldable pub formTested : ℕ → Form
 formTested k = if eqb k kIf then (λ _. aConditional) else λ _. aLoop
 
+-- code for which there is room is written
+abbrev pub Written : (ts : List Token) (f : List Instruction → List Instruction) (stop at : ℕ) (c c′ : List ℕ) (r : ℕ) → Type 0
+Written ts f stop at c c′ r = stop ≤ room → Wrote (firstNamed ts) f stop at c c′ r
+
 module _ (tab names : List ℕ) (s : Scope) where
+  -- whatever the tokens and the classes are, and the context, which the table, the array and the scope are of
+  abbrev pub Whatever : (List Token → List Class → Context → Type 0) → Type 0
+  Whatever P = (ts : List Token) (G : List Class) (Γ : Context) → Sees tab names ts G Γ s → P ts G Γ
+
   -- a part
   pub record WritePost (q : Sort) (left row at : ℕ) (c c′ : List ℕ) (r : ℕ) : Type 0 where
     pub within : r ≤ room
-    pub says : (ts : List Token) (G : List Class) (Γ : Context) → Sees tab names ts G Γ s → (t : Part q)
-        → PartAt tab ts row (AtMost left q) t → end t at ≤ room → Wrote (firstNamed ts) (emit G Γ t at) (end t at) at c c′ r
+    pub says : Whatever λ ts G Γ. (t : Part q) → PartAt tab ts row (AtMost left q) t → Written ts (emit G Γ t at) (end t at) at c c′ r
 
   -- an expression, a statement, whose row shows this form
   abbrev pub Says : (F : Form) (left row at : ℕ) (c c′ : List ℕ) (r : ℕ) → Type 0
   Says F left row at c c′ r =
-      (ts : List Token) (G : List Class) (Γ : Context) → Sees tab names ts G Γ s → (e : Expression)
-      → Shows tab ts (s .tokens) row (AtMost left) (AtMost left) F e → endE e at ≤ room
-      → Wrote (firstNamed ts) (innerE G Γ e at) (endE e at) at c c′ r
+      Whatever λ ts G Γ. (e : Expression) → Shows tab ts (s .tokens) row (AtMost left) (AtMost left) F e
+      → Written ts (innerE G Γ e at) (endE e at) at c c′ r
 
   pub record ExpressionPost (F : Form) (left row at : ℕ) (c c′ : List ℕ) (r : ℕ) : Type 0 where
     pub within : r ≤ room
@@ -135,9 +144,8 @@ module _ (tab names : List ℕ) (s : Scope) where
 
   abbrev pub SaysS : (F : Form) (left row at : ℕ) (c c′ : List ℕ) (r : ℕ) → Type 0
   SaysS F left row at c c′ r =
-      (ts : List Token) (G : List Class) (Γ : Context) → Sees tab names ts G Γ s → (t : Statement)
-      → ShowsS tab ts (s .tokens) row (AtMost left) (AtMost left) F t → endS t at ≤ room
-      → Wrote (firstNamed ts) (innerS G Γ t at) (endS t at) at c c′ r
+      Whatever λ ts G Γ. (t : Statement) → ShowsS tab ts row (AtMost left) F t
+      → Written ts (innerS G Γ t at) (endS t at) at c c′ r
 
   pub record StatementPost (F : Form) (left row at : ℕ) (c c′ : List ℕ) (r : ℕ) : Type 0 where
     pub within : r ≤ room
@@ -146,54 +154,46 @@ module _ (tab names : List ℕ) (s : Scope) where
   -- the value of a variable
   pub record LoadPost (row at : ℕ) (c c′ : List ℕ) (r : ℕ) : Type 0 where
     pub within : r ≤ room
-    pub says : (ts : List Token) (G : List Class) (Γ : Context) → Sees tab names ts G Γ s → (x : List ℕ)
-        → NameNumber ts x (wordAt tab 2 row) → suc at ≤ room
-        → Wrote (firstNamed ts) (λ k. load (meaning G Γ x) ∷ k) (suc at) at c c′ r
+    pub says : Whatever λ ts G Γ. (x : List ℕ) → NameNumber ts x (wordAt tab 2 row)
+        → Written ts (λ k. load (meaning G Γ x) ∷ k) (suc at) at c c′ r
 
   -- the expression in a row and an instruction with these words; the two parts of the node in a row and such an instruction
   pub record FollowedPost (op arg left row at : ℕ) (c c′ : List ℕ) (r : ℕ) : Type 0 where
     pub within : r ≤ room
-    pub says : (ts : List Token) (G : List Class) (Γ : Context) → Sees tab names ts G Γ s → (x : Instruction)
-        → words op arg 0 0 ≡ encode (firstNamed ts) x → (e : Expression) → PartAt tab ts row (AtMost left expression) e
-        → suc (end e at) ≤ room → Wrote (firstNamed ts) (λ k. emit G Γ e at (x ∷ k)) (suc (end e at)) at c c′ r
+    pub says : Whatever λ ts G Γ. (x : Instruction) → words op arg 0 0 ≡ encode (firstNamed ts) x → (e : Expression)
+        → PartAt tab ts row (AtMost left expression) e → Written ts (λ k. emit G Γ e at (x ∷ k)) (suc (end e at)) at c c′ r
 
   pub record PairPost (op arg left row at : ℕ) (c c′ : List ℕ) (r : ℕ) : Type 0 where
     pub within : r ≤ room
-    pub says : (ts : List Token) (G : List Class) (Γ : Context) → Sees tab names ts G Γ s → (x : Instruction)
-        → words op arg 0 0 ≡ encode (firstNamed ts) x → (a b : Expression)
+    pub says : Whatever λ ts G Γ. (x : Instruction) → words op arg 0 0 ≡ encode (firstNamed ts) x → (a b : Expression)
         → PartAt tab ts (wordAt tab 4 row) (AtMost left expression) a → PartAt tab ts (wordAt tab 5 row) (AtMost left expression) b
-        → suc (end b (end a at)) ≤ room
-        → Wrote (firstNamed ts) (λ k. emit G Γ a at (emit G Γ b (end a at) (x ∷ k))) (suc (end b (end a at))) at c c′ r
+        → Written ts (λ k. emit G Γ a at (emit G Γ b (end a at) (x ∷ k))) (suc (end b (end a at))) at c c′ r
 
   -- the two parts of the node in a row, the second behind a jump over it
   pub record ConjunctionPost (left row at : ℕ) (c c′ : List ℕ) (r : ℕ) : Type 0 where
     pub within : r ≤ room
-    pub says : (ts : List Token) (G : List Class) (Γ : Context) → Sees tab names ts G Γ s → (a b : Expression)
-        → PartAt tab ts (wordAt tab 4 row) (AtMost left expression) a → PartAt tab ts (wordAt tab 5 row) (AtMost left expression) b
-        → end b (suc (end a at)) ≤ room
-        → Wrote (firstNamed ts) (λ k. emit G Γ a at (keep (end b (suc (end a at))) ∷ emit G Γ b (suc (end a at)) k))
-        (end b (suc (end a at))) at c c′ r
+    pub says : Whatever λ ts G Γ. (a b : Expression) → PartAt tab ts (wordAt tab 4 row) (AtMost left expression) a
+        → PartAt tab ts (wordAt tab 5 row) (AtMost left expression) b
+        → Written ts (λ k. emit G Γ a at (keep (end b (suc (end a at))) ∷ emit G Γ b (suc (end a at)) k)) (end b (suc (end a at))) at c c′ r
 
   -- the test's jump, the first branch, and the second
   pub record BranchesPost (left row at : ℕ) (c c′ : List ℕ) (r : ℕ) : Type 0 where
     pub within : r ≤ room
-    pub says : (ts : List Token) (G : List Class) (Γ : Context) → Sees tab names ts G Γ s → (y z : Statement)
-        → PartAt tab ts (wordAt tab 5 row) (AtMost left statement) y → PartAt tab ts (wordAt tab 7 row) (AtMost left statement) z
-        → end z (suc (end y (suc at))) ≤ room
-        → Wrote (firstNamed ts)
-        (λ k. unless (suc (end y (suc at))) ∷ emit G Γ y (suc at) (jump (end z (suc (end y (suc at)))) ∷ emit G Γ z (suc (end y (suc at))) k))
+    pub says : Whatever λ ts G Γ. (y z : Statement) → PartAt tab ts (wordAt tab 5 row) (AtMost left statement) y
+        → PartAt tab ts (wordAt tab 7 row) (AtMost left statement) z
+        → Written ts
+        (λ k. unless (suc (end y (suc at))) ∷ emit G Γ y (suc at)
+        (jump (end z (suc (end y (suc at)))) ∷ emit G Γ z (suc (end y (suc at))) k))
         (end z (suc (end y (suc at)))) at c c′ r
 
   -- the jump over the second branch, and the branch
   pub record OtherwisePost (left row at : ℕ) (c c′ : List ℕ) (r : ℕ) : Type 0 where
     pub within : r ≤ room
-    pub says : (ts : List Token) (G : List Class) (Γ : Context) → Sees tab names ts G Γ s → (z : Statement)
-        → PartAt tab ts (wordAt tab 7 row) (AtMost left statement) z → end z (suc at) ≤ room
-        → Wrote (firstNamed ts) (λ k. jump (end z (suc at)) ∷ emit G Γ z (suc at) k) (end z (suc at)) at c c′ r
+    pub says : Whatever λ ts G Γ. (z : Statement) → PartAt tab ts (wordAt tab 7 row) (AtMost left statement) z
+        → Written ts (λ k. jump (end z (suc at)) ∷ emit G Γ z (suc at) k) (end z (suc at)) at c c′ r
 
   -- the test's jump, the body, and the jump back
   pub record BodyPost (left row top at : ℕ) (c c′ : List ℕ) (r : ℕ) : Type 0 where
     pub within : r ≤ room
-    pub says : (ts : List Token) (G : List Class) (Γ : Context) → Sees tab names ts G Γ s → (y : Statement)
-        → PartAt tab ts (wordAt tab 5 row) (AtMost left statement) y → suc (end y (suc at)) ≤ room
-        → Wrote (firstNamed ts) (λ k. unless (suc (end y (suc at))) ∷ emit G Γ y (suc at) (jump top ∷ k)) (suc (end y (suc at))) at c c′ r
+    pub says : Whatever λ ts G Γ. (y : Statement) → PartAt tab ts (wordAt tab 5 row) (AtMost left statement) y
+        → Written ts (λ k. unless (suc (end y (suc at))) ∷ emit G Γ y (suc at) (jump top ∷ k)) (suc (end y (suc at))) at c c′ r

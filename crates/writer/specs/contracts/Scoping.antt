@@ -22,7 +22,7 @@ pub record CodeScope (tab names : List ℕ) (ts : List Token) (G : List Class) (
   pub given-listed : ListedAt tab (s .tokens) ts (s .parameters) given
   pub own-listed : ListedAt tab (s .tokens) ts (s .locals) own
 
--- What a body sees. `names` has, by the number of a name, what a field of that name means, and from word 4,096 on how many fields an
+-- What a body sees. `names` has, by the number of a name, what a field of that name means, and from `sizesFrom` on how many fields an
 -- object of a class of that name holds.
 pub record Sees (tab names : List ℕ) (ts : List Token) (G : List Class) (Γ : Context) (s : Scope) : Type 0 where
   pub scope : CodeScope tab names ts G Γ s
@@ -30,4 +30,5 @@ pub record Sees (tab names : List ℕ) (ts : List Token) (G : List Class) (Γ : 
 
 pub record SlotPost (tab names : List ℕ) (s : Scope) (x : ℕ) (r : ℕ) : Type 0 where
   pub most : r < 4294967296
-  pub says : (ts : List Token) (G : List Class) (Γ : Context) → CodeScope tab names ts G Γ s → (text : List ℕ) → NameNumber ts text x → r ≡ slotOf (meaning G Γ text)
+  pub says : (ts : List Token) (G : List Class) (Γ : Context) → CodeScope tab names ts G Γ s → (text : List ℕ) → NameNumber ts text x
+      → r ≡ slotOf (meaning G Γ text)

@@ -23,11 +23,13 @@ use Rattle.writer.specs.contracts.Classes.{enteredClasses}
 -- what main sees, where the classes begin in this row
 pub record BeginPost (tab : List ℕ) (n classes first : ℕ) (names : List ℕ) : Type 0 where
   pub fields : (ts : List Token) (G : List Class) → ClassTableHeld tab n ts G → length G ≡ classes → FieldsOf ts G (length G) none names
-  pub sizes : (ts : List Token) (G : List Class) → ClassTableHeld tab n ts G → length G ≡ classes → rowClasses G ≡ first → SizesHeld ts G names
+  pub sizes : (ts : List Token) (G : List Class) → ClassTableHeld tab n ts G → length G ≡ classes → rowClasses G ≡ first
+      → SizesHeld ts G names
 
 pub record MainPost (tab names : List ℕ) (n : ℕ) (c c′ : List ℕ) (r : ℕ) : Type 0 where
   pub within : r ≤ room
-  pub says : (ts : List Token) (p : Program) → Ready tab n ts p → FieldsOf ts (p .classes) (length (p .classes)) none names → SizesHeld ts (p .classes) names → suc (end (p .statement) 0) ≤ room
+  pub says : (ts : List Token) (p : Program) → Ready tab n ts p → FieldsOf ts (p .classes) (length (p .classes)) none names
+      → SizesHeld ts (p .classes) names → suc (end (p .statement) 0) ≤ room
       → Wrote (firstNamed ts) (λ k. emit (p .classes) mainContext (p .statement) 0 (halt ∷ k)) (suc (end (p .statement) 0)) 0 c c′ r
 
 -- whatever the accepted program is that the table holds

@@ -34,11 +34,11 @@ module _ (t : ℕ) where
   each-of-class-requires : each-lts.Need-of-class-requires (each-calls t) (each-at t) each.Post
   each-of-class-requires c κs = search needs
 
-  each-sub-each : each-lts.Need-sub-each (each-calls t) (each-at t) each.Post
-  each-sub-each c = search needs
-
   each-word-requires : each-lts.Need-word-requires (each-calls t) (each-at t) each.Post
   each-word-requires c κs = search needs
+
+  each-sub-each : each-lts.Need-sub-each (each-calls t) (each-at t) each.Post
+  each-sub-each c = search needs
 
   each-each-requires : each-lts.Need-each-requires (each-calls t) (each-at t) each.Post
   each-each-requires c κs = search needs
@@ -62,8 +62,8 @@ pub +each-spec : {M : Type 1} → statement M
     (each-returns t)
     (each-returns-2 t)
     (each-of-class-requires t)
-    (each-sub-each t)
     (each-word-requires t)
+    (each-sub-each t)
     (each-each-requires t)
     (each-same-length t)
     (each-same-length-2 t)

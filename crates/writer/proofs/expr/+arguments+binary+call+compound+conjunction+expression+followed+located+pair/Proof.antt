@@ -136,16 +136,62 @@ abbrev binary-calls : ℕ → binary-lts.Claims
 binary-calls t = (kind-reads.Asked, kind-reads.Learnt, conjunction-below t, conjunction.Post, pair-below t, pair.Post)
 
 abbrev call-calls : ℕ → call-lts.Claims
-call-calls t = (word-reads.Asked, word-reads.Learnt, expression-below t, expression.Post, arguments-below t, arguments.Post, count-reads.Asked, count-reads.Learnt, put-reads.Asked, put-reads.Learnt)
+call-calls t = (
+  word-reads.Asked,
+  word-reads.Learnt,
+  expression-below t,
+  expression.Post,
+  arguments-below t,
+  arguments.Post,
+  count-reads.Asked,
+  count-reads.Learnt,
+  put-reads.Asked,
+  put-reads.Learnt,
+)
 
 abbrev compound-calls : ℕ → compound-lts.Claims
-compound-calls t = (located-below t, located.Post, creation-reads.Asked, creation-reads.Learnt, call-below t, call.Post, word-reads.Asked, word-reads.Learnt, followed-below t, followed.Post, pair-below t, pair.Post, binary-below t, binary.Post)
+compound-calls t = (
+  located-below t,
+  located.Post,
+  creation-reads.Asked,
+  creation-reads.Learnt,
+  call-below t,
+  call.Post,
+  word-reads.Asked,
+  word-reads.Learnt,
+  followed-below t,
+  followed.Post,
+  pair-below t,
+  pair.Post,
+  binary-below t,
+  binary.Post,
+)
 
 abbrev conjunction-calls : ℕ → conjunction-lts.Claims
-conjunction-calls t = (word-reads.Asked, word-reads.Learnt, expression-below t, expression.Post, next-reads.Asked, next-reads.Learnt, put-reads.Asked, put-reads.Learnt)
+conjunction-calls t = (
+  word-reads.Asked,
+  word-reads.Learnt,
+  expression-below t,
+  expression.Post,
+  next-reads.Asked,
+  next-reads.Learnt,
+  put-reads.Asked,
+  put-reads.Learnt,
+)
 
 abbrev expression-calls : ℕ → expression-lts.Claims
-expression-calls t = (kind-reads.Asked, kind-reads.Learnt, mark-reads.Asked, mark-reads.Learnt, is-atom-reads.Asked, is-atom-reads.Learnt, atom-reads.Asked, atom-reads.Learnt, compound-below t, compound.Post)
+expression-calls t = (
+  kind-reads.Asked,
+  kind-reads.Learnt,
+  mark-reads.Asked,
+  mark-reads.Learnt,
+  is-atom-reads.Asked,
+  is-atom-reads.Learnt,
+  atom-reads.Asked,
+  atom-reads.Learnt,
+  compound-below t,
+  compound.Post,
+)
 
 abbrev followed-calls : ℕ → followed-lts.Claims
 followed-calls t = (expression-below t, expression.Post, put-reads.Asked, put-reads.Learnt)
@@ -236,7 +282,14 @@ module _ (t : ℕ) where
   call-same-length c = search needs
 
   call-returns : call-lts.Need-returns (call-calls t) (call-at t) call.Post
-  call-returns c = call-wrote (c .before .before .before .before .before .before .before .before .before .before .before .before .before .before .before .before .word .ensures .0) (c .before .before .before .before .before .before .before .before .before .before .before .before .before .before .expression .ensures) (c .before .before .before .before .before .before .before .before .before .before .before .word2 .ensures .0) (c .before .before .before .before .before .before .before .before .before .arguments .ensures) (c .before .before .before .before .before .before .word3 .ensures .0) (c .before .before .before .before .before .word4 .ensures .0) (c .before .before .before .count .ensures) (c .before .before .put .ensures)
+  call-returns c =
+      let d = c .before .before .before in
+      let e = d .before .before .before in
+      let g = e .before .before .before in
+      let h = g .before .before .before .before .before in
+      call-wrote (h .before .before .word .ensures .0) (h .expression .ensures) (g .before .before .word2 .ensures .0)
+      (g .arguments .ensures) (e .word3 .ensures .0) (d .before .before .word4 .ensures .0) (d .count .ensures)
+      (c .before .before .put .ensures)
 
   compound-located-requires : compound-lts.Need-located-requires (compound-calls t) (compound-at t) compound.Post
   compound-located-requires c κs = search needs
@@ -329,7 +382,12 @@ module _ (t : ℕ) where
   conjunction-same-length c = search needs
 
   conjunction-returns : conjunction-lts.Need-returns (conjunction-calls t) (conjunction-at t) conjunction.Post
-  conjunction-returns c = conjunction-wrote (c .before .before .before .before .before .before .before .before .before .before .before .before .before .before .word .ensures .0) (c .before .before .before .before .before .before .before .before .before .before .before .before .expression .ensures) (c .before .before .before .before .before .before .before .before .before .word2 .ensures .0) (c .before .before .before .before .before .before .before .next .ensures) (c .before .before .before .before .before .before .expression2 .ensures) (c .before .before .put .ensures)
+  conjunction-returns c =
+      let d = c .before .before .before .before .before .before in
+      let e = d .before .before .before in
+      let g = e .before .before .before in
+      conjunction-wrote (g .before .before .word .ensures .0) (g .expression .ensures) (e .word2 .ensures .0) (d .before .next .ensures)
+      (d .expression2 .ensures) (c .before .before .put .ensures)
 
   expression-returns : expression-lts.Need-returns (expression-calls t) (expression-at t) expression.Post
   expression-returns c = search expression-none
@@ -416,17 +474,40 @@ module _ (t : ℕ) where
   pair-same-length c = search needs
 
   pair-returns : pair-lts.Need-returns (pair-calls t) (pair-at t) pair.Post
-  pair-returns c = pair-wrote (c .before .before .before .before .before .before .before .before .before .word .ensures .0) (c .before .before .before .before .before .before .before .expression .ensures) (c .before .before .before .before .word2 .ensures .0) (c .before .before .followed .ensures)
+  pair-returns c =
+      let d = c .before .before .before .before in
+      let e = d .before .before .before in
+      pair-wrote (e .before .before .word .ensures .0) (e .expression .ensures) (d .word2 .ensures .0)
+      (c .before .before .followed .ensures)
 
 pub +arguments+binary+call+compound+conjunction+expression+followed+located+pair-spec : {M : Type 1} → statement M
 +arguments+binary+call+compound+conjunction+expression+followed+located+pair-spec =
     close μ-arguments μ-binary μ-call μ-compound μ-conjunction μ-expression μ-followed μ-located μ-pair
-    (λ t. arguments-lts.spec (arguments-calls t) (arguments-at t) arguments.Post (arguments-returns t) (arguments-returns-2 t) (arguments-expression-requires t) (arguments-word-requires t) (arguments-sub-arguments t) (arguments-arguments-requires t) (arguments-same-length t) (arguments-returns-3 t))
-    (λ t. binary-lts.spec (binary-calls t) (binary-at t) binary.Post (binary-kind-requires t) (binary-conjunction-requires t) (binary-same-length t) (binary-returns t) (binary-cast-operator t) (binary-pair-requires t) (binary-same-length-2 t) (binary-returns-2 t))
-    (λ t. call-lts.spec (call-calls t) (call-at t) call.Post (call-word-requires t) (call-expression-requires t) (call-word-requires-2 t) (call-arguments-requires t) (call-word-requires-3 t) (call-add-word t) (call-word-requires-4 t) (call-count-requires t) (call-put-requires t) (call-same-length t) (call-returns t))
-    (λ t. compound-lts.spec (compound-calls t) (compound-at t) compound.Post (compound-located-requires t) (compound-same-length t) (compound-returns t) (compound-creation-requires t) (compound-same-length-2 t) (compound-returns-2 t) (compound-located-requires-2 t) (compound-same-length-3 t) (compound-returns-3 t) (compound-call-requires t) (compound-same-length-4 t) (compound-returns-4 t) (compound-word-requires t) (compound-followed-requires t) (compound-same-length-5 t) (compound-returns-5 t) (compound-word-requires-2 t) (compound-pair-requires t) (compound-same-length-6 t) (compound-returns-6 t) (compound-binary-requires t) (compound-same-length-7 t) (compound-returns-7 t))
-    (λ t. conjunction-lts.spec (conjunction-calls t) (conjunction-at t) conjunction.Post (conjunction-word-requires t) (conjunction-expression-requires t) (conjunction-word-requires-2 t) (conjunction-next-requires t) (conjunction-expression-requires-2 t) (conjunction-put-requires t) (conjunction-same-length t) (conjunction-returns t))
-    (λ t. expression-lts.spec (expression-calls t) (expression-at t) expression.Post (expression-returns t) (expression-kind-requires t) (expression-mark-requires t) (expression-is-atom-requires t) (expression-sub-atom t) (expression-atom-requires t) (expression-same-length t) (expression-returns-2 t) (expression-add-kind t) (expression-kind-requires-2 t) (expression-sub-compound t) (expression-compound-requires t) (expression-same-length-2 t) (expression-returns-3 t))
-    (λ t. followed-lts.spec (followed-calls t) (followed-at t) followed.Post (followed-expression-requires t) (followed-put-requires t) (followed-same-length t) (followed-returns t))
-    (λ t. located-lts.spec (located-calls t) (located-at t) located.Post (located-word-requires t) (located-word-requires-2 t) (located-followed-requires t) (located-same-length t) (located-returns t))
-    (λ t. pair-lts.spec (pair-calls t) (pair-at t) pair.Post (pair-word-requires t) (pair-expression-requires t) (pair-word-requires-2 t) (pair-followed-requires t) (pair-same-length t) (pair-returns t))
+    (λ t. arguments-lts.spec (arguments-calls t) (arguments-at t) arguments.Post (arguments-returns t) (arguments-returns-2 t)
+    (arguments-expression-requires t) (arguments-word-requires t) (arguments-sub-arguments t) (arguments-arguments-requires t)
+    (arguments-same-length t) (arguments-returns-3 t))
+    (λ t. binary-lts.spec (binary-calls t) (binary-at t) binary.Post (binary-kind-requires t) (binary-conjunction-requires t)
+    (binary-same-length t) (binary-returns t) (binary-cast-operator t) (binary-pair-requires t) (binary-same-length-2 t)
+    (binary-returns-2 t))
+    (λ t. call-lts.spec (call-calls t) (call-at t) call.Post (call-word-requires t) (call-expression-requires t) (call-word-requires-2 t)
+    (call-arguments-requires t) (call-word-requires-3 t) (call-add-word t) (call-word-requires-4 t) (call-count-requires t)
+    (call-put-requires t) (call-same-length t) (call-returns t))
+    (λ t. compound-lts.spec (compound-calls t) (compound-at t) compound.Post (compound-located-requires t) (compound-same-length t)
+    (compound-returns t) (compound-creation-requires t) (compound-same-length-2 t) (compound-returns-2 t) (compound-located-requires-2 t)
+    (compound-same-length-3 t) (compound-returns-3 t) (compound-call-requires t) (compound-same-length-4 t) (compound-returns-4 t)
+    (compound-word-requires t) (compound-followed-requires t) (compound-same-length-5 t) (compound-returns-5 t) (compound-word-requires-2 t)
+    (compound-pair-requires t) (compound-same-length-6 t) (compound-returns-6 t) (compound-binary-requires t) (compound-same-length-7 t)
+    (compound-returns-7 t))
+    (λ t. conjunction-lts.spec (conjunction-calls t) (conjunction-at t) conjunction.Post (conjunction-word-requires t)
+    (conjunction-expression-requires t) (conjunction-word-requires-2 t) (conjunction-next-requires t) (conjunction-expression-requires-2 t)
+    (conjunction-put-requires t) (conjunction-same-length t) (conjunction-returns t))
+    (λ t. expression-lts.spec (expression-calls t) (expression-at t) expression.Post (expression-returns t) (expression-kind-requires t)
+    (expression-mark-requires t) (expression-is-atom-requires t) (expression-sub-atom t) (expression-atom-requires t)
+    (expression-same-length t) (expression-returns-2 t) (expression-add-kind t) (expression-kind-requires-2 t) (expression-sub-compound t)
+    (expression-compound-requires t) (expression-same-length-2 t) (expression-returns-3 t))
+    (λ t. followed-lts.spec (followed-calls t) (followed-at t) followed.Post (followed-expression-requires t) (followed-put-requires t)
+    (followed-same-length t) (followed-returns t))
+    (λ t. located-lts.spec (located-calls t) (located-at t) located.Post (located-word-requires t) (located-word-requires-2 t)
+    (located-followed-requires t) (located-same-length t) (located-returns t))
+    (λ t. pair-lts.spec (pair-calls t) (pair-at t) pair.Post (pair-word-requires t) (pair-expression-requires t) (pair-word-requires-2 t)
+    (pair-followed-requires t) (pair-same-length t) (pair-returns t))

@@ -35,7 +35,8 @@ same-length : tie.Need-same-length
 same-length c = search needs
 
 returns : tie.Need-returns
-returns c = creation-wrote (c .before .before .before .before .before .before .before .word .ensures .0) (c .before .before .before .before .before .before .word2 .ensures .0) refl (c .before .before .put .ensures)
+returns c = creation-wrote (c .before .before .before .before .before .before .before .word .ensures .0)
+    (c .before .before .before .before .before .before .word2 .ensures .0) refl (c .before .before .put .ensures)
 
 returns-2 : tie.Need-returns-2
 returns-2 c = search creation-none

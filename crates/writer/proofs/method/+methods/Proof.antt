@@ -23,7 +23,16 @@ abbrev methods-below : ℕ → In 4 methods-kinds.ps
 methods-below t = and 4 methods-kinds.ps (falls 4 methods-kinds.ps _<_ μ-methods t) methods.Pre
 
 abbrev methods-calls : ℕ → methods-lts.Claims
-methods-calls t = (enter-reads.Asked, enter-reads.Learnt, method-reads.Asked, method-reads.Learnt, word-reads.Asked, word-reads.Learnt, methods-below t, methods.Post)
+methods-calls t = (
+  enter-reads.Asked,
+  enter-reads.Learnt,
+  method-reads.Asked,
+  method-reads.Learnt,
+  word-reads.Asked,
+  word-reads.Learnt,
+  methods-below t,
+  methods.Post,
+)
 
 module _ (t : ℕ) where
   methods-returns : methods-lts.Need-returns (methods-calls t) (methods-at t) methods.Post
@@ -38,11 +47,11 @@ module _ (t : ℕ) where
   methods-method-requires : methods-lts.Need-method-requires (methods-calls t) (methods-at t) methods.Post
   methods-method-requires c κs = search needs
 
-  methods-sub-methods : methods-lts.Need-sub-methods (methods-calls t) (methods-at t) methods.Post
-  methods-sub-methods c = search needs
-
   methods-word-requires : methods-lts.Need-word-requires (methods-calls t) (methods-at t) methods.Post
   methods-word-requires c κs = search needs
+
+  methods-sub-methods : methods-lts.Need-sub-methods (methods-calls t) (methods-at t) methods.Post
+  methods-sub-methods c = search needs
 
   methods-methods-requires : methods-lts.Need-methods-requires (methods-calls t) (methods-at t) methods.Post
   methods-methods-requires c κs = search needs
@@ -54,9 +63,18 @@ module _ (t : ℕ) where
   methods-same-length-2 c = search needs
 
   methods-returns-3 : methods-lts.Need-returns-3 (methods-calls t) (methods-at t) methods.Post
-  methods-returns-3 c = methods-more (c .before .before .before .before .before .before .before .before .before .before .before .before .before .before .before .before .before .if1 .left) (c .before .before .before .before .before .before .before .before .before .before .before .before .before .before .before .before .if2 .left) (c .before .before .before .before .before .before .before .before .before .before .before .before .before .before .enter .ensures) (c .before .before .before .before .before .before .before .before .before .before .method .ensures) (c .before .before .before .before .before .word .ensures .0) (c .before .before .before .before .methods .ensures)
+  methods-returns-3 c =
+      let d = c .before .before .before .before in
+      let e = d .before .before .before in
+      let g = e .before .before .before in
+      let h = g .before .before .before .before in
+      let i = h .before .before .before in
+      methods-more (i .if1 .left) (h .before .before .if2 .left) (h .enter .ensures) (g .method .ensures) (e .word .ensures .0)
+      (d .methods .ensures)
 
 pub +methods-spec : {M : Type 1} → statement M
 +methods-spec =
     close μ-methods
-    (λ t. methods-lts.spec (methods-calls t) (methods-at t) methods.Post (methods-returns t) (methods-returns-2 t) (methods-enter-requires t) (methods-method-requires t) (methods-sub-methods t) (methods-word-requires t) (methods-methods-requires t) (methods-same-length t) (methods-same-length-2 t) (methods-returns-3 t))
+    (λ t. methods-lts.spec (methods-calls t) (methods-at t) methods.Post (methods-returns t) (methods-returns-2 t)
+    (methods-enter-requires t) (methods-method-requires t) (methods-word-requires t) (methods-sub-methods t) (methods-methods-requires t)
+    (methods-same-length t) (methods-same-length-2 t) (methods-returns-3 t))

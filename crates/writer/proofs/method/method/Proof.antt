@@ -35,7 +35,12 @@ same-length : tie.Need-same-length
 same-length c = search needs
 
 returns : tie.Need-returns
-returns c = method-wrote (c .before .before .before .before .before .before .before .before .before .before .before .before .before .before .before .word .ensures .0) (c .before .before .before .before .before .before .before .before .before .before .before .before .before .before .word2 .ensures .0) (c .before .before .before .before .before .before .before .before .before .before .before .before .word3 .ensures .0) (c .before .before .before .before .before .before .before .before .before .before .before .list .ensures) (c .before .before .before .before .before .before .before .word4 .ensures .0) (c .before .before .before .before .before .before .expression .ensures) (c .before .before .put .ensures)
+returns c =
+    let d = c .before .before .before .before .before .before in
+    let e = d .before .before .before .before .before in
+    let g = e .before .before .before in
+    method-wrote (g .before .word .ensures .0) (g .word2 .ensures .0) (e .before .before .word3 .ensures .0) (e .list .ensures)
+    (d .before .before .word4 .ensures .0) (d .expression .ensures) (c .before .before .put .ensures)
 
 pub method-spec : {M : Type 1} → statement M
 method-spec =

@@ -54,4 +54,5 @@ module _ (t : ℕ) where
 pub +place-spec : {M : Type 1} → statement M
 +place-spec =
     close μ-place
-    (λ t. place-lts.spec (place-calls t) (place-at t) place.Post (place-returns t) (place-returns-2 t) (place-word-requires t) (place-returns-3 t) (place-sub-place t) (place-word-requires-2 t) (place-add-place t) (place-place-requires t) (place-returns-4 t))
+    (λ t. place-lts.spec (place-calls t) (place-at t) place.Post (place-returns t) (place-returns-2 t) (place-word-requires t)
+    (place-returns-3 t) (place-sub-place t) (place-word-requires-2 t) (place-add-place t) (place-place-requires t) (place-returns-4 t))

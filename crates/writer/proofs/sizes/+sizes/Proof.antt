@@ -37,11 +37,11 @@ module _ (t : ℕ) where
   sizes-size-requires : sizes-lts.Need-size-requires (sizes-calls t) (sizes-at t) sizes.Post
   sizes-size-requires c κs = search needs
 
-  sizes-sub-sizes : sizes-lts.Need-sub-sizes (sizes-calls t) (sizes-at t) sizes.Post
-  sizes-sub-sizes c = search needs
-
   sizes-word-requires-2 : sizes-lts.Need-word-requires-2 (sizes-calls t) (sizes-at t) sizes.Post
   sizes-word-requires-2 c κs = search needs
+
+  sizes-sub-sizes : sizes-lts.Need-sub-sizes (sizes-calls t) (sizes-at t) sizes.Post
+  sizes-sub-sizes c = search needs
 
   sizes-sizes-requires : sizes-lts.Need-sizes-requires (sizes-calls t) (sizes-at t) sizes.Post
   sizes-sizes-requires c κs = search needs
@@ -60,8 +60,8 @@ pub +sizes-spec : {M : Type 1} → statement M
     (sizes-returns-2 t)
     (sizes-word-requires t)
     (sizes-size-requires t)
-    (sizes-sub-sizes t)
     (sizes-word-requires-2 t)
+    (sizes-sub-sizes t)
     (sizes-sizes-requires t)
     (sizes-same-length t)
     (sizes-returns-3 t)

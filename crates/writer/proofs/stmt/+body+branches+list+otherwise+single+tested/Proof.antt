@@ -93,22 +93,77 @@ abbrev tested-below : ℕ → In 3 tested-kinds.ps
 tested-below t = and 3 tested-kinds.ps (falls 3 tested-kinds.ps _<_ μ-tested t) tested.Pre
 
 abbrev body-calls : ℕ → body-lts.Claims
-body-calls t = (word-reads.Asked, word-reads.Learnt, next-reads.Asked, next-reads.Learnt, single-below t, single.Post, put-reads.Asked, put-reads.Learnt)
+body-calls t = (
+  word-reads.Asked,
+  word-reads.Learnt,
+  next-reads.Asked,
+  next-reads.Learnt,
+  single-below t,
+  single.Post,
+  put-reads.Asked,
+  put-reads.Learnt,
+)
 
 abbrev branches-calls : ℕ → branches-lts.Claims
-branches-calls t = (word-reads.Asked, word-reads.Learnt, next-reads.Asked, next-reads.Learnt, single-below t, single.Post, otherwise-below t, otherwise.Post, put-reads.Asked, put-reads.Learnt)
+branches-calls t = (
+  word-reads.Asked,
+  word-reads.Learnt,
+  next-reads.Asked,
+  next-reads.Learnt,
+  single-below t,
+  single.Post,
+  otherwise-below t,
+  otherwise.Post,
+  put-reads.Asked,
+  put-reads.Learnt,
+)
 
 abbrev list-calls : ℕ → list-lts.Claims
 list-calls t = (single-below t, single.Post, word-reads.Asked, word-reads.Learnt, list-below t, list.Post)
 
 abbrev otherwise-calls : ℕ → otherwise-lts.Claims
-otherwise-calls t = (word-reads.Asked, word-reads.Learnt, next-reads.Asked, next-reads.Learnt, single-below t, single.Post, put-reads.Asked, put-reads.Learnt)
+otherwise-calls t = (
+  word-reads.Asked,
+  word-reads.Learnt,
+  next-reads.Asked,
+  next-reads.Learnt,
+  single-below t,
+  single.Post,
+  put-reads.Asked,
+  put-reads.Learnt,
+)
 
 abbrev single-calls : ℕ → single-lts.Claims
-single-calls t = (kind-reads.Asked, kind-reads.Learnt, mark-reads.Asked, mark-reads.Learnt, word-reads.Asked, word-reads.Learnt, list-below t, list.Post, tested-below t, tested.Post, located-reads.Asked, located-reads.Learnt, element-reads.Asked, element-reads.Learnt, assigned-reads.Asked, assigned-reads.Learnt)
+single-calls t = (
+  kind-reads.Asked,
+  kind-reads.Learnt,
+  mark-reads.Asked,
+  mark-reads.Learnt,
+  word-reads.Asked,
+  word-reads.Learnt,
+  list-below t,
+  list.Post,
+  tested-below t,
+  tested.Post,
+  located-reads.Asked,
+  located-reads.Learnt,
+  element-reads.Asked,
+  element-reads.Learnt,
+  assigned-reads.Asked,
+  assigned-reads.Learnt,
+)
 
 abbrev tested-calls : ℕ → tested-lts.Claims
-tested-calls t = (word-reads.Asked, word-reads.Learnt, expression-reads.Asked, expression-reads.Learnt, branches-below t, branches.Post, body-below t, body.Post)
+tested-calls t = (
+  word-reads.Asked,
+  word-reads.Learnt,
+  expression-reads.Asked,
+  expression-reads.Learnt,
+  branches-below t,
+  branches.Post,
+  body-below t,
+  body.Post,
+)
 
 module _ (t : ℕ) where
   body-word-requires : body-lts.Need-word-requires (body-calls t) (body-at t) body.Post
@@ -130,7 +185,11 @@ module _ (t : ℕ) where
   body-same-length c = search needs
 
   body-returns : body-lts.Need-returns (body-calls t) (body-at t) body.Post
-  body-returns c = body-wrote (c .before .before .before .before .before .before .before .before .before .before .before .before .before .word .ensures .0) (c .before .before .before .before .before .before .before .before .before .before .before .next .ensures) (c .before .before .before .before .before .before .before .before .before .before .single .ensures) (c .before .before .before .before .before .before .put .ensures) (c .before .before .put2 .ensures)
+  body-returns c =
+      let d = c .before .before .before .before .before .before in
+      let e = d .before .before .before .before in
+      let g = e .before .before .before in
+      body-wrote (g .word .ensures .0) (e .before .next .ensures) (e .single .ensures) (d .put .ensures) (c .before .before .put2 .ensures)
 
   branches-word-requires : branches-lts.Need-word-requires (branches-calls t) (branches-at t) branches.Post
   branches-word-requires c κs = search needs
@@ -154,7 +213,13 @@ module _ (t : ℕ) where
   branches-same-length c = search needs
 
   branches-returns : branches-lts.Need-returns (branches-calls t) (branches-at t) branches.Post
-  branches-returns c = branches-wrote (c .before .before .before .before .before .before .before .before .before .before .before .before .before .before .word .ensures .0) (c .before .before .before .before .before .before .before .before .before .before .before .before .next .ensures) (c .before .before .before .before .before .before .before .before .before .before .before .single .ensures) (c .before .before .before .before .before .before .before .otherwise .ensures) (c .before .before .before .next2 .ensures) (c .before .before .put .ensures)
+  branches-returns c =
+      let d = c .before .before .before in
+      let e = d .before .before .before .before in
+      let g = e .before .before .before .before in
+      let h = g .before .before .before in
+      branches-wrote (h .word .ensures .0) (g .before .next .ensures) (g .single .ensures) (e .otherwise .ensures) (d .next2 .ensures)
+      (c .before .before .put .ensures)
 
   list-returns : list-lts.Need-returns (list-calls t) (list-at t) list.Post
   list-returns c = search list-none
@@ -196,7 +261,10 @@ module _ (t : ℕ) where
   otherwise-same-length c = search needs
 
   otherwise-returns : otherwise-lts.Need-returns (otherwise-calls t) (otherwise-at t) otherwise.Post
-  otherwise-returns c = otherwise-wrote (c .before .before .before .before .before .before .before .before .before .word .ensures .0) (c .before .before .before .before .before .before .before .next .ensures) (c .before .before .before .before .before .before .single .ensures) (c .before .before .put .ensures)
+  otherwise-returns c =
+      let d = c .before .before .before .before .before .before in
+      let e = d .before .before .before in
+      otherwise-wrote (e .word .ensures .0) (d .before .next .ensures) (d .single .ensures) (c .before .before .put .ensures)
 
   single-returns : single-lts.Need-returns (single-calls t) (single-at t) single.Post
   single-returns c = search statement-none
@@ -310,14 +378,30 @@ module _ (t : ℕ) where
   tested-same-length-2 c = search needs
 
   tested-returns-2 : tested-lts.Need-returns-2 (tested-calls t) (tested-at t) tested.Post
-  tested-returns-2 c = search loop-wrote
+  tested-returns-2 c =
+      let d = c .before .before .before .before in
+      let e = d .before .before .before in
+      loop-wrote (e .before .before .word .ensures .0) (e .expression .ensures) (d .if1 .left) (c .before .before .body .ensures)
 
 pub +body+branches+list+otherwise+single+tested-spec : {M : Type 1} → statement M
 +body+branches+list+otherwise+single+tested-spec =
     close μ-body μ-branches μ-list μ-otherwise μ-single μ-tested
-    (λ t. body-lts.spec (body-calls t) (body-at t) body.Post (body-word-requires t) (body-next-requires t) (body-single-requires t) (body-put-requires t) (body-put-requires-2 t) (body-same-length t) (body-returns t))
-    (λ t. branches-lts.spec (branches-calls t) (branches-at t) branches.Post (branches-word-requires t) (branches-next-requires t) (branches-single-requires t) (branches-otherwise-requires t) (branches-next-requires-2 t) (branches-put-requires t) (branches-same-length t) (branches-returns t))
-    (λ t. list-lts.spec (list-calls t) (list-at t) list.Post (list-returns t) (list-returns-2 t) (list-single-requires t) (list-word-requires t) (list-sub-list t) (list-list-requires t) (list-same-length t) (list-returns-3 t))
-    (λ t. otherwise-lts.spec (otherwise-calls t) (otherwise-at t) otherwise.Post (otherwise-word-requires t) (otherwise-next-requires t) (otherwise-single-requires t) (otherwise-put-requires t) (otherwise-same-length t) (otherwise-returns t))
-    (λ t. single-lts.spec (single-calls t) (single-at t) single.Post (single-returns t) (single-kind-requires t) (single-mark-requires t) (single-word-requires t) (single-sub-list t) (single-list-requires t) (single-same-length t) (single-returns-2 t) (single-sub-tested t) (single-tested-requires t) (single-same-length-2 t) (single-returns-3 t) (single-sub-tested-2 t) (single-tested-requires-2 t) (single-same-length-3 t) (single-returns-4 t) (single-sub-located t) (single-located-requires t) (single-same-length-4 t) (single-returns-5 t) (single-add-kind t) (single-kind-requires-2 t) (single-sub-element t) (single-element-requires t) (single-same-length-5 t) (single-returns-6 t) (single-sub-assigned t) (single-assigned-requires t) (single-same-length-6 t) (single-returns-7 t))
-    (λ t. tested-lts.spec (tested-calls t) (tested-at t) tested.Post (tested-word-requires t) (tested-expression-requires t) (tested-branches-requires t) (tested-same-length t) (tested-returns t) (tested-body-requires t) (tested-same-length-2 t) (tested-returns-2 t))
+    (λ t. body-lts.spec (body-calls t) (body-at t) body.Post (body-word-requires t) (body-next-requires t) (body-single-requires t)
+    (body-put-requires t) (body-put-requires-2 t) (body-same-length t) (body-returns t))
+    (λ t. branches-lts.spec (branches-calls t) (branches-at t) branches.Post (branches-word-requires t) (branches-next-requires t)
+    (branches-single-requires t) (branches-otherwise-requires t) (branches-next-requires-2 t) (branches-put-requires t)
+    (branches-same-length t) (branches-returns t))
+    (λ t. list-lts.spec (list-calls t) (list-at t) list.Post (list-returns t) (list-returns-2 t) (list-single-requires t)
+    (list-word-requires t) (list-sub-list t) (list-list-requires t) (list-same-length t) (list-returns-3 t))
+    (λ t. otherwise-lts.spec (otherwise-calls t) (otherwise-at t) otherwise.Post (otherwise-word-requires t) (otherwise-next-requires t)
+    (otherwise-single-requires t) (otherwise-put-requires t) (otherwise-same-length t) (otherwise-returns t))
+    (λ t. single-lts.spec (single-calls t) (single-at t) single.Post (single-returns t) (single-kind-requires t) (single-mark-requires t)
+    (single-word-requires t) (single-sub-list t) (single-list-requires t) (single-same-length t) (single-returns-2 t) (single-sub-tested t)
+    (single-tested-requires t) (single-same-length-2 t) (single-returns-3 t) (single-sub-tested-2 t) (single-tested-requires-2 t)
+    (single-same-length-3 t) (single-returns-4 t) (single-sub-located t) (single-located-requires t) (single-same-length-4 t)
+    (single-returns-5 t) (single-add-kind t) (single-kind-requires-2 t) (single-sub-element t) (single-element-requires t)
+    (single-same-length-5 t) (single-returns-6 t) (single-sub-assigned t) (single-assigned-requires t) (single-same-length-6 t)
+    (single-returns-7 t))
+    (λ t. tested-lts.spec (tested-calls t) (tested-at t) tested.Post (tested-word-requires t) (tested-expression-requires t)
+    (tested-branches-requires t) (tested-same-length t) (tested-returns t) (tested-body-requires t) (tested-same-length-2 t)
+    (tested-returns-2 t))
