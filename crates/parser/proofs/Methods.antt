@@ -19,7 +19,7 @@ use Rattle.parser.specs.Parse.{Parsed, ok, bad, bind, expect, expectAll,
 use Rattle.parser.specs.contracts.Layout.{given, rowOf, store, headOf, rowVariables, storeVariable, storeVariables, methodRow, storeMethod, rowMethods, storeMethods, rowParent, classRow, storeClass, rowClasses, storeClasses, storeProgram}
 use Rattle.parser.specs.contracts.Post.{kindInTable, TokensIn, part, Met, met-ok, met-bad, Within, ModePost, ListPost, levelAt, matchedIn}
 use Rattle.parser.specs.contracts.DeclarationPost.{aVariable, variableList, formals, aMethod, methodList, aParent, aClass, classList, declarationStored, DeclPost, OpenedPost, LocalsPost, BodyPost, ReturnedPost, MembersPost, ClassMethodsPost, ProgramPost, EndsThere}
-use Rattle.parser.specs.contracts.Parts.{Follows, present, missing, nothing, Linked, PiecePost}
+use Rattle.parser.specs.contracts.Parts.{Follows, present, missing, nothing, ListOf, PiecePost}
 use Rattle.parser.proofs.Pieces.{andToken, regroup, regroup-two, follows-ok, then-token, then-bad, then-on, then-list, of-mode, of-list, of-declaration, as-declaration, as-declarations}
 use Rattle.parser.proofs.Laws.{there, tokens-kept, given-put, is, is-not, passes, at-result, bind-ok, bind-bad, at-suc, within-ok, within-more, plus-two}
 use Rattle.parser.proofs.Postfix.{name-there}
@@ -207,7 +207,7 @@ module _ {n i k : ℕ} {T : List ℕ} (ek : k ≡ kindInTable T n i) where
         (then-bad few (of-declaration (16 * (n - i) + 2) (omega arith) p) i 2049 (λ f ts m j. bind (methodsFrom f ts j) λ ms j. ok (m ∷ ms) j) e)
         (omega arith) (λ f ts h. rw (is h i ek z) refl)
 
-    pub methods-more : {x j : ℕ} {T₂ T₃ : List ℕ} {r₂ r : Answer} → r₁ ≡ At x j → DeclPost methodList n j T₁ r₂ T₂ → Linked x T₂ r₂ r T₃ → DeclPost methodList n i T r T₃
+    pub methods-more : {x j : ℕ} {T₂ T₃ : List ℕ} {r₂ r : Answer} → r₁ ≡ At x j → DeclPost methodList n j T₁ r₂ T₂ → ListOf x T₂ r₂ r T₃ → DeclPost methodList n i T r T₃
     unfolding methodsFrom
     methods-more e q l =
         let w = within-ok e (p .within) in
@@ -336,7 +336,7 @@ module _ {n i k : ℕ} {T : List ℕ} (ek : k ≡ kindInTable T n i) where
         (then-bad few (of-declaration (16 * (n - i) + 3) (omega arith) p) i 2049 (λ f ts c j. bind (classesFrom f ts j) λ cs j. ok (c ∷ cs) j) e)
         (omega arith) (λ f ts h. rw (is-not h i ek z) refl)
 
-    pub classes-more : {x j : ℕ} {T₂ T₃ : List ℕ} {r₂ r : Answer} → r₁ ≡ At x j → DeclPost classList n j T₁ r₂ T₂ → Linked x T₂ r₂ r T₃ → DeclPost classList n i T r T₃
+    pub classes-more : {x j : ℕ} {T₂ T₃ : List ℕ} {r₂ r : Answer} → r₁ ≡ At x j → DeclPost classList n j T₁ r₂ T₂ → ListOf x T₂ r₂ r T₃ → DeclPost classList n i T r T₃
     unfolding classesFrom
     classes-more e q l =
         let w = within-ok e (p .within) in
