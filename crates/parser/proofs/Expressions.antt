@@ -15,10 +15,12 @@ use Rattle.parser.specs.Tree.{Place, Operator, Sort, Sort.expression, Pa
 use Rattle.parser.specs.Tree.{Part.negation, Part.binary}
 use Rattle.parser.specs.Stream.{startAt, placeAt, Level, Level.conjunction, Level.comparison, Level.sum, Level.product, operatorOf}
 use Rattle.parser.specs.Parse.{Parsed, bind, Mode, operation, operations, operand, unary, postfix, primary, suffixes, step}
-use Rattle.parser.specs.contracts.Layout.{absent, rowOf, node, given, store}
-use Rattle.parser.specs.contracts.Post.{kindInTable, TokensIn, met-ok, ModePost, RestPost, LevelsPost, Rest, restMode, moreOperations, moreSuffixes, levelAt, isOperator, startsArray, rank, fuel}
+use Rattle.parser.specs.contracts.Layout.{rowOf, node, given, store}
+use Rattle.parser.specs.contracts.Post.{kindInTable, TokensIn, met-ok, ModePost, RestPost, LevelsPost, Rest, restMode, moreOperations}
+use Rattle.parser.specs.contracts.Post.{moreSuffixes, levelAt, isOperator, startsArray, rank, fuel}
 use Rattle.parser.specs.contracts.Parts.{OnePart}
-use Rattle.parser.proofs.Laws.{there, there-by, tokens-kept, given-node, kind-of, is, is-not, at-result, bind-ok, bind-bad, stepped, within-ok, within-more}
+use Rattle.parser.proofs.Laws.{there, there-by, tokens-kept, given-node, kind-of, is, is-not, at-result, bind-ok, bind-bad, stepped}
+use Rattle.parser.proofs.Laws.{within-ok, within-more}
 use Rattle.parser.proofs.Pieces.{then-node, of-mode, as-mode}
 
 -- a node as the code writes it

@@ -1,6 +1,6 @@
 -- Pieces of the definition's parsers, put together as the code puts them together: a token after a piece, a node or a list made of one, and what goes on
 -- after one.
-use Prim.Native.Nat.{ℕ, zero, suc, _+_, _*_, _-_, _≤_, _<_}
+use Prim.Native.Nat.{ℕ, suc, _+_, _*_, _-_, _≤_, _<_}
 use mathlib.Core.Path.{_≡_, refl, sym, ap, _∙_, subst}
 use mathlib.Core.List.{List}
 use mathlib.Core.Logic.{_≢_}
@@ -18,9 +18,11 @@ use Rattle.parser.specs.Stream.{kindAt, startAt}
 use Rattle.parser.specs.Parse.{Parsed, ok, bad, out, bind, expect, Mode, statementList, step, parseAs}
 use Rattle.parser.specs.contracts.Layout.{absent, rowOf, node, given, store}
 use Rattle.parser.specs.contracts.Post.{kindInTable, TokensIn, Stored, part, Met, met-ok, met-bad, Within, ModePost, ListPost, fuel}
-use Rattle.parser.specs.contracts.Parts.{Follows, present, missing, nothing, RowFits, WholeOf, done, refused, ListOf, OnePart, TwoParts, PiecePost}
+use Rattle.parser.specs.contracts.Parts.{Follows, present, missing, nothing, RowFits, WholeOf, done, refused, ListOf, OnePart}
+use Rattle.parser.specs.contracts.Parts.{TwoParts, PiecePost}
 use Rattle.parser.specs.contracts.DeclarationPost.{Declaration, Of, itemFrom, declarationStored, rankOf, lowOf, topOf, DeclPost}
-use Rattle.parser.proofs.Laws.{there, tokens-kept, given-put, given-node, is, is-not, at-result, bind-ok, bind-bad, stepped, at-suc, within-ok, within-more}
+use Rattle.parser.proofs.Laws.{there, tokens-kept, given-put, given-node, is, is-not, at-result, bind-ok, bind-bad, stepped, at-suc}
+use Rattle.parser.proofs.Laws.{within-ok, within-more}
 
 -- AS THE CODE HAS THEM
 

@@ -14,14 +14,19 @@ use Rattle.lexer.specs.Tokens.{Token, decimal}
 use Rattle.parser.specs.declared.answer.Answer.{Answer}
 use Rattle.parser.specs.declared.answer.Answer.the-variants.{At, Bad}
 use Rattle.parser.specs.Tree.{Place, Name, Sort, Sort.arguments, Part, Expression}
-use Rattle.parser.specs.Tree.{Part.literal, Part.truth, Part.variable, Part.this, Part.newArray, Part.newObject, Part.element, Part.arrayLength, Part.call, Part.noArguments, Part.argument}
+use Rattle.parser.specs.Tree.{Part.literal, Part.truth, Part.variable, Part.this, Part.newArray, Part.newObject, Part.element}
+use Rattle.parser.specs.Tree.{Part.arrayLength, Part.call, Part.noArguments, Part.argument}
 use Rattle.parser.specs.Stream.{tokenAt, kindAt, startAt, placeAt, nameAt}
-use Rattle.parser.specs.Parse.{Parsed, ok, bind, anExpression, Mode, operation, postfix, primary, suffixes, argumentList, someArguments, step, parseAs}
+use Rattle.parser.specs.Parse.{Parsed, ok, bind, anExpression, Mode, operation, postfix, primary, suffixes, argumentList}
+use Rattle.parser.specs.Parse.{someArguments, step, parseAs}
 use Rattle.parser.specs.contracts.Layout.{absent, rowOf, node, given, store}
-use Rattle.parser.specs.contracts.Post.{kindInTable, TokensIn, met-ok, met-bad, ModePost, RestPost, moreSuffixes, levelAt, isAtom, startsArray, fuel}
+use Rattle.parser.specs.contracts.Post.{kindInTable, TokensIn, met-ok, met-bad, ModePost, RestPost, moreSuffixes, levelAt, isAtom}
+use Rattle.parser.specs.contracts.Post.{startsArray, fuel}
 use Rattle.parser.specs.contracts.Parts.{Follows, ListOf}
-use Rattle.parser.proofs.Pieces.{andToken, regroup, member, then-token, then-bad, then-on, last-member, no-member, more-members, of-mode, as-mode}
-use Rattle.parser.proofs.Laws.{plus-two, plus-three, plus-four, there, there-by, tokens-kept, given-put, given-node, kind-of, is, is-not, passes, at-result, bind-ok, bind-bad, stepped, within-ok, within-more}
+use Rattle.parser.proofs.Pieces.{andToken, regroup, member, then-token, then-bad, then-on, last-member, no-member, more-members}
+use Rattle.parser.proofs.Pieces.{of-mode, as-mode}
+use Rattle.parser.proofs.Laws.{plus-two, plus-three, plus-four, there, there-by, tokens-kept, given-node, kind-of, is, is-not}
+use Rattle.parser.proofs.Laws.{passes, at-result, bind-ok, bind-bad, stepped, within-ok, within-more}
 use Rattle.parser.proofs.Expressions.{made}
 
 -- a conjunction of tests

@@ -17,10 +17,12 @@ use Rattle.parser.specs.Stream.{nameAt}
 use Rattle.parser.specs.Parse.{ok, bind, typeFrom, variableFrom, beginsVariable, variablesFrom, someParameters, parametersFrom}
 use Rattle.parser.specs.contracts.Layout.{given, rowVariables, storeVariable, storeVariables}
 use Rattle.parser.specs.contracts.Post.{kindInTable, TokensIn, met-ok, met-bad}
-use Rattle.parser.specs.contracts.DeclarationPost.{declarationStored, OpenedPost, aType, aVariable, variableList, parameterList, formals, DeclPost, startsVariable}
+use Rattle.parser.specs.contracts.DeclarationPost.{declarationStored, OpenedPost, aType, aVariable, variableList, parameterList}
+use Rattle.parser.specs.contracts.DeclarationPost.{formals, DeclPost, startsVariable}
 use Rattle.parser.specs.contracts.Parts.{Follows, ListOf, PiecePost}
-use Rattle.parser.proofs.Pieces.{andToken, regroup, member, then-token, then-bad, then-list, last-member, no-member, more-members, of-declaration, as-declarations, as-piece}
-use Rattle.parser.proofs.Laws.{there, tokens-kept, given-put, is, is-not, passes, bind-ok, bind-bad, at-suc, within-ok, plus-three}
+use Rattle.parser.proofs.Pieces.{andToken, regroup, member, then-token, then-bad, then-list, last-member, no-member, more-members}
+use Rattle.parser.proofs.Pieces.{of-declaration, as-declarations, as-piece}
+use Rattle.parser.proofs.Laws.{there, given-put, is, is-not, passes, bind-ok, bind-bad, at-suc, within-ok, plus-three}
 use Rattle.parser.proofs.Postfix.{name-there}
 
 -- TYPES

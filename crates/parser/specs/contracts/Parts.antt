@@ -43,8 +43,8 @@ TwoParts row first left before a r after = WholeOf row (λ x. node before row (c
 
 -- what a parser ensures that reads a piece of which P is the definition, whatever the tokens are that the table holds and whatever fuel
 -- there is, if it is enough
-pub record PiecePost {A : Type 0} (S : Stored A) (P : ℕ → List Token → Parsed A) (enough low n top : ℕ) (before : List ℕ) (r : Answer) (after : List ℕ)
-    : Type 0 where
+pub record PiecePost {A : Type 0} (S : Stored A) (P : ℕ → List Token → Parsed A) (enough low n top : ℕ)
+    (before : List ℕ) (r : Answer) (after : List ℕ) : Type 0 where
   pub kept : given after ≡ given before
   pub within : Within low n top r
   pub says : (ts : List Token) → TokensIn before n ts → (f : ℕ) → enough < f → Met S before after r (P f ts)
