@@ -15,9 +15,13 @@ use Rattle.parser.specs.Tree.{Place, Operator, Sort, Sort.expression, Pa
 use Rattle.parser.specs.Tree.{Part.negation, Part.binary}
 use Rattle.parser.specs.Stream.{startAt, placeAt, Level, Level.conjunction, Level.comparison, Level.sum, Level.product, operatorOf}
 use Rattle.parser.specs.Parse.{Parsed, bind, Mode, operation, operations, operand, unary, postfix, primary, suffixes, step}
-use Rattle.parser.specs.contracts.Layout.{absent, rowOf, node, given, store}
-use Rattle.parser.specs.contracts.Post.{kindInTable, TokensIn, met-ok, ModePost, RestPost, LevelsPost, Rest, restMode, moreOperations, moreSuffixes, levelAt, isOperator, startsArray, rank, fuel}
-use Rattle.parser.proofs.Laws.{there, there-by, tokens-kept, given-node, kind-of, is, is-not, at-result, bind-ok, bind-bad, stepped, within-ok, within-more}
+use Rattle.parser.specs.contracts.Layout.{rowOf, node, given, store}
+use Rattle.parser.specs.contracts.Post.{kindInTable, TokensIn, met-ok, ModePost, RestPost, LevelsPost, Rest, restMode, moreOperations}
+use Rattle.parser.specs.contracts.Post.{moreSuffixes, levelAt, isOperator, startsArray, rank, fuel}
+use Rattle.parser.specs.contracts.Parts.{OnePart}
+use Rattle.parser.proofs.Laws.{there, there-by, tokens-kept, given-node, kind-of, is, is-not, at-result, bind-ok, bind-bad, stepped}
+use Rattle.parser.proofs.Laws.{within-ok, within-more}
+use Rattle.parser.proofs.Pieces.{then-node, of-mode, as-mode}
 
 -- a node as the code writes it
 pub made : {T : List ℕ} {n : ℕ} {ts : List Token} (T₂ : List ℕ) (i first l r : ℕ) → TokensIn T n ts → first < n → T₂ ≡ node T i (col T 1 first) l r → T₂ ≡ node T i (startAt ts first) l r
@@ -219,33 +223,13 @@ module _ (level : ℕ) {n first left i k : ℕ} {T : List ℕ} {b : Bool} (ek : 
       }
 
 -- UNARY
-is-negation : (p : Place) (e : Expression) (t : List ℕ) → store (negation p e) t ≡ node (store e t) (p .row) (p .start) (rowOf e) absent
-unfolding store
-is-negation p e t = refl
-
 module _ {n i k : ℕ} {T : List ℕ} (ek : k ≡ kindInTable T n i) where
-  pub negation-ok : {x j : ℕ} {T₁ T₂ : List ℕ} {r₁ : Answer} → n ≤ 2048 → k ≡ 29 → ModePost unary n n (i + 1) T r₁ T₁ → r₁ ≡ At x j
-      → T₂ ≡ node T₁ i (col T₁ 1 i) x 2048 → ModePost unary n n i T (At i j) T₂
-  unfolding step
-  negation-ok {x} {j} {T₁} {T₂} {r₁} few z p e eT =
+  pub negation-is : {T₁ T₂ : List ℕ} {r₁ r : Answer} → n ≤ 2048 → k ≡ 29 → ModePost unary n n (i + 1) T r₁ T₁ → OnePart i T₁ r₁ r T₂ → ModePost unary n n i T r T₂
+  unfolding step store
+  negation-is few z p w =
       let il = there T n i k 29 ek z (omega arith) in
-      let w = within-ok e (p .within) in
-      record {
-        kept = ap given eT ∙ given-node T₁ i (col T₁ 1 i) x 2048 ∙ p .kept;
-        within = (omega arith, omega arith, omega arith);
-        says = λ ts h. stepped unary ts i (fuel unary n i) (λ f enough. rw (is h i ek z) (bind-ok _ e (p .says ts h f (omega arith))
-            (λ a ea ta. met-ok refl (made T₂ i i x 2048 (tokens-kept few (p .kept) h) il eT ∙ cc (is-negation (placeAt ts i i) a T)))));
-      }
-
-  pub negation-bad : {z : ℕ} {T₁ : List ℕ} {r₁ : Answer} → k ≡ 29 → ModePost unary n n (i + 1) T r₁ T₁ → r₁ ≡ Bad z → ModePost unary n n i T (Bad z) T₁
-  unfolding step
-  negation-bad {z} {T₁} {r₁} q p e =
-      let il = there T n i k 29 ek q (omega arith) in
-      record {
-        kept = p .kept;
-        within = tt;
-        says = λ ts h. stepped unary ts i (fuel unary n i) (λ f enough. rw (is h i ek q) (bind-bad _ e (p .says ts h f (omega arith))));
-      }
+      as-mode (omega arith) (omega arith) (λ f ts h. rw (is h i ek z) refl)
+      (then-node (λ ts a. negation (placeAt ts i i) a) (λ ts a t. (refl, refl)) few il (of-mode (16 * (n - (i + 1)) + 15) (omega arith) p) w)
 
   pub to-postfix : {T₁ : List ℕ} {r : Answer} → k ≢ 29 → ModePost postfix n n i T r T₁ → ModePost unary n n i T r T₁
   unfolding step

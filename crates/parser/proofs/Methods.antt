@@ -2,7 +2,7 @@
 -- function ensures.
 use Prim.Native.Nat.{ℕ, _+_, _*_, _-_, _≤_, _<_}
 use mathlib.Core.Path.{_≡_, refl, sym, ap, _∙_, subst}
-use mathlib.Core.List.{List, [], _∷_}
+use mathlib.Core.List.{List, _∷_}
 use mathlib.Core.Logic.{_≢_}
 use mathlib.Core.Bool.{Bool, true, false}
 use native.Mathlib.Omega.{arith}
@@ -15,15 +15,24 @@ use Rattle.parser.specs.declared.answer.Answer.{Answer}
 use Rattle.parser.specs.declared.answer.Answer.the-variants.{At, Bad}
 use Rattle.parser.specs.Tree.{Sort.statement, Sort.statements, Part, Expression, Variable, Method, Class, Program}
 use Rattle.parser.specs.Stream.{kindAt, nameAt}
-use Rattle.parser.specs.Parse.{Parsed, ok, bad, bind, expect, expectAll, operation, anExpression, aStatement, statementList, parseAs, variableFrom, variablesFrom, parametersFrom, returnedFrom, bodyFrom, localsFrom, classMethodsFrom, methodFrom, methodsFrom, parentFrom, classFrom, classesFrom, mainHead, mainEnd, programFrom}
-use Rattle.parser.specs.contracts.Layout.{given, rowOf, store, headOf, rowVariables, storeVariable, storeVariables, methodRow, storeMethod, rowMethods, storeMethods, rowParent, classRow, storeClass, rowClasses, storeClasses, storeProgram}
-use Rattle.parser.specs.contracts.Post.{kindInTable, TokensIn, part, Met, met-ok, met-bad, Within, ModePost, ListPost, levelAt, matchedIn}
-use Rattle.parser.specs.contracts.DeclarationPost.{aVariable, variableList, formals, aMethod, methodList, aParent, aClass, classList, declarationStored, DeclPost, OpenedPost, LocalsPost, BodyPost, ReturnedPost, MembersPost, ClassMethodsPost, ProgramPost, EndsThere}
-use Rattle.parser.specs.contracts.Parts.{Follows, present, missing, nothing, Linked, PiecePost}
-use Rattle.parser.proofs.Pieces.{andToken, regroup, regroup-two, follows-ok, then-token, then-bad, then-on, then-list, of-mode, of-list, of-declaration, as-declaration, as-declarations}
-use Rattle.parser.proofs.Laws.{there, tokens-kept, given-put, is, is-not, passes, at-result, bind-ok, bind-bad, at-suc, within-ok, within-more, plus-two}
+use Rattle.parser.specs.Parse.{Parsed, ok, bad, bind, expect, expectAll, operation, anExpression, aStatement, statementList, parseAs}
+use Rattle.parser.specs.Parse.{variableFrom, variablesFrom, parametersFrom, returnedFrom, bodyFrom, localsFrom, classMethodsFrom}
+use Rattle.parser.specs.Parse.{methodFrom, methodsFrom, parentFrom, classFrom, classesFrom, mainHead, mainEnd, programFrom}
+use Rattle.parser.specs.contracts.Layout.{given, rowOf, store, headOf, rowVariables, storeVariable, storeVariables, methodRow}
+use Rattle.parser.specs.contracts.Layout.{storeMethod, rowMethods, storeMethods, rowParent, classRow, storeClass, rowClasses}
+use Rattle.parser.specs.contracts.Layout.{storeClasses, storeProgram}
+use Rattle.parser.specs.contracts.Post.{kindInTable, TokensIn, part, Met, met-ok, met-bad, Within, ModePost, ListPost, levelAt}
+use Rattle.parser.specs.contracts.Post.{matchedIn}
+use Rattle.parser.specs.contracts.DeclarationPost.{aVariable, formals, aMethod, methodList, aParent, aClass, classList}
+use Rattle.parser.specs.contracts.DeclarationPost.{declarationStored, DeclPost, OpenedPost, LocalsPost, BodyPost, ReturnedPost}
+use Rattle.parser.specs.contracts.DeclarationPost.{MembersPost, ClassMethodsPost, ProgramPost, EndsThere}
+use Rattle.parser.specs.contracts.Parts.{Follows, present, missing, nothing, ListOf, PiecePost}
+use Rattle.parser.proofs.Pieces.{andToken, regroup, regroup-two, follows-ok, then-token, then-bad, then-on, then-list, of-mode}
+use Rattle.parser.proofs.Pieces.{of-list, of-declaration, as-declaration, as-declarations}
+use Rattle.parser.proofs.Laws.{there, tokens-kept, given-put, is, is-not, passes, at-result, bind-ok, bind-bad, at-suc, within-ok}
+use Rattle.parser.proofs.Laws.{within-more, plus-two}
 use Rattle.parser.proofs.Postfix.{name-there}
-use Rattle.parser.proofs.Matched.{matched-there, all-matched, not-matched}
+use Rattle.parser.proofs.Matched.{all-matched, not-matched}
 
 -- THE ROWS ARE WRITTEN
 pub given-method-row : (t : List ℕ) (row a b c d : ℕ) → given (methodRow t row a b c d) ≡ given t
@@ -207,7 +216,7 @@ module _ {n i k : ℕ} {T : List ℕ} (ek : k ≡ kindInTable T n i) where
         (then-bad few (of-declaration (16 * (n - i) + 2) (omega arith) p) i 2049 (λ f ts m j. bind (methodsFrom f ts j) λ ms j. ok (m ∷ ms) j) e)
         (omega arith) (λ f ts h. rw (is h i ek z) refl)
 
-    pub methods-more : {x j : ℕ} {T₂ T₃ : List ℕ} {r₂ r : Answer} → r₁ ≡ At x j → DeclPost methodList n j T₁ r₂ T₂ → Linked x T₂ r₂ r T₃ → DeclPost methodList n i T r T₃
+    pub methods-more : {x j : ℕ} {T₂ T₃ : List ℕ} {r₂ r : Answer} → r₁ ≡ At x j → DeclPost methodList n j T₁ r₂ T₂ → ListOf x T₂ r₂ r T₃ → DeclPost methodList n i T r T₃
     unfolding methodsFrom
     methods-more e q l =
         let w = within-ok e (p .within) in
@@ -336,7 +345,7 @@ module _ {n i k : ℕ} {T : List ℕ} (ek : k ≡ kindInTable T n i) where
         (then-bad few (of-declaration (16 * (n - i) + 3) (omega arith) p) i 2049 (λ f ts c j. bind (classesFrom f ts j) λ cs j. ok (c ∷ cs) j) e)
         (omega arith) (λ f ts h. rw (is-not h i ek z) refl)
 
-    pub classes-more : {x j : ℕ} {T₂ T₃ : List ℕ} {r₂ r : Answer} → r₁ ≡ At x j → DeclPost classList n j T₁ r₂ T₂ → Linked x T₂ r₂ r T₃ → DeclPost classList n i T r T₃
+    pub classes-more : {x j : ℕ} {T₂ T₃ : List ℕ} {r₂ r : Answer} → r₁ ≡ At x j → DeclPost classList n j T₁ r₂ T₂ → ListOf x T₂ r₂ r T₃ → DeclPost classList n i T r T₃
     unfolding classesFrom
     classes-more e q l =
         let w = within-ok e (p .within) in

@@ -1,6 +1,6 @@
 -- Pieces of the definition's parsers, put together as the code puts them together: a token after a piece, a node or a list made of one, and what goes on
 -- after one.
-use Prim.Native.Nat.{ℕ, zero, suc, _+_, _*_, _-_, _≤_, _<_}
+use Prim.Native.Nat.{ℕ, suc, _+_, _*_, _-_, _≤_, _<_}
 use mathlib.Core.Path.{_≡_, refl, sym, ap, _∙_, subst}
 use mathlib.Core.List.{List}
 use mathlib.Core.Logic.{_≢_}
@@ -13,14 +13,16 @@ use Rattle.base.specs.contracts.Table.{col, put}
 use Rattle.lexer.specs.Tokens.{Token}
 use Rattle.parser.specs.declared.answer.Answer.{Answer}
 use Rattle.parser.specs.declared.answer.Answer.the-variants.{At, Bad}
-use Rattle.parser.specs.Tree.{Sort, Sort.statements, Part}
+use Rattle.parser.specs.Tree.{Sort, Sort.arguments, Sort.statements, Part}
 use Rattle.parser.specs.Stream.{kindAt, startAt}
 use Rattle.parser.specs.Parse.{Parsed, ok, bad, out, bind, expect, Mode, statementList, step, parseAs}
 use Rattle.parser.specs.contracts.Layout.{absent, rowOf, node, given, store}
 use Rattle.parser.specs.contracts.Post.{kindInTable, TokensIn, Stored, part, Met, met-ok, met-bad, Within, ModePost, ListPost, fuel}
-use Rattle.parser.specs.contracts.Parts.{Follows, present, missing, nothing, RowFits, Written, done, refused, Linked, OnePart, TwoParts, PiecePost}
+use Rattle.parser.specs.contracts.Parts.{Follows, present, missing, nothing, RowFits, WholeOf, done, refused, ListOf, OnePart}
+use Rattle.parser.specs.contracts.Parts.{TwoParts, PiecePost}
 use Rattle.parser.specs.contracts.DeclarationPost.{Declaration, Of, itemFrom, declarationStored, rankOf, lowOf, topOf, DeclPost}
-use Rattle.parser.proofs.Laws.{there, tokens-kept, given-put, given-node, is, is-not, at-result, bind-ok, bind-bad, stepped, at-suc, within-ok, within-more}
+use Rattle.parser.proofs.Laws.{there, tokens-kept, given-put, given-node, is, is-not, at-result, bind-ok, bind-bad, stepped, at-suc}
+use Rattle.parser.proofs.Laws.{within-ok, within-more}
 
 -- AS THE CODE HAS THEM
 
@@ -37,10 +39,10 @@ module _ {T : List ℕ} {n q : ℕ} {a : Answer} where
 
 -- a whole of what was read
 module _ (row : ℕ) (write : ℕ → List ℕ) {T : List ℕ} {a : Answer} where
-  pub whole-done : {x j : ℕ} {T₁ : List ℕ} → a ≡ At x j → T₁ ≡ write x → Written row write T a (At row j) T₁
+  pub whole-done : {x j : ℕ} {T₁ : List ℕ} → a ≡ At x j → T₁ ≡ write x → WholeOf row write T a (At row j) T₁
   whole-done e eT = rw (e, eT) done
 
-  pub whole-refused : {k : ℕ} → a ≡ Bad k → Written row write T a (Bad k) T
+  pub whole-refused : {k : ℕ} → a ≡ Bad k → WholeOf row write T a (Bad k) T
   whole-refused e = rw e refused
 
 pub fits-at : {a : Answer} {x j : ℕ} → a ≡ At x j → RowFits a → x ≤ 2048
@@ -99,18 +101,18 @@ follows-fits nothing f = f
 
 -- a whole is as its part is
 module _ {row : ℕ} {write : ℕ → List ℕ} {T₁ : List ℕ} where
-  pub whole-kept : ((x : ℕ) → given (write x) ≡ given T₁) → {r r′ : Answer} {T₂ : List ℕ} → Written row write T₁ r r′ T₂ → given T₂ ≡ given T₁
+  pub whole-kept : ((x : ℕ) → given (write x) ≡ given T₁) → {r r′ : Answer} {T₂ : List ℕ} → WholeOf row write T₁ r r′ T₂ → given T₂ ≡ given T₁
   whole-kept same (done {x = x}) = same x
   whole-kept same refused = refl
 
-  pub whole-within : (low low′ n top top′ : ℕ) → low′ ≤ low → row < top′ → {r r′ : Answer} {T₂ : List ℕ} → Written row write T₁ r r′ T₂ → Within low n top r
+  pub whole-within : (low low′ n top top′ : ℕ) → low′ ≤ low → row < top′ → {r r′ : Answer} {T₂ : List ℕ} → WholeOf row write T₁ r r′ T₂ → Within low n top r
       → Within low′ n top′ r′
   whole-within low low′ n top top′ le less done w = (omega (arith, w), w .1, less)
   whole-within low low′ n top top′ le less refused w = tt
 
   pub whole-met : {A B : Type 0} {S : Stored A} {S′ : Stored B} {T base : List ℕ} (make : A → B)
       → ((a : A) → T₁ ≡ S .write a T → (row ≡ S′ .row (make a)) × (write (S .row a) ≡ S′ .write (make a) base))
-      → {r r′ : Answer} {T₂ : List ℕ} {res : Parsed A} → Written row write T₁ r r′ T₂ → Met S T T₁ r res → Met S′ base T₂ r′ (bind res λ a j. ok (make a) j)
+      → {r r′ : Answer} {T₂ : List ℕ} {res : Parsed A} → WholeOf row write T₁ r r′ T₂ → Met S T T₁ r res → Met S′ base T₂ r′ (bind res λ a j. ok (make a) j)
   whole-met make is-made done (met-ok {a = a} ea ta) = let m = is-made a ta in met-ok (m .0) (ap write ea ∙ m .1)
   whole-met make is-made refused met-bad = met-bad
 
@@ -151,7 +153,7 @@ module _ {A : Type 0} {S : Stored A} {P : ℕ → List Token → Parsed A} {enou
   pub then-list : {B : Type 0} {L : Stored B} (cons : A → B → B)
       → ((a : A) (b : B) (t : List ℕ) → (S .row a ≡ L .row (cons a b)) × (put (L .write b (S .write a t)) 6 (S .row a) (L .row b) ≡ L .write (cons a b) t))
       → {x j low₂ : ℕ} {r₂ r′ : Answer} {T₂ T₃ : List ℕ} (R : ℕ → List Token → ℕ → Parsed B) → top ≤ 2049 → low ≤ low₂ → r ≡ At x j
-      → PiecePost L (λ f ts. R f ts j) enough low₂ n 2049 T₁ r₂ T₂ → Linked x T₂ r₂ r′ T₃
+      → PiecePost L (λ f ts. R f ts j) enough low₂ n 2049 T₁ r₂ T₂ → ListOf x T₂ r₂ r′ T₃
       → PiecePost L (λ f ts. bind (P f ts) λ a j. bind (R f ts j) λ b j. ok (cons a b) j) enough low n 2049 T r′ T₃
   then-list {L = L} cons is-cons {x} {j} {low₂} {r₂} {r′} {T₂} {T₃} R high le e q s =
       let w = within-ok e (p .within) in
@@ -180,7 +182,7 @@ module _ {A : Type 0} {S : Stored A} {P : ℕ → List Token → Parsed A} {enou
         then-on (λ f ts. member ts cons nil (R f ts)) e refl tt (λ ts h f en a ea ta. rw (is-not h j ek z, is-not h j ek z′) met-bad)
 
     pub more-members : {low₂ : ℕ} {r₂ r′ : Answer} {T₂ T₃ : List ℕ} → k ≡ 32 → low ≤ low₂ → PiecePost L (λ f ts. R f ts (j + 1)) enough low₂ n 2049 T₁ r₂ T₂
-        → Linked x T₂ r₂ r′ T₃ → PiecePost L (λ f ts. bind (P f ts) (member ts cons nil (R f ts))) enough low n 2049 T r′ T₃
+        → ListOf x T₂ r₂ r′ T₃ → PiecePost L (λ f ts. bind (P f ts) (member ts cons nil (R f ts))) enough low n 2049 T r′ T₃
     more-members {low₂} {T₂ = T₂} z le q s =
         let w = within-ok e (p .within) in
         then-on (λ f ts. member ts cons nil (R f ts)) e
@@ -251,6 +253,9 @@ module _ {n i : ℕ} {T T₁ : List ℕ} {r : Answer} where
 -- the row of what was read, or none
 pub mode-fits : {s : Sort} {m : Mode s} {n i : ℕ} {T T₁ : List ℕ} {r : Answer} → n ≤ 2048 → ModePost m n n i T r T₁ → RowFits r
 mode-fits {n = n} {i} {r = r} few p = row-fits (i + 1) n n r (p .within) (omega arith)
+
+pub arguments-fit : {m : Mode arguments} {n i : ℕ} {T T₁ : List ℕ} {r : Answer} → ModePost m n 2049 i T r T₁ → RowFits r
+arguments-fit {n = n} {i} {r = r} p = row-fits (i + 1) n 2049 r (p .within) (omega arith)
 
 pub list-fits : {n i : ℕ} {T T₁ : List ℕ} {r : Answer} → ListPost n i T r T₁ → RowFits r
 list-fits {n} {i} {r = r} p = row-fits i n 2049 r (p .within) (omega arith)

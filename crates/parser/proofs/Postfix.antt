@@ -14,12 +14,19 @@ use Rattle.lexer.specs.Tokens.{Token, decimal}
 use Rattle.parser.specs.declared.answer.Answer.{Answer}
 use Rattle.parser.specs.declared.answer.Answer.the-variants.{At, Bad}
 use Rattle.parser.specs.Tree.{Place, Name, Sort, Sort.arguments, Part, Expression}
-use Rattle.parser.specs.Tree.{Part.literal, Part.truth, Part.variable, Part.this, Part.newArray, Part.newObject, Part.element, Part.arrayLength, Part.call, Part.noArguments, Part.argument}
+use Rattle.parser.specs.Tree.{Part.literal, Part.truth, Part.variable, Part.this, Part.newArray, Part.newObject, Part.element}
+use Rattle.parser.specs.Tree.{Part.arrayLength, Part.call, Part.noArguments, Part.argument}
 use Rattle.parser.specs.Stream.{tokenAt, kindAt, startAt, placeAt, nameAt}
-use Rattle.parser.specs.Parse.{Parsed, ok, Mode, operation, postfix, primary, suffixes, argumentList, someArguments, step, parseAs}
+use Rattle.parser.specs.Parse.{Parsed, ok, bind, anExpression, Mode, operation, postfix, primary, suffixes, argumentList}
+use Rattle.parser.specs.Parse.{someArguments, step, parseAs}
 use Rattle.parser.specs.contracts.Layout.{absent, rowOf, node, given, store}
-use Rattle.parser.specs.contracts.Post.{kindInTable, TokensIn, met-ok, met-bad, ModePost, RestPost, moreSuffixes, levelAt, isAtom, startsArray, fuel}
-use Rattle.parser.proofs.Laws.{plus-two, plus-three, plus-four, there, there-by, tokens-kept, given-put, given-node, kind-of, is, is-not, passes, at-result, bind-ok, bind-bad, stepped, within-ok, within-more}
+use Rattle.parser.specs.contracts.Post.{kindInTable, TokensIn, met-ok, met-bad, ModePost, RestPost, moreSuffixes, levelAt, isAtom}
+use Rattle.parser.specs.contracts.Post.{startsArray, fuel}
+use Rattle.parser.specs.contracts.Parts.{Follows, ListOf}
+use Rattle.parser.proofs.Pieces.{andToken, regroup, member, then-token, then-bad, then-on, last-member, no-member, more-members}
+use Rattle.parser.proofs.Pieces.{of-mode, as-mode}
+use Rattle.parser.proofs.Laws.{plus-two, plus-three, plus-four, there, there-by, tokens-kept, given-node, kind-of, is, is-not}
+use Rattle.parser.proofs.Laws.{passes, at-result, bind-ok, bind-bad, stepped, within-ok, within-more}
 use Rattle.parser.proofs.Expressions.{made}
 
 -- a conjunction of tests
@@ -56,47 +63,36 @@ module _ (T : List ℕ) (n i : ℕ) (pre : startsArray T n i ≡ true) where
   unfolding startsArray
   array-tests h = rw (← h .kinds i, ← h .kinds (i + 1)) pre
 
-  pub array-ok : {k x j k′ : ℕ} {T₁ T₂ T₃ : List ℕ} {r₁ r : Answer} → n ≤ 2048 → k ≡ kindInTable T n (i + 2) → k ≡ 36
-      → ModePost (operation (levelAt 0)) n n (i + 3) T r₁ T₁ → r₁ ≡ At x j → k′ ≡ kindInTable T₁ n j → k′ ≡ 37 → T₂ ≡ node T₁ i (col T₁ 1 i) x 2048
-      → RestPost (moreSuffixes false i) n i (j + 1) T₂ r T₃ → ModePost postfix n n i T r T₃
-  unfolding step levelAt
-  array-ok {k} {x} {j} {k′} {T₁} {T₂} {T₃} {r₁} {r} few ek z p e ek′ z′ eT q =
-      let il = there T n (i + 2) k 36 ek z (omega arith) in
-      let jl = there T₁ n j k′ 37 ek′ z′ (omega arith) in
-      let w = within-ok e (p .within) in
-      let same : given T₂ ≡ given T = ap given eT ∙ given-node T₁ i (col T₁ 1 i) x 2048 ∙ p .kept in
-      record {
-        kept = q .kept ∙ same;
-        within = within-more (j + 1) (i + 1) n n n r (omega arith) (omega arith) (q .within);
-        says = λ ts h. stepped postfix ts i (fuel postfix n i) (λ f enough. rw (array-tests h, is h (i + 2) ek z, plus-three i)
-            (bind-ok _ e (p .says ts h f (omega arith)) (λ a ea ta. rw (is (tokens-kept few (p .kept) h) j ek′ z′)
-            (q .says (newArray (placeAt ts i i) a) T refl
-            (made T₂ i i x 2048 (tokens-kept few (p .kept) h) (omega arith) eT ∙ cc (is-new-array (placeAt ts i i) a T))
-            ts (tokens-kept few same h) f (omega arith)))));
-      }
+  -- what follows the length
+  abbrev sized : ℕ → List Token → Expression → ℕ → Parsed Expression
+  sized f ts a j = parseAs f ts (suffixes false i (newArray (placeAt ts i i) a)) j
 
-  pub array-close : {k x j k′ : ℕ} {T₁ : List ℕ} {r₁ : Answer} → n ≤ 2048 → k ≡ kindInTable T n (i + 2) → k ≡ 36
-      → ModePost (operation (levelAt 0)) n n (i + 3) T r₁ T₁ → r₁ ≡ At x j → k′ ≡ kindInTable T₁ n j → k′ ≢ 37 → ModePost postfix n n i T (Bad j) T₁
-  unfolding step levelAt
-  array-close {k} {x} {j} {k′} {T₁} {r₁} few ek z p e ek′ z′ =
-      let il = there T n (i + 2) k 36 ek z (omega arith) in
-      record {
-        kept = p .kept;
-        within = tt;
-        says = λ ts h. stepped postfix ts i (fuel postfix n i) (λ f enough. rw (array-tests h, is h (i + 2) ek z, plus-three i)
-            (bind-ok _ e (p .says ts h f (omega arith)) (λ a ea ta. rw (is-not (tokens-kept few (p .kept) h) j ek′ z′) met-bad)));
-      }
+  array-steps : {k : ℕ} → k ≡ kindInTable T n (i + 2) → k ≡ 36 → (f : ℕ) (ts : List Token) → TokensIn T n ts
+      → step ts (λ s m j. parseAs f ts m j) postfix i ≡ bind (andToken ts 37 (parseAs f ts anExpression (i + 3))) (sized f ts)
+  unfolding step
+  array-steps ek z f ts h = rw (array-tests h, is h (i + 2) ek z, plus-three i) (regroup ts 37 (sized f ts) (parseAs f ts anExpression (i + 3)))
 
-  pub array-bad : {k z : ℕ} {T₁ : List ℕ} {r₁ : Answer} → k ≡ kindInTable T n (i + 2) → k ≡ 36
-      → ModePost (operation (levelAt 0)) n n (i + 3) T r₁ T₁ → r₁ ≡ Bad z → ModePost postfix n n i T (Bad z) T₁
-  unfolding step levelAt
-  array-bad {k} {z} {T₁} {r₁} ek q p e =
-      let il = there T n (i + 2) k 36 ek q (omega arith) in
-      record {
-        kept = p .kept;
-        within = tt;
-        says = λ ts h. stepped postfix ts i (fuel postfix n i) (λ f enough. rw (array-tests h, is h (i + 2) ek q, plus-three i) (bind-bad _ e (p .says ts h f (omega arith))));
-      }
+  module _ {k : ℕ} {T₁ : List ℕ} {r₁ r₂ : Answer} (few : n ≤ 2048) (ek : k ≡ kindInTable T n (i + 2)) (z : k ≡ 36)
+      (p : ModePost (operation (levelAt 0)) n n (i + 3) T r₁ T₁) (s : Follows T₁ n 37 r₁ r₂) where
+    pub array-bad : {y : ℕ} → r₂ ≡ Bad y → ModePost postfix n n i T (Bad y) T₁
+    unfolding levelAt
+    array-bad e =
+        let il = there T n (i + 2) k 36 ek z (omega arith) in
+        as-mode (omega arith) (omega arith) (array-steps ek z)
+        (then-bad few (then-token few (of-mode (16 * (n - i)) (omega arith) p) (omega arith) s) (i + 1) n sized e)
+
+    pub array-ok : {x j : ℕ} {T₂ T₃ : List ℕ} {r : Answer} → r₂ ≡ At x j → T₂ ≡ node T₁ i (col T₁ 1 i) x 2048
+        → RestPost (moreSuffixes false i) n i j T₂ r T₃ → ModePost postfix n n i T r T₃
+    unfolding levelAt
+    array-ok {x} {j} {T₂} {r = r} e eT q =
+        let il = there T n (i + 2) k 36 ek z (omega arith) in
+        let o = then-token few (of-mode (16 * (n - i)) (omega arith) p) (omega arith) s in
+        let w = within-ok e (o .within) in
+        let same : given T₂ ≡ given T₁ = ap given eT ∙ given-node T₁ i (col T₁ 1 i) x 2048 in
+        as-mode (omega arith) (omega arith) (array-steps ek z)
+        (then-on few o sized e (q .kept ∙ same) (within-more j (i + 1) n n n r (omega arith) (omega arith) (q .within))
+        (λ ts h f en a ea ta. q .says (newArray (placeAt ts i i) a) T refl
+        (made T₂ i i x 2048 h (omega arith) eT ∙ cc (is-new-array (placeAt ts i i) a T)) ts (tokens-kept few same h) f (omega arith)))
 
   pub array-open : {k : ℕ} → k ≡ kindInTable T n (i + 2) → k ≢ 36 → ModePost postfix n n i T (Bad (i + 2)) T
   unfolding step
@@ -159,48 +155,38 @@ module _ {n first left i : ℕ} {T : List ℕ} where
       }
 
   -- `[e]`
-  pub element-ok : {x j k : ℕ} {T₁ T₂ T₃ : List ℕ} {r₁ r : Answer} → n ≤ 2048 → first < n → kindInTable T n i ≡ 36
-      → ModePost (operation (levelAt 0)) n n (i + 1) T r₁ T₁ → r₁ ≡ At x j → k ≡ kindInTable T₁ n j → k ≡ 37 → T₂ ≡ node T₁ i (col T₁ 1 first) left x
-      → RestPost (moreSuffixes true first) n i (j + 1) T₂ r T₃ → RestPost (moreSuffixes true first) n left i T r T₃
-  unfolding step levelAt
-  element-ok {x} {j} {k} {T₁} {T₂} {T₃} {r₁} {r} few lt z p e ek z′ eT q =
-      let il = there T n i _ 36 refl z (omega arith) in
-      let jl = there T₁ n j k 37 ek z′ (omega arith) in
-      let w = within-ok e (p .within) in
-      let same : given T₂ ≡ given T = ap given eT ∙ given-node T₁ i (col T₁ 1 first) left x ∙ p .kept in
-      record {
-        kept = q .kept ∙ same;
-        within = within-more (j + 1) i n n n r (omega arith) (omega arith) (q .within);
-        says = λ l base el et ts h. stepped (suffixes true first l) ts i (16 * (n - i)) (λ f enough. rw (is h i refl z)
-            (bind-ok _ e (p .says ts h f (omega arith)) (λ a ea ta. rw (is (tokens-kept few (p .kept) h) j ek z′)
-            (q .says (element (placeAt ts first i) l a) base refl
-            (made T₂ i first left x (tokens-kept few (p .kept) h) lt eT ∙ cc (is-element (placeAt ts first i) l a base))
-            ts (tokens-kept few same h) f (omega arith)))));
-      }
+  module _ {T₁ : List ℕ} {r₁ r₂ : Answer} (few : n ≤ 2048) (z : kindInTable T n i ≡ 36) (p : ModePost (operation (levelAt 0)) n n (i + 1) T r₁ T₁)
+      (s : Follows T₁ n 37 r₁ r₂) where
+    pub element-bad : {y : ℕ} → r₂ ≡ Bad y → RestPost (moreSuffixes true first) n left i T (Bad y) T₁
+    unfolding step levelAt
+    element-bad e =
+        let il = there T n i _ 36 refl z (omega arith) in
+        let o = then-token few (of-mode (16 * (n - (i + 1)) + 15) (omega arith) p) (omega arith) s in
+        record {
+          kept = p .kept;
+          within = tt;
+          says = λ l base el et ts h. stepped (suffixes true first l) ts i (16 * (n - i)) (λ f enough. rw (is h i refl z)
+              (at-result (regroup ts 37 (λ a j. parseAs f ts (suffixes true first (element (placeAt ts first i) l a)) j) (parseAs f ts anExpression (i + 1)))
+              (bind-bad _ e (o .says ts h f (omega arith)))));
+        }
 
-  pub element-close : {x j k : ℕ} {T₁ : List ℕ} {r₁ : Answer} → n ≤ 2048 → kindInTable T n i ≡ 36
-      → ModePost (operation (levelAt 0)) n n (i + 1) T r₁ T₁ → r₁ ≡ At x j → k ≡ kindInTable T₁ n j → k ≢ 37
-      → RestPost (moreSuffixes true first) n left i T (Bad j) T₁
-  unfolding step levelAt
-  element-close {x} {j} {k} {T₁} {r₁} few z p e ek z′ =
-      let il = there T n i _ 36 refl z (omega arith) in
-      record {
-        kept = p .kept;
-        within = tt;
-        says = λ l base el et ts h. stepped (suffixes true first l) ts i (16 * (n - i)) (λ f enough. rw (is h i refl z)
-            (bind-ok _ e (p .says ts h f (omega arith)) (λ a ea ta. rw (is-not (tokens-kept few (p .kept) h) j ek z′) met-bad)));
-      }
-
-  pub element-bad : {k : ℕ} {T₁ : List ℕ} {r₁ : Answer} → kindInTable T n i ≡ 36 → ModePost (operation (levelAt 0)) n n (i + 1) T r₁ T₁ → r₁ ≡ Bad k
-      → RestPost (moreSuffixes true first) n left i T (Bad k) T₁
-  unfolding step levelAt
-  element-bad {k} {T₁} {r₁} z p e =
-      let il = there T n i _ 36 refl z (omega arith) in
-      record {
-        kept = p .kept;
-        within = tt;
-        says = λ l base el et ts h. stepped (suffixes true first l) ts i (16 * (n - i)) (λ f enough. rw (is h i refl z) (bind-bad _ e (p .says ts h f (omega arith))));
-      }
+    pub element-ok : {x j : ℕ} {T₂ T₃ : List ℕ} {r : Answer} → first < n → r₂ ≡ At x j → T₂ ≡ node T₁ i (col T₁ 1 first) left x
+        → RestPost (moreSuffixes true first) n i j T₂ r T₃ → RestPost (moreSuffixes true first) n left i T r T₃
+    unfolding step levelAt
+    element-ok {x} {j} {T₂} {r = r} lt e eT q =
+        let il = there T n i _ 36 refl z (omega arith) in
+        let o = then-token few (of-mode (16 * (n - (i + 1)) + 15) (omega arith) p) (omega arith) s in
+        let w = within-ok e (o .within) in
+        let same : given T₂ ≡ given T = ap given eT ∙ given-node T₁ i (col T₁ 1 first) left x ∙ p .kept in
+        record {
+          kept = q .kept ∙ same;
+          within = within-more j i n n n r (omega arith) (omega arith) (q .within);
+          says = λ l base el et ts h. stepped (suffixes true first l) ts i (16 * (n - i)) (λ f enough. rw (is h i refl z)
+              (at-result (regroup ts 37 (λ a j. parseAs f ts (suffixes true first (element (placeAt ts first i) l a)) j) (parseAs f ts anExpression (i + 1)))
+              (bind-ok _ e (o .says ts h f (omega arith)) (λ a ea ta. q .says (element (placeAt ts first i) l a) base refl
+              (made T₂ i first left x (tokens-kept few (p .kept) h) lt eT ∙ cc (is-element (placeAt ts first i) l a base))
+              ts (tokens-kept few same h) f (omega arith)))));
+        }
 
   -- `.m(e, ..)`
   module _ {b : Bool} (z : kindInTable T n i ≡ 31) (z₁ : kindInTable T n (i + 1) ≡ 12 → ⊥) where
@@ -393,51 +379,23 @@ module _ {n i : ℕ} {T : List ℕ} where
         }
 
   -- `(e)`
-  module _ (z : kindInTable T n i ≡ 34) where
-    pub parentheses-ok : {x j k : ℕ} {T₁ : List ℕ} {r₁ : Answer} → n ≤ 2048 → ModePost (operation (levelAt 0)) n n (i + 1) T r₁ T₁ → r₁ ≡ At x j
-        → k ≡ kindInTable T₁ n j → k ≡ 35 → ModePost primary n n i T (At x (j + 1)) T₁
-    unfolding step levelAt isName
-    parentheses-ok {x} {j} {k} {T₁} {r₁} few p e ek z′ =
-        let il = there T n i _ 34 refl z (omega arith) in
-        let jl = there T₁ n j k 35 ek z′ (omega arith) in
-        let w = within-ok e (p .within) in
-        record {
-          kept = p .kept;
-          within = (omega arith, omega arith, w .2);
-          says = λ ts h. stepped primary ts i (fuel primary n i) (λ f enough. rw (is h i refl z)
-              (bind-ok _ e (p .says ts h f (omega arith)) (λ a ea ta. rw (is (tokens-kept few (p .kept) h) j ek z′) (met-ok ea ta))));
-        }
-
-    pub parentheses-close : {x j k : ℕ} {T₁ : List ℕ} {r₁ : Answer} → n ≤ 2048 → ModePost (operation (levelAt 0)) n n (i + 1) T r₁ T₁ → r₁ ≡ At x j
-        → k ≡ kindInTable T₁ n j → k ≢ 35 → ModePost primary n n i T (Bad j) T₁
-    unfolding step levelAt isName
-    parentheses-close {x} {j} {k} {T₁} {r₁} few p e ek z′ =
-        let il = there T n i _ 34 refl z (omega arith) in
-        record {
-          kept = p .kept;
-          within = tt;
-          says = λ ts h. stepped primary ts i (fuel primary n i) (λ f enough. rw (is h i refl z)
-              (bind-ok _ e (p .says ts h f (omega arith)) (λ a ea ta. rw (is-not (tokens-kept few (p .kept) h) j ek z′) met-bad)));
-        }
-
-    pub parentheses-bad : {k : ℕ} {T₁ : List ℕ} {r₁ : Answer} → ModePost (operation (levelAt 0)) n n (i + 1) T r₁ T₁ → r₁ ≡ Bad k → ModePost primary n n i T (Bad k) T₁
-    unfolding step levelAt isName
-    parentheses-bad p e =
-        let il = there T n i _ 34 refl z (omega arith) in
-        record {
-          kept = p .kept;
-          within = tt;
-          says = λ ts h. stepped primary ts i (fuel primary n i) (λ f enough. rw (is h i refl z) (bind-bad _ e (p .says ts h f (omega arith))));
-        }
+  pub parentheses-is : {T₁ : List ℕ} {r₁ r : Answer} → n ≤ 2048 → kindInTable T n i ≡ 34 → ModePost (operation (levelAt 0)) n n (i + 1) T r₁ T₁ → Follows T₁ n 35 r₁ r
+      → ModePost primary n n i T r T₁
+  unfolding step levelAt isName
+  parentheses-is few z p s =
+      let il = there T n i _ 34 refl z (omega arith) in
+      as-mode (omega arith) (omega arith) (λ f ts h. rw (is h i refl z) refl)
+      (then-token few (of-mode (16 * (n - (i + 1)) + 15) (omega arith) p) (omega arith) s)
 
 -- ARGUMENTS
-is-argument : (e : Expression) (es : Part arguments) (t : List ℕ) → store (argument e es) t ≡ put (store es (store e t)) 6 (rowOf e) (rowOf es)
+is-argument : (e : Expression) (es : Part arguments) (t : List ℕ)
+    → (rowOf e ≡ rowOf (argument e es)) × (put (store es (store e t)) 6 (rowOf e) (rowOf es) ≡ store (argument e es) t)
 unfolding store
-is-argument e es t = refl
+is-argument e es t = (refl, refl)
 
-is-no-argument : (t : List ℕ) → store noArguments t ≡ t
+is-no-argument : (t : List ℕ) → (rowOf noArguments ≡ 2048) × (store noArguments t ≡ t)
 unfolding store
-is-no-argument t = refl
+is-no-argument t = (refl, refl)
 
 module _ {n i k : ℕ} {T : List ℕ} (ek : k ≡ kindInTable T n i) where
   pub arguments-none : k ≡ 35 → ModePost argumentList n 2049 i T (At 2048 (i + 1)) T
@@ -447,7 +405,7 @@ module _ {n i k : ℕ} {T : List ℕ} (ek : k ≡ kindInTable T n i) where
       record {
         kept = refl;
         within = (omega arith, omega arith, omega arith);
-        says = λ ts h. stepped argumentList ts i (fuel argumentList n i) (λ f enough. rw (is h i ek z) (met-ok refl (sym (is-no-argument T))));
+        says = λ ts h. stepped argumentList ts i (fuel argumentList n i) (λ f enough. rw (is h i ek z) (met-ok refl (sym (is-no-argument T .1))));
       }
 
   pub arguments-some : {T₁ : List ℕ} {r : Answer} → k ≢ 35 → ModePost someArguments n 2049 i T r T₁ → ModePost argumentList n 2049 i T r T₁
@@ -459,62 +417,40 @@ module _ {n i k : ℕ} {T : List ℕ} (ek : k ≡ kindInTable T n i) where
         says = λ ts h. stepped argumentList ts i (fuel argumentList n i) (λ f enough. rw (is-not h i ek z) (p .says ts h f (omega arith)));
       }
 
-module _ {n i : ℕ} {T T₁ : List ℕ} {r₁ : Answer} (p : ModePost (operation (levelAt 0)) n n i T r₁ T₁) where
-  pub argument-bad : {y : ℕ} → r₁ ≡ Bad y → ModePost someArguments n 2049 i T (Bad y) T₁
-  unfolding step levelAt
-  argument-bad e =
-      record {
-        kept = p .kept;
-        within = tt;
-        says = λ ts h. stepped someArguments ts i (fuel someArguments n i) (λ f enough. bind-bad _ e (p .says ts h f (omega arith)));
-      }
+module _ (i : ℕ) where
+  abbrev rest : ℕ → List Token → ℕ → Parsed (Part arguments)
+  rest f ts j = parseAs f ts someArguments j
 
-  module _ {x j k : ℕ} (e : r₁ ≡ At x j) (few : n ≤ 2048) (ek : k ≡ kindInTable T₁ n j) where
+  some-arguments : (f : ℕ) (ts : List Token)
+      → step ts (λ s m j. parseAs f ts m j) someArguments i ≡ bind (parseAs f ts anExpression i) (member ts argument noArguments (rest f ts))
+  unfolding step
+  some-arguments f ts = refl
+
+module _ {n i : ℕ} {T T₁ : List ℕ} {r₁ : Answer} (few : n ≤ 2048) (p : ModePost (operation (levelAt 0)) n n i T r₁ T₁) where
+  pub argument-bad : {y : ℕ} → r₁ ≡ Bad y → ModePost someArguments n 2049 i T (Bad y) T₁
+  unfolding levelAt
+  argument-bad e =
+      as-mode (omega arith) (omega arith) (λ f ts h. some-arguments i f ts)
+      (then-bad few (of-mode (16 * (n - i) + 6) (omega arith) p) (i + 1) 2049 (λ f ts. member ts argument noArguments (rest i f ts)) e)
+
+  module _ {x j k : ℕ} (e : r₁ ≡ At x j) (ek : k ≡ kindInTable T₁ n j) where
     pub argument-last : {T₂ : List ℕ} → k ≡ 35 → T₂ ≡ put T₁ 6 x 2048 → ModePost someArguments n 2049 i T (At x (j + 1)) T₂
-    unfolding step levelAt
-    argument-last {T₂} z eT =
-        let jl = there T₁ n j k 35 ek z (omega arith) in
-        let w = within-ok e (p .within) in
-        record {
-          kept = ap given eT ∙ given-put T₁ 6 x 2048 (omega arith) ∙ p .kept;
-          within = (omega arith, omega arith, omega arith);
-          says = λ ts h. stepped someArguments ts i (fuel someArguments n i) (λ f enough. bind-ok _ e (p .says ts h f (omega arith))
-              (λ a ea ta. rw (is (tokens-kept few (p .kept) h) j ek z) (met-ok {a = argument a noArguments} ea (cc (is-argument a noArguments T, is-no-argument (store a T))))));
-        }
+    unfolding levelAt
+    argument-last z eT =
+        as-mode (omega arith) (omega arith) (λ f ts h. some-arguments i f ts)
+        (last-member few (of-mode (16 * (n - i) + 6) (omega arith) p) argument noArguments is-argument is-no-argument (rest i) (omega arith) e ek z eT)
 
     pub argument-other : k ≢ 35 → k ≢ 32 → ModePost someArguments n 2049 i T (Bad j) T₁
-    unfolding step levelAt
+    unfolding levelAt
     argument-other z z′ =
-        record {
-          kept = p .kept;
-          within = tt;
-          says = λ ts h. stepped someArguments ts i (fuel someArguments n i) (λ f enough. bind-ok _ e (p .says ts h f (omega arith))
-              (λ a ea ta. rw (is-not (tokens-kept few (p .kept) h) j ek z, is-not (tokens-kept few (p .kept) h) j ek z′) met-bad));
-        }
+        as-mode (omega arith) (omega arith) (λ f ts h. some-arguments i f ts)
+        (no-member few (of-mode (16 * (n - i) + 6) (omega arith) p) argument noArguments is-argument is-no-argument (rest i) (omega arith) e ek z z′)
 
-    module _ {T₂ : List ℕ} {r₂ : Answer} (z : k ≡ 32) (q : ModePost someArguments n 2049 (j + 1) T₁ r₂ T₂) where
-      pub arguments-more : {y m : ℕ} {T₃ : List ℕ} → r₂ ≡ At y m → T₃ ≡ put T₂ 6 x y → ModePost someArguments n 2049 i T (At x m) T₃
-      unfolding step levelAt
-      arguments-more {y} {m} {T₃} e₂ eT =
-          let jl = there T₁ n j k 32 ek z (omega arith) in
-          let w = within-ok e (p .within) in
-          let w₂ = within-ok e₂ (q .within) in
-          record {
-            kept = ap given eT ∙ given-put T₂ 6 x y (omega arith) ∙ q .kept ∙ p .kept;
-            within = (omega arith, omega arith, omega arith);
-            says = λ ts h. stepped someArguments ts i (fuel someArguments n i) (λ f enough. bind-ok _ e (p .says ts h f (omega arith))
-                (λ a ea ta. rw (is (tokens-kept few (p .kept) h) j ek z) (bind-ok _ e₂ (q .says ts (tokens-kept few (p .kept) h) f (omega arith))
-                (λ b eb tb. met-ok {a = argument a b} ea (cc (is-argument a b T))))));
-          }
-
-      pub arguments-bad : {y : ℕ} → r₂ ≡ Bad y → ModePost someArguments n 2049 i T (Bad y) T₂
-      unfolding step levelAt
-      arguments-bad e₂ =
-          let jl = there T₁ n j k 32 ek z (omega arith) in
-          let w = within-ok e (p .within) in
-          record {
-            kept = q .kept ∙ p .kept;
-            within = tt;
-            says = λ ts h. stepped someArguments ts i (fuel someArguments n i) (λ f enough. bind-ok _ e (p .says ts h f (omega arith))
-                (λ a ea ta. rw (is (tokens-kept few (p .kept) h) j ek z) (bind-bad _ e₂ (q .says ts (tokens-kept few (p .kept) h) f (omega arith)))));
-          }
+    pub arguments-more : {T₂ T₃ : List ℕ} {r₂ r : Answer} → k ≡ 32 → ModePost someArguments n 2049 (j + 1) T₁ r₂ T₂ → ListOf x T₂ r₂ r T₃
+        → ModePost someArguments n 2049 i T r T₃
+    unfolding levelAt
+    arguments-more z q l =
+        let w = within-ok e (p .within) in
+        as-mode (omega arith) (omega arith) (λ f ts h. some-arguments i f ts)
+        (more-members few (of-mode (16 * (n - i) + 6) (omega arith) p) argument noArguments is-argument is-no-argument (rest i) (omega arith) e ek z (omega arith)
+        (of-mode (16 * (n - i) + 6) (omega arith) q) l)

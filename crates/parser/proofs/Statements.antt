@@ -13,15 +13,20 @@ use Rattle.lexer.specs.Kinds.{isName}
 use Rattle.lexer.specs.Tokens.{Token}
 use Rattle.parser.specs.declared.answer.Answer.{Answer}
 use Rattle.parser.specs.declared.answer.Answer.the-variants.{At, Bad}
-use Rattle.parser.specs.Tree.{Place, Sort, Sort.expression, Sort.statement, Sort.statements, Part, Expression, Statement}
-use Rattle.parser.specs.Tree.{Part.block, Part.conditional, Part.loop, Part.print, Part.assign, Part.assignElement, Part.noStatements, Part.sequence}
+use Rattle.parser.specs.Tree.{Place, Sort, Sort.expression, Sort.statement, Part, Expression, Statement}
+use Rattle.parser.specs.Tree.{Part.block, Part.conditional, Part.loop, Part.print, Part.assign, Part.assignElement, Part.sequence}
 use Rattle.parser.specs.Stream.{tokenAt, kindAt, placeAt}
-use Rattle.parser.specs.Parse.{Parsed, ok, bad, bind, expect, Mode, operation, aStatement, statementList, anExpression, beginsStatement, printHead, printEnd, elementEnd, expectAll, assignFrom, assignElementFrom, branchesFrom, repeatedFrom, step, parseAs}
-use Rattle.parser.specs.contracts.Layout.{absent, rowOf, node, given, store}
-use Rattle.parser.specs.contracts.Post.{kindInTable, TokensIn, part, Met, met-ok, met-bad, ModePost, ListPost, BranchesPost, levelAt, matchedIn, fuel}
-use Rattle.parser.specs.contracts.Parts.{Follows, Linked, OnePart, TwoParts, PiecePost, testFrom, TestPost}
-use Rattle.parser.proofs.Laws.{plus-two, there, tokens-kept, given-put, given-node, is, is-not, passes, at-result, bind-ok, bind-bad, stepped, within-ok, within-more}
-use Rattle.parser.proofs.Pieces.{andToken, regroup, regroup-two, bind-same, then-token, then-bad, then-on, then-list, then-node, then-second, of-mode, as-mode, of-list, as-list, as-piece}
+use Rattle.parser.specs.Parse.{Parsed, ok, bad, bind, expect, Mode, operation, aStatement, statementList, anExpression}
+use Rattle.parser.specs.Parse.{beginsStatement, printHead, printEnd, expectAll, assignFrom, assignElementFrom, branchesFrom}
+use Rattle.parser.specs.Parse.{repeatedFrom, step, parseAs}
+use Rattle.parser.specs.contracts.Layout.{rowOf, node, given, store}
+use Rattle.parser.specs.contracts.Post.{kindInTable, TokensIn, part, met-ok, met-bad, ModePost, ListPost, BranchesPost, levelAt}
+use Rattle.parser.specs.contracts.Post.{matchedIn, fuel}
+use Rattle.parser.specs.contracts.Parts.{Follows, ListOf, OnePart, TwoParts, PiecePost, testFrom, TestPost}
+use Rattle.parser.proofs.Laws.{plus-two, there, tokens-kept, given-put, given-node, is, is-not, passes, at-result, bind-ok, bind-bad}
+use Rattle.parser.proofs.Laws.{stepped, within-ok, within-more}
+use Rattle.parser.proofs.Pieces.{andToken, regroup, regroup-two, bind-same, then-token, then-bad, then-on, then-list, then-node}
+use Rattle.parser.proofs.Pieces.{then-second, of-mode, as-mode, of-list, as-list, as-piece}
 use Rattle.parser.proofs.Expressions.{made}
 use Rattle.parser.proofs.Postfix.{small-name}
 use Rattle.parser.proofs.Matched.{matched-there, all-matched, not-matched}
@@ -48,7 +53,7 @@ module _ {n i k : ℕ} {T : List ℕ} {b : Bool} (ek : k ≡ kindInTable T n i) 
         as-list (omega arith) (omega arith) (λ f ts h. rw (passes h beginsStatement i ek (sym eb ∙ t)) refl)
         (then-bad few (of-mode (16 * (n - i)) (omega arith) p) i 2049 (λ f ts a j. bind (parseAs f ts statementList j) λ c j. ok (sequence a c) j) e)
 
-    pub list-more : {x j : ℕ} {T₂ T₃ : List ℕ} {r₂ r : Answer} → r₁ ≡ At x j → ListPost n j T₁ r₂ T₂ → Linked x T₂ r₂ r T₃ → ListPost n i T r T₃
+    pub list-more : {x j : ℕ} {T₂ T₃ : List ℕ} {r₂ r : Answer} → r₁ ≡ At x j → ListPost n j T₁ r₂ T₂ → ListOf x T₂ r₂ r T₃ → ListPost n i T r T₃
     unfolding step store
     list-more {j = j} e q s =
         let w = within-ok e (p .within) in

@@ -17,10 +17,12 @@ use Rattle.parser.specs.Stream.{nameAt}
 use Rattle.parser.specs.Parse.{ok, bind, typeFrom, variableFrom, beginsVariable, variablesFrom, someParameters, parametersFrom}
 use Rattle.parser.specs.contracts.Layout.{given, rowVariables, storeVariable, storeVariables}
 use Rattle.parser.specs.contracts.Post.{kindInTable, TokensIn, met-ok, met-bad}
-use Rattle.parser.specs.contracts.DeclarationPost.{declarationStored, OpenedPost, aType, aVariable, variableList, parameterList, formals, DeclPost, startsVariable}
-use Rattle.parser.specs.contracts.Parts.{Follows, Linked, PiecePost}
-use Rattle.parser.proofs.Pieces.{andToken, regroup, member, then-token, then-bad, then-list, last-member, no-member, more-members, of-declaration, as-declarations, as-piece}
-use Rattle.parser.proofs.Laws.{there, tokens-kept, given-put, is, is-not, passes, bind-ok, bind-bad, at-suc, within-ok, plus-three}
+use Rattle.parser.specs.contracts.DeclarationPost.{declarationStored, OpenedPost, aType, aVariable, variableList, parameterList}
+use Rattle.parser.specs.contracts.DeclarationPost.{formals, DeclPost, startsVariable}
+use Rattle.parser.specs.contracts.Parts.{Follows, ListOf, PiecePost}
+use Rattle.parser.proofs.Pieces.{andToken, regroup, member, then-token, then-bad, then-list, last-member, no-member, more-members}
+use Rattle.parser.proofs.Pieces.{of-declaration, as-declarations, as-piece}
+use Rattle.parser.proofs.Laws.{there, given-put, is, is-not, passes, bind-ok, bind-bad, at-suc, within-ok, plus-three}
 use Rattle.parser.proofs.Postfix.{name-there}
 
 -- TYPES
@@ -163,7 +165,7 @@ module _ {n i : ℕ} {T : List ℕ} {c : Bool} where
         as-declarations (omega arith) (then-bad few (first-variable few p s) i 2049 (λ f ts v j. bind (variablesFrom f c ts j) λ vs j. ok (v ∷ vs) j) e)
         (omega arith) (more-variables T c n i (sym eb ∙ t))
 
-    pub variables-more : {x j : ℕ} {T₂ T₃ : List ℕ} {r₃ r : Answer} → r₂ ≡ At x j → DeclPost (variableList c) n j T₁ r₃ T₂ → Linked x T₂ r₃ r T₃
+    pub variables-more : {x j : ℕ} {T₂ T₃ : List ℕ} {r₃ r : Answer} → r₂ ≡ At x j → DeclPost (variableList c) n j T₁ r₃ T₂ → ListOf x T₂ r₃ r T₃
         → DeclPost (variableList c) n i T r T₃
     variables-more e q l =
         let w = within-ok e (first-variable few p s .within) in
@@ -205,7 +207,7 @@ module _ {n i : ℕ} {T T₁ : List ℕ} {r₁ : Answer} (few : n ≤ 2048) (p :
         (no-member few (of-declaration (16 * (n - i)) (omega arith) p) _∷_ [] is-more is-none (λ f ts j. someParameters f ts j) (omega arith) e ek z z′)
         (omega arith) (λ f ts h. some-parameters f ts i)
 
-    pub parameters-more : {T₂ T₃ : List ℕ} {r₂ r : Answer} → k ≡ 32 → DeclPost parameterList n (j + 1) T₁ r₂ T₂ → Linked x T₂ r₂ r T₃
+    pub parameters-more : {T₂ T₃ : List ℕ} {r₂ r : Answer} → k ≡ 32 → DeclPost parameterList n (j + 1) T₁ r₂ T₂ → ListOf x T₂ r₂ r T₃
         → DeclPost parameterList n i T r T₃
     parameters-more z q l =
         let w = within-ok e (p .within) in

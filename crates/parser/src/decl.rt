@@ -37,9 +37,11 @@ ghost use Prim.Native.Nat.{_+_, _<_, _≤_};
 ghost use lib.ListN.{length};
 ghost use Rattle.parser.specs.contracts.Layout.{methodRow, classRow};
 ghost use Rattle.parser.specs.contracts.Post.{Parsable, kindInTable};
-ghost use Rattle.parser.specs.contracts.DeclarationPost.{DeclPost, OpenedPost, LocalsPost, BodyPost, ReturnedPost, MembersPost, ClassMethodsPost, ProgramPost};
+ghost use Rattle.parser.specs.contracts.DeclarationPost.{DeclPost, OpenedPost, LocalsPost, BodyPost, ReturnedPost, MembersPost};
+ghost use Rattle.parser.specs.contracts.DeclarationPost.{ClassMethodsPost, ProgramPost};
 ghost use Rattle.parser.specs.contracts.DeclarationPost.{startsVariable, EndsThere};
-ghost use Rattle.parser.specs.contracts.DeclarationPost.{aType, aVariable, variableList, parameterList, formals, aMethod, methodList, aParent, aClass, classList};
+ghost use Rattle.parser.specs.contracts.DeclarationPost.{aType, aVariable, variableList, parameterList, formals, aMethod, methodList};
+ghost use Rattle.parser.specs.contracts.DeclarationPost.{aParent, aClass, classList};
 
 // A type; its row is that of its first token.
 fn type_use(table: &[u32], n: usize, i: usize) -> Answer

@@ -5,6 +5,9 @@ use crate::columns;
 use crate::kinds::is_atom;
 use crate::kinds::is_name;
 use crate::kinds::is_operator;
+use crate::parts::followed;
+use crate::parts::linked;
+use crate::parts::one_part;
 use crate::table::kind;
 use crate::table::link;
 use crate::table::node;
@@ -109,13 +112,7 @@ fn unary(table: &mut [u32], n: usize, i: usize) -> Answer
 {
     if kind(table, n, i) == NOT {
         let a = unary(table, n, i + 1);
-        match a {
-            Answer::At(row, next) => {
-                node(table, i, i, row, columns::ABSENT);
-                Answer::At(i, next)
-            }
-            Answer::Bad(at) => Answer::Bad(at),
-        }
+        one_part(table, i, a)
     } else {
         postfix(table, n, i)
     }
@@ -154,13 +151,11 @@ fn new_array(table: &mut [u32], n: usize, i: usize) -> Answer
 {
     if kind(table, n, i + 2) == OPEN_BRACKET {
         let a = operation(table, n, 0, i + 3);
-        match a {
+        let b = followed(table, n, a, CLOSE_BRACKET);
+        match b {
             Answer::At(row, next) => {
-                if kind(table, n, next) == CLOSE_BRACKET {
-                    node(table, i, i, row, columns::ABSENT);
-                    return suffixes(table, n, false, i, i, next + 1);
-                }
-                return Answer::Bad(next);
+                node(table, i, i, row, columns::ABSENT);
+                return suffixes(table, n, false, i, i, next);
             }
             Answer::Bad(at) => {
                 return Answer::Bad(at);
@@ -205,13 +200,11 @@ fn element(table: &mut [u32], n: usize, first: usize, left: usize, i: usize) -> 
     ensures { λ r. ⌜ RestPost (moreSuffixes true first) n left i (now (table .entry)) r (now (table .exit)) ⌝ }
 {
     let a = operation(table, n, 0, i + 1);
-    match a {
+    let b = followed(table, n, a, CLOSE_BRACKET);
+    match b {
         Answer::At(row, next) => {
-            if kind(table, n, next) == CLOSE_BRACKET {
-                node(table, i, first, left, row);
-                return suffixes(table, n, true, first, i, next + 1);
-            }
-            Answer::Bad(next)
+            node(table, i, first, left, row);
+            suffixes(table, n, true, first, i, next)
         }
         Answer::Bad(at) => Answer::Bad(at),
     }
@@ -283,15 +276,7 @@ fn parentheses(table: &mut [u32], n: usize, i: usize) -> Answer
     ensures { λ r. ⌜ ModePost Parse.primary n n i (now (table .entry)) r (now (table .exit)) ⌝ }
 {
     let a = operation(table, n, 0, i + 1);
-    match a {
-        Answer::At(row, next) => {
-            if kind(table, n, next) == CLOSE {
-                return Answer::At(row, next + 1);
-            }
-            Answer::Bad(next)
-        }
-        Answer::Bad(at) => Answer::Bad(at),
-    }
+    followed(table, n, a, CLOSE)
 }
 
 // The arguments of a call, with the `)` that ends them.
@@ -321,15 +306,7 @@ fn some_arguments(table: &mut [u32], n: usize, i: usize) -> Answer
             }
             if k == COMMA {
                 let b = some_arguments(table, n, next + 1);
-                match b {
-                    Answer::At(more, end) => {
-                        link(table, row, more);
-                        return Answer::At(row, end);
-                    }
-                    Answer::Bad(at) => {
-                        return Answer::Bad(at);
-                    }
-                }
+                return linked(table, row, b);
             }
             Answer::Bad(next)
         }

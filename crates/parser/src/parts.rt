@@ -6,7 +6,7 @@ use crate::table::link;
 use crate::table::node;
 ghost use Prim.Native.Nat.{_<_, _≤_};
 ghost use lib.ListN.{length};
-ghost use Rattle.parser.specs.contracts.Parts.{Follows, RowFits, Linked, OnePart, TwoParts};
+ghost use Rattle.parser.specs.contracts.Parts.{Follows, RowFits, ListOf, OnePart, TwoParts};
 
 // What was read, with a token of this kind after it.
 pub fn followed(table: &[u32], n: usize, a: Answer, wanted: u32) -> Answer
@@ -27,7 +27,7 @@ pub fn followed(table: &[u32], n: usize, a: Answer, wanted: u32) -> Answer
 // A list: its first member, which has this row, and the rest of it.
 pub fn linked(table: &mut [u32], row: usize, rest: Answer) -> Answer
     requires { ⌜ (16384 ≤ length (now table)) × (row < 2048) × RowFits rest ⌝ }
-    ensures { λ r. ⌜ Linked row (now (table .entry)) rest r (now (table .exit)) ⌝ }
+    ensures { λ r. ⌜ ListOf row (now (table .entry)) rest r (now (table .exit)) ⌝ }
 {
     match rest {
         Answer::At(more, end) => {

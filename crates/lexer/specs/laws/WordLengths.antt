@@ -9,7 +9,6 @@ use lib.ListN.{length}
 use lib.Dec.{eqb, leb}
 use borrow.Author.Tests.{eqb-false, leb-true}
 use Rattle.base.specs.Choice.{if_then_else_}
-use Rattle.base.specs.Bytes.{same}
 use Rattle.base.specs.laws.Tests.{and-true, same-unlike}
 use Rattle.lexer.specs.Kinds.{Word, words, kindIn, wordKind, kName}
 use Rattle.lexer.specs.contracts.Words.{ofLength}

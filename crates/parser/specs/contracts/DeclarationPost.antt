@@ -11,8 +11,11 @@ use Rattle.parser.specs.declared.answer.Answer.{Answer}
 use Rattle.parser.specs.declared.answer.Answer.the-variants.{At, Bad}
 use Rattle.parser.specs.Tree.{Name, Sort.statements, Part, TypeUse, Variable, Method, Class, Program}
 use Rattle.parser.specs.Stream.{nameAt}
-use Rattle.parser.specs.Parse.{Parsed, expect, typeFrom, variableFrom, variablesFrom, someParameters, parametersFrom, methodFrom, methodsFrom, parentFrom, classFrom, classesFrom, programFrom, localsFrom, bodyFrom, returnedFrom, membersFrom, classMethodsFrom}
-use Rattle.parser.specs.contracts.Layout.{given, rowOf, store, storeVariable, storeVariables, rowVariables, storeMethod, rowMethods, storeMethods, rowParent, storeClass, rowClasses, storeClasses, storeProgram}
+use Rattle.parser.specs.Parse.{Parsed, expect, typeFrom, variableFrom, variablesFrom, someParameters, parametersFrom, methodFrom}
+use Rattle.parser.specs.Parse.{methodsFrom, parentFrom, classFrom, classesFrom, programFrom, localsFrom, bodyFrom, returnedFrom}
+use Rattle.parser.specs.Parse.{membersFrom, classMethodsFrom}
+use Rattle.parser.specs.contracts.Layout.{given, rowOf, store, storeVariable, storeVariables, rowVariables, storeMethod, rowMethods}
+use Rattle.parser.specs.contracts.Layout.{storeMethods, rowParent, storeClass, rowClasses, storeClasses, storeProgram}
 use Rattle.parser.specs.contracts.Post.{kindInTable, TokensIn, Stored, Met, Within}
 use Rattle.parser.specs.contracts.Parts.{PiecePost}
 

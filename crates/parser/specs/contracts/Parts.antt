@@ -25,26 +25,26 @@ RowFits (At x j) = x ≤ absent
 RowFits (Bad k) = Unit {0}
 
 -- of what was read, a whole is made in this row; `write` is the table with it, by the row of what was read
-pub data Written (row : ℕ) (write : ℕ → List ℕ) (before : List ℕ) : Answer → Answer → List ℕ → Type 0 where
-  done : {x j : ℕ} → Written row write before (At x j) (At row j) (write x)
-  refused : {k : ℕ} → Written row write before (Bad k) (Bad k) before
+pub data WholeOf (row : ℕ) (write : ℕ → List ℕ) (before : List ℕ) : Answer → Answer → List ℕ → Type 0 where
+  done : {x j : ℕ} → WholeOf row write before (At x j) (At row j) (write x)
+  refused : {k : ℕ} → WholeOf row write before (Bad k) (Bad k) before
 
 -- the rest of a list after its first member
-abbrev pub Linked : (row : ℕ) (before : List ℕ) → Answer → Answer → List ℕ → Type 0
-Linked row before a r after = Written row (λ x. put before 6 row x) before a r after
+abbrev pub ListOf : (row : ℕ) (before : List ℕ) → Answer → Answer → List ℕ → Type 0
+ListOf row before a r after = WholeOf row (λ x. put before 6 row x) before a r after
 
 -- the part of a node that begins with its own token and has no other
 abbrev pub OnePart : (row : ℕ) (before : List ℕ) → Answer → Answer → List ℕ → Type 0
-OnePart row before a r after = Written row (λ x. node before row (col before 1 row) x absent) before a r after
+OnePart row before a r after = WholeOf row (λ x. node before row (col before 1 row) x absent) before a r after
 
 -- the second part of a node that begins with token `first`
 abbrev pub TwoParts : (row first left : ℕ) (before : List ℕ) → Answer → Answer → List ℕ → Type 0
-TwoParts row first left before a r after = Written row (λ x. node before row (col before 1 first) left x) before a r after
+TwoParts row first left before a r after = WholeOf row (λ x. node before row (col before 1 first) left x) before a r after
 
 -- what a parser ensures that reads a piece of which P is the definition, whatever the tokens are that the table holds and whatever fuel
 -- there is, if it is enough
-pub record PiecePost {A : Type 0} (S : Stored A) (P : ℕ → List Token → Parsed A) (enough low n top : ℕ) (before : List ℕ) (r : Answer) (after : List ℕ)
-    : Type 0 where
+pub record PiecePost {A : Type 0} (S : Stored A) (P : ℕ → List Token → Parsed A) (enough low n top : ℕ)
+    (before : List ℕ) (r : Answer) (after : List ℕ) : Type 0 where
   pub kept : given after ≡ given before
   pub within : Within low n top r
   pub says : (ts : List Token) → TokensIn before n ts → (f : ℕ) → enough < f → Met S before after r (P f ts)

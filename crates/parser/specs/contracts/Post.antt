@@ -11,9 +11,10 @@ use Rattle.lexer.specs.Kinds.{isName, kLiteral, kTrue, kFalse, kThis, kNew, kIn
 use Rattle.lexer.specs.Tokens.{Token}
 use Rattle.parser.specs.declared.answer.Answer.{Answer}
 use Rattle.parser.specs.declared.answer.Answer.the-variants.{At, Bad}
-use Rattle.parser.specs.Tree.{Sort, Sort.expression, Sort.statement, Sort.statements, Part, Expression, Statement}
+use Rattle.parser.specs.Tree.{Sort, Sort.expression, Sort.statement, Sort.statements, Part, Expression}
 use Rattle.parser.specs.Stream.{kindAt, startAt, Level, Level.conjunction, Level.comparison, Level.sum, Level.product, operatorOf}
-use Rattle.parser.specs.Parse.{Parsed, ok, bad, Mode, operation, operations, operand, unary, postfix, primary, suffixes, argumentList, someArguments, aStatement, statementList, accepts, parseAs, branchesFrom}
+use Rattle.parser.specs.Parse.{Parsed, ok, bad, Mode, operation, operations, operand, unary, postfix, primary, suffixes, argumentList}
+use Rattle.parser.specs.Parse.{someArguments, aStatement, statementList, accepts, parseAs, branchesFrom}
 use Rattle.parser.specs.contracts.Layout.{rowOf, store, given}
 
 -- THE TOKENS IN THE TABLE

@@ -1,7 +1,7 @@
 -- `classes` meets its contract. The measure is the number of tokens left. Each return is a law of `Methods`.
-use Prim.Native.Nat.{ℕ, _<_}
+use Prim.Native.Nat.{ℕ}
 use borrow.Fn.Kinds.{In}
-use borrow.Fn.PlainCycle.{Measures, is, falls, and}
+use borrow.Fn.PlainCycle.{Measures}
 use Rattle.parser.proofs.decl.classes.Reads as classes
 use Rattle.parser.proofs.decl.classes.Kinds as classes-kinds
 use Rattle.parser.proofs.decl.+classes.Lts-classes as classes-lts
@@ -10,7 +10,8 @@ use Rattle.parser.proofs.parts.linked.Reads as linked-reads
 use Rattle.parser.proofs.table.kind.Reads as kind-reads
 use Rattle.parser.proofs.decl.+classes.{statement}
 use Rattle.parser.proofs.decl.+classes.Tie.{close}
-use Prim.Native.Nat.{_+_, _*_, _-_}
+use Prim.Native.Nat.{_*_, _-_}
+use Rattle.parser.proofs.Cycles.{given, asked}
 use borrow.Author.Needs.{needs}
 use native.Mathlib.Omega.{arith}
 use Rattle.parser.proofs.Laws.{within-ok}
@@ -21,22 +22,10 @@ abbrev μ-classes : Measures 1 classes-kinds.ps ℕ
 μ-classes κs a = a .1 .0 - a .1 .1 .0
 
 abbrev classes-at : ℕ → In 1 classes-kinds.ps
-classes-at t = and 1 classes-kinds.ps (is 1 classes-kinds.ps μ-classes t) classes.Pre
-
-abbrev classes-below : ℕ → In 1 classes-kinds.ps
-classes-below t = and 1 classes-kinds.ps (falls 1 classes-kinds.ps _<_ μ-classes t) classes.Pre
+classes-at t = given classes-kinds.ps μ-classes classes.Pre t
 
 abbrev classes-calls : ℕ → classes-lts.Claims
-classes-calls t = (
-  kind-reads.Asked,
-  kind-reads.Learnt,
-  class-reads.Asked,
-  class-reads.Learnt,
-  classes-below t,
-  classes.Post,
-  linked-reads.Asked,
-  linked-reads.Learnt,
-)
+classes-calls t = (kind-reads.Asked, kind-reads.Learnt, class-reads.Asked, class-reads.Learnt, asked classes-kinds.ps μ-classes classes.Pre t, classes.Post, linked-reads.Asked, linked-reads.Learnt)
 
 module _ (t : ℕ) where
   classes-kind-requires : classes-lts.Need-kind-requires (classes-calls t) (classes-at t) classes.Post
@@ -56,23 +45,14 @@ module _ (t : ℕ) where
 
   classes-classes-requires : classes-lts.Need-classes-requires (classes-calls t) (classes-at t) classes.Post
   classes-classes-requires c κs =
-      omega (
-        arith,
-        within-ok (c .before .before .a .given .1)
-            (c .before .before .before .before .before .before .class .ensures .within),
-      )
+      let w = within-ok (c .before .before .a .given .1) (c .before .before .before .before .before .before .class .ensures .within) in
+      omega arith
 
   classes-linked-requires : classes-lts.Need-linked-requires (classes-calls t) (classes-at t) classes.Post
-  classes-linked-requires c κs = (
-    omega arith,
-    omega (
-      arith,
-      within-ok (c .before .before .before .before .before .before .a .given .1)
-          (c .before .before .before .before .before .before .before .before .before .before .class .ensures .within),
-    ),
-    declared-fits
-        (c .before .before .before .classes .ensures) (omega arith),
-  )
+  classes-linked-requires c κs =
+      let w = within-ok (c .before .before .before .before .before .before .a .given .1)
+      (c .before .before .before .before .before .before .before .before .before .before .class .ensures .within) in
+      (omega arith, omega arith, declared-fits (c .before .before .before .classes .ensures) (omega arith))
 
   classes-enum-known-a-2 : classes-lts.Need-enum-known-a-2 (classes-calls t) (classes-at t) classes.Post
   classes-enum-known-a-2 c = search needs
@@ -92,6 +72,4 @@ module _ (t : ℕ) where
 pub +classes-spec : {M : Type 1} → statement M
 +classes-spec =
     close μ-classes
-    (λ t. classes-lts.spec (classes-calls t) (classes-at t) classes.Post (classes-kind-requires t) (classes-same-length t)
-    (classes-returns t) (classes-class-requires t) (classes-enum-known-a t) (classes-classes-requires t) (classes-linked-requires t)
-    (classes-enum-known-a-2 t) (classes-same-length-2 t) (classes-returns-2 t) (classes-same-length-3 t) (classes-returns-3 t))
+    (λ t. classes-lts.spec (classes-calls t) (classes-at t) classes.Post (classes-kind-requires t) (classes-same-length t) (classes-returns t) (classes-class-requires t) (classes-enum-known-a t) (classes-classes-requires t) (classes-linked-requires t) (classes-enum-known-a-2 t) (classes-same-length-2 t) (classes-returns-2 t) (classes-same-length-3 t) (classes-returns-3 t))

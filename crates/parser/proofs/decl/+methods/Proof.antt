@@ -1,7 +1,7 @@
 -- `methods` meets its contract. The measure is the number of tokens left. Each return is a law of `Methods`.
-use Prim.Native.Nat.{ℕ, _<_}
+use Prim.Native.Nat.{ℕ}
 use borrow.Fn.Kinds.{In}
-use borrow.Fn.PlainCycle.{Measures, is, falls, and}
+use borrow.Fn.PlainCycle.{Measures}
 use Rattle.parser.proofs.decl.methods.Reads as methods
 use Rattle.parser.proofs.decl.methods.Kinds as methods-kinds
 use Rattle.parser.proofs.decl.+methods.Lts-methods as methods-lts
@@ -10,7 +10,8 @@ use Rattle.parser.proofs.parts.linked.Reads as linked-reads
 use Rattle.parser.proofs.table.kind.Reads as kind-reads
 use Rattle.parser.proofs.decl.+methods.{statement}
 use Rattle.parser.proofs.decl.+methods.Tie.{close}
-use Prim.Native.Nat.{_+_, _*_, _-_}
+use Prim.Native.Nat.{_*_, _-_}
+use Rattle.parser.proofs.Cycles.{given, asked}
 use borrow.Author.Needs.{needs}
 use native.Mathlib.Omega.{arith}
 use lib.Dec.{lit<}
@@ -22,22 +23,10 @@ abbrev μ-methods : Measures 1 methods-kinds.ps ℕ
 μ-methods κs a = a .1 .0 - a .1 .1 .0
 
 abbrev methods-at : ℕ → In 1 methods-kinds.ps
-methods-at t = and 1 methods-kinds.ps (is 1 methods-kinds.ps μ-methods t) methods.Pre
-
-abbrev methods-below : ℕ → In 1 methods-kinds.ps
-methods-below t = and 1 methods-kinds.ps (falls 1 methods-kinds.ps _<_ μ-methods t) methods.Pre
+methods-at t = given methods-kinds.ps μ-methods methods.Pre t
 
 abbrev methods-calls : ℕ → methods-lts.Claims
-methods-calls t = (
-  kind-reads.Asked,
-  kind-reads.Learnt,
-  method-reads.Asked,
-  method-reads.Learnt,
-  methods-below t,
-  methods.Post,
-  linked-reads.Asked,
-  linked-reads.Learnt,
-)
+methods-calls t = (kind-reads.Asked, kind-reads.Learnt, method-reads.Asked, method-reads.Learnt, asked methods-kinds.ps μ-methods methods.Pre t, methods.Post, linked-reads.Asked, linked-reads.Learnt)
 
 module _ (t : ℕ) where
   methods-kind-requires : methods-lts.Need-kind-requires (methods-calls t) (methods-at t) methods.Post
@@ -52,26 +41,17 @@ module _ (t : ℕ) where
   methods-methods-requires : methods-lts.Need-methods-requires (methods-calls t) (methods-at t) methods.Post
   methods-methods-requires c κs =
       let g = c .before .before .before .before .before .before .before .before .before .before .before .before in
-      omega (
-        arith,
-        within-ok (c .before .before .a .given .1)
-            (c .before .before .before .before .before .before .method .ensures .within),
-        there (g .args .table .now) (g .args .n)
-            (g .args .i) _ 15 (c .before .before .before .before .before .before .before .before .before .kind .ensures)
-            (c .before .before .before .before .before .before .before .before .if1 .taken) (lit< tt),
-      )
+      let w = within-ok (c .before .before .a .given .1) (c .before .before .before .before .before .before .method .ensures .within) in
+      let l = there (g .args .table .now) (g .args .n) (g .args .i) _ 15
+      (c .before .before .before .before .before .before .before .before .before .kind .ensures)
+      (c .before .before .before .before .before .before .before .before .if1 .taken) (lit< tt) in
+      omega arith
 
   methods-linked-requires : methods-lts.Need-linked-requires (methods-calls t) (methods-at t) methods.Post
-  methods-linked-requires c κs = (
-    omega arith,
-    omega (
-      arith,
-      within-ok (c .before .before .before .before .before .before .a .given .1)
-          (c .before .before .before .before .before .before .before .before .before .before .method .ensures .within),
-    ),
-    declared-fits
-        (c .before .before .before .methods .ensures) (omega arith),
-  )
+  methods-linked-requires c κs =
+      let w = within-ok (c .before .before .before .before .before .before .a .given .1)
+      (c .before .before .before .before .before .before .before .before .before .before .method .ensures .within) in
+      (omega arith, omega arith, declared-fits (c .before .before .before .methods .ensures) (omega arith))
 
   methods-same-length : methods-lts.Need-same-length (methods-calls t) (methods-at t) methods.Post
   methods-same-length c = search needs
@@ -97,6 +77,4 @@ module _ (t : ℕ) where
 pub +methods-spec : {M : Type 1} → statement M
 +methods-spec =
     close μ-methods
-    (λ t. methods-lts.spec (methods-calls t) (methods-at t) methods.Post (methods-kind-requires t) (methods-method-requires t)
-    (methods-enum-known-a t) (methods-methods-requires t) (methods-linked-requires t) (methods-same-length t) (methods-returns t)
-    (methods-enum-known-a-2 t) (methods-same-length-2 t) (methods-returns-2 t) (methods-same-length-3 t) (methods-returns-3 t))
+    (λ t. methods-lts.spec (methods-calls t) (methods-at t) methods.Post (methods-kind-requires t) (methods-method-requires t) (methods-enum-known-a t) (methods-methods-requires t) (methods-linked-requires t) (methods-same-length t) (methods-returns t) (methods-enum-known-a-2 t) (methods-same-length-2 t) (methods-returns-2 t) (methods-same-length-3 t) (methods-returns-3 t))

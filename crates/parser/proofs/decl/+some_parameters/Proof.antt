@@ -1,7 +1,7 @@
 -- `some_parameters` meets its contract. The measure is the number of tokens left. Each return is a law of `Variables`.
-use Prim.Native.Nat.{ℕ, _<_}
+use Prim.Native.Nat.{ℕ}
 use borrow.Fn.Kinds.{In}
-use borrow.Fn.PlainCycle.{Measures, is, falls, and}
+use borrow.Fn.PlainCycle.{Measures}
 use Rattle.parser.proofs.decl.some_parameters.Reads as some-parameters
 use Rattle.parser.proofs.decl.some_parameters.Kinds as some-parameters-kinds
 use Rattle.parser.proofs.decl.+some_parameters.Lts-some_parameters as some-parameters-lts
@@ -11,7 +11,8 @@ use Rattle.parser.proofs.table.kind.Reads as kind-reads
 use Rattle.parser.proofs.table.link.Reads as link-reads
 use Rattle.parser.proofs.decl.+some_parameters.{statement}
 use Rattle.parser.proofs.decl.+some_parameters.Tie.{close}
-use Prim.Native.Nat.{_+_, _*_, _-_}
+use Prim.Native.Nat.{_*_, _-_}
+use Rattle.parser.proofs.Cycles.{given, asked}
 use borrow.Author.Needs.{needs}
 use native.Mathlib.Omega.{arith}
 use lib.Dec.{lit<}
@@ -23,24 +24,10 @@ abbrev μ-some-parameters : Measures 1 some-parameters-kinds.ps ℕ
 μ-some-parameters κs a = a .1 .0 - a .1 .1 .0
 
 abbrev some-parameters-at : ℕ → In 1 some-parameters-kinds.ps
-some-parameters-at t = and 1 some-parameters-kinds.ps (is 1 some-parameters-kinds.ps μ-some-parameters t) some-parameters.Pre
-
-abbrev some-parameters-below : ℕ → In 1 some-parameters-kinds.ps
-some-parameters-below t = and 1 some-parameters-kinds.ps (falls 1 some-parameters-kinds.ps _<_ μ-some-parameters t) some-parameters.Pre
+some-parameters-at t = given some-parameters-kinds.ps μ-some-parameters some-parameters.Pre t
 
 abbrev some-parameters-calls : ℕ → some-parameters-lts.Claims
-some-parameters-calls t = (
-  variable-reads.Asked,
-  variable-reads.Learnt,
-  kind-reads.Asked,
-  kind-reads.Learnt,
-  link-reads.Asked,
-  link-reads.Learnt,
-  some-parameters-below t,
-  some-parameters.Post,
-  linked-reads.Asked,
-  linked-reads.Learnt,
-)
+some-parameters-calls t = (variable-reads.Asked, variable-reads.Learnt, kind-reads.Asked, kind-reads.Learnt, link-reads.Asked, link-reads.Learnt, asked some-parameters-kinds.ps μ-some-parameters some-parameters.Pre t, some-parameters.Post, linked-reads.Asked, linked-reads.Learnt)
 
 module _ (t : ℕ) where
   some-parameters-variable-requires : some-parameters-lts.Need-variable-requires (some-parameters-calls t) (some-parameters-at t) some-parameters.Post
@@ -54,19 +41,15 @@ module _ (t : ℕ) where
 
   some-parameters-link-requires : some-parameters-lts.Need-link-requires (some-parameters-calls t) (some-parameters-at t) some-parameters.Post
   some-parameters-link-requires c κs =
-      omega (
-        arith,
-        within-ok (c .before .before .before .before .before .a .given .1)
-            (c .before .before .before .before .before .before .before .before .before .variable .ensures .0 .within),
-      )
+      let w = within-ok (c .before .before .before .before .before .a .given .1)
+      (c .before .before .before .before .before .before .before .before .before .variable .ensures .0 .within) in
+      omega arith
 
   some-parameters-add-t19 : some-parameters-lts.Need-add-t19 (some-parameters-calls t) (some-parameters-at t) some-parameters.Post
   some-parameters-add-t19 c =
-      omega (
-        arith,
-        within-ok (c .before .before .before .before .before .before .before .before .a .given .1)
-            (c .before .before .before .before .before .before .before .before .before .before .before .before .variable .ensures .0 .within),
-      )
+      let w = within-ok (c .before .before .before .before .before .before .before .before .a .given .1)
+      (c .before .before .before .before .before .before .before .before .before .before .before .before .variable .ensures .0 .within) in
+      omega arith
 
   some-parameters-same-length : some-parameters-lts.Need-same-length (some-parameters-calls t) (some-parameters-at t) some-parameters.Post
   some-parameters-same-length c = search needs
@@ -82,37 +65,26 @@ module _ (t : ℕ) where
 
   some-parameters-add-some-parameters : some-parameters-lts.Need-add-some-parameters (some-parameters-calls t) (some-parameters-at t) some-parameters.Post
   some-parameters-add-some-parameters c =
-      omega (
-        arith,
-        within-ok (c .before .before .before .before .before .before .a .given .1)
-            (c .before .before .before .before .before .before .before .before .before .before .variable .ensures .0 .within),
-      )
+      let w = within-ok (c .before .before .before .before .before .before .a .given .1)
+      (c .before .before .before .before .before .before .before .before .before .before .variable .ensures .0 .within) in
+      omega arith
 
   some-parameters-some-parameters-requires : some-parameters-lts.Need-some-parameters-requires (some-parameters-calls t) (some-parameters-at t) some-parameters.Post
   some-parameters-some-parameters-requires c κs =
       let g = c .before .before .before .before .before .before .before .before .before .before .before .before .before in
-      omega (
-        arith,
-        within-ok (c .before .before .before .before .before .before .a .given .1)
-            (c .before .before .before .before .before .before .before .before .before .before .variable .ensures .0 .within),
-        there
-            (c .before .before .before .before .before .before .before .before .before .before .variable .last .0) (g .args .n)
-            (c .before .before .before .before .before .before .a .given .0 .1 .0) _ 32 (c .before .before .before .kind .ensures)
-            (c .before .if2 .taken) (lit< tt),
-      )
+      let w = within-ok (c .before .before .before .before .before .before .a .given .1)
+      (c .before .before .before .before .before .before .before .before .before .before .variable .ensures .0 .within) in
+      let l = there (c .before .before .before .before .before .before .before .before .before .before .variable .last .0) (g .args .n)
+      (c .before .before .before .before .before .before .a .given .0 .1 .0) _ 32 (c .before .before .before .kind .ensures)
+      (c .before .if2 .taken) (lit< tt) in
+      omega arith
 
   some-parameters-linked-requires : some-parameters-lts.Need-linked-requires (some-parameters-calls t) (some-parameters-at t) some-parameters.Post
-  some-parameters-linked-requires c κs = (
-    omega arith,
-    omega (
-      arith,
-      within-ok
-          (c .before .before .before .before .before .before .before .before .before .before .a .given .1)
-          (c .before .before .before .before .before .before .before .before .before .before .before .before .before .before .variable
-          .ensures .0 .within),
-    ),
-    declared-fits (c .before .before .before .some-parameters .ensures) (omega arith),
-  )
+  some-parameters-linked-requires c κs =
+      let w = within-ok (c .before .before .before .before .before .before .before .before .before .before .a .given .1)
+      (c .before .before .before .before .before .before .before .before .before .before .before .before .before .before .variable
+      .ensures .0 .within) in
+      (omega arith, omega arith, declared-fits (c .before .before .before .some-parameters .ensures) (omega arith))
 
   some-parameters-same-length-2 : some-parameters-lts.Need-same-length-2 (some-parameters-calls t) (some-parameters-at t) some-parameters.Post
   some-parameters-same-length-2 c = search needs
@@ -151,9 +123,4 @@ module _ (t : ℕ) where
 pub +some-parameters-spec : {M : Type 1} → statement M
 +some-parameters-spec =
     close μ-some-parameters
-    (λ t. some-parameters-lts.spec (some-parameters-calls t) (some-parameters-at t) some-parameters.Post
-    (some-parameters-variable-requires t) (some-parameters-enum-known-a t) (some-parameters-kind-requires t)
-    (some-parameters-link-requires t) (some-parameters-add-t19 t) (some-parameters-same-length t) (some-parameters-returns t)
-    (some-parameters-add-some-parameters t) (some-parameters-some-parameters-requires t) (some-parameters-linked-requires t)
-    (some-parameters-same-length-2 t) (some-parameters-returns-2 t) (some-parameters-enum-known-a-2 t) (some-parameters-same-length-3 t)
-    (some-parameters-returns-3 t) (some-parameters-same-length-4 t) (some-parameters-returns-4 t))
+    (λ t. some-parameters-lts.spec (some-parameters-calls t) (some-parameters-at t) some-parameters.Post (some-parameters-variable-requires t) (some-parameters-enum-known-a t) (some-parameters-kind-requires t) (some-parameters-link-requires t) (some-parameters-add-t19 t) (some-parameters-same-length t) (some-parameters-returns t) (some-parameters-add-some-parameters t) (some-parameters-some-parameters-requires t) (some-parameters-linked-requires t) (some-parameters-same-length-2 t) (some-parameters-returns-2 t) (some-parameters-enum-known-a-2 t) (some-parameters-same-length-3 t) (some-parameters-returns-3 t) (some-parameters-same-length-4 t) (some-parameters-returns-4 t))

@@ -1,7 +1,7 @@
 -- `variables` meets its contract. The measure is the number of tokens left. Each return is a law of `Variables`.
-use Prim.Native.Nat.{ℕ, _<_}
+use Prim.Native.Nat.{ℕ}
 use borrow.Fn.Kinds.{In}
-use borrow.Fn.PlainCycle.{Measures, is, falls, and}
+use borrow.Fn.PlainCycle.{Measures}
 use Rattle.parser.proofs.decl.variables.Reads as variables
 use Rattle.parser.proofs.decl.variables.Kinds as variables-kinds
 use Rattle.parser.proofs.decl.+variables.Lts-variables as variables-lts
@@ -11,7 +11,8 @@ use Rattle.parser.proofs.parts.followed.Reads as followed-reads
 use Rattle.parser.proofs.parts.linked.Reads as linked-reads
 use Rattle.parser.proofs.decl.+variables.{statement}
 use Rattle.parser.proofs.decl.+variables.Tie.{close}
-use Prim.Native.Nat.{_+_, _*_, _-_}
+use Prim.Native.Nat.{_*_, _-_}
+use Rattle.parser.proofs.Cycles.{given, asked}
 use borrow.Author.Needs.{needs}
 use native.Mathlib.Omega.{arith}
 use lib.Dec.{lit<}
@@ -22,24 +23,10 @@ abbrev μ-variables : Measures 1 variables-kinds.ps ℕ
 μ-variables κs a = a .1 .1 .0 - a .1 .1 .1 .0
 
 abbrev variables-at : ℕ → In 1 variables-kinds.ps
-variables-at t = and 1 variables-kinds.ps (is 1 variables-kinds.ps μ-variables t) variables.Pre
-
-abbrev variables-below : ℕ → In 1 variables-kinds.ps
-variables-below t = and 1 variables-kinds.ps (falls 1 variables-kinds.ps _<_ μ-variables t) variables.Pre
+variables-at t = given variables-kinds.ps μ-variables variables.Pre t
 
 abbrev variables-calls : ℕ → variables-lts.Claims
-variables-calls t = (
-  starts-variable-reads.Asked,
-  starts-variable-reads.Learnt,
-  variable-reads.Asked,
-  variable-reads.Learnt,
-  followed-reads.Asked,
-  followed-reads.Learnt,
-  variables-below t,
-  variables.Post,
-  linked-reads.Asked,
-  linked-reads.Learnt,
-)
+variables-calls t = (starts-variable-reads.Asked, starts-variable-reads.Learnt, variable-reads.Asked, variable-reads.Learnt, followed-reads.Asked, followed-reads.Learnt, asked variables-kinds.ps μ-variables variables.Pre t, variables.Post, linked-reads.Asked, linked-reads.Learnt)
 
 module _ (t : ℕ) where
   variables-starts-variable-requires : variables-lts.Need-starts-variable-requires (variables-calls t) (variables-at t) variables.Post
@@ -56,23 +43,16 @@ module _ (t : ℕ) where
 
   variables-variables-requires : variables-lts.Need-variables-requires (variables-calls t) (variables-at t) variables.Post
   variables-variables-requires c κs =
-      omega (
-        arith,
-        follows-ok (c .before .before .b .given .1) (c .before .before .before .before .followed .ensures) (lit< tt)
-            (c .before .before .before .before .before .before .before .before .variable .ensures .0 .within),
-      )
+      let w = follows-ok (c .before .before .b .given .1) (c .before .before .before .before .followed .ensures) (lit< tt)
+      (c .before .before .before .before .before .before .before .before .variable .ensures .0 .within) in
+      omega arith
 
   variables-linked-requires : variables-lts.Need-linked-requires (variables-calls t) (variables-at t) variables.Post
-  variables-linked-requires c κs = (
-    omega arith,
-    omega (
-      arith,
-      follows-ok (c .before .before .before .before .before .before .b .given .1)
-          (c .before .before .before .before .before .before .before .before .followed .ensures) (lit< tt)
-          (c .before .before .before .before .before .before .before .before .before .before .before .before .variable .ensures .0 .within),
-    ),
-    declared-fits (c .before .before .before .variables .ensures) (omega arith),
-  )
+  variables-linked-requires c κs =
+      let w = follows-ok (c .before .before .before .before .before .before .b .given .1)
+      (c .before .before .before .before .before .before .before .before .followed .ensures) (lit< tt)
+      (c .before .before .before .before .before .before .before .before .before .before .before .before .variable .ensures .0 .within) in
+      (omega arith, omega arith, declared-fits (c .before .before .before .variables .ensures) (omega arith))
 
   variables-same-length : variables-lts.Need-same-length (variables-calls t) (variables-at t) variables.Post
   variables-same-length c = search needs
@@ -114,7 +94,4 @@ module _ (t : ℕ) where
 pub +variables-spec : {M : Type 1} → statement M
 +variables-spec =
     close μ-variables
-    (λ t. variables-lts.spec (variables-calls t) (variables-at t) variables.Post (variables-starts-variable-requires t)
-    (variables-variable-requires t) (variables-followed-requires t) (variables-enum-known-b t) (variables-variables-requires t)
-    (variables-linked-requires t) (variables-same-length t) (variables-returns t) (variables-enum-known-b-2 t) (variables-same-length-2 t)
-    (variables-returns-2 t) (variables-same-length-3 t) (variables-returns-3 t))
+    (λ t. variables-lts.spec (variables-calls t) (variables-at t) variables.Post (variables-starts-variable-requires t) (variables-variable-requires t) (variables-followed-requires t) (variables-enum-known-b t) (variables-variables-requires t) (variables-linked-requires t) (variables-same-length t) (variables-returns t) (variables-enum-known-b-2 t) (variables-same-length-2 t) (variables-returns-2 t) (variables-same-length-3 t) (variables-returns-3 t))

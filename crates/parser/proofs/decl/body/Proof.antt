@@ -18,11 +18,9 @@ enum-known-b c = search needs
 
 returned-requires : tie.Need-returned-requires
 returned-requires c κs =
-    omega (
-      arith,
-      follows-ok (c .before .before .b .given .1) (c .before .before .before .before .followed .ensures) (lit< tt)
-          (c .before .before .before .before .before .before .before .before .list .ensures .within),
-    )
+    let w = follows-ok (c .before .before .b .given .1) (c .before .before .before .before .followed .ensures) (lit< tt)
+    (c .before .before .before .before .before .before .before .before .list .ensures .within) in
+    omega arith
 
 enum-known-b-2 : tie.Need-enum-known-b-2
 enum-known-b-2 c = search needs

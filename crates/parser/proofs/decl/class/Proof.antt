@@ -24,14 +24,7 @@ add-parent : tie.Need-add-parent
 add-parent c = search needs
 
 parent-requires : tie.Need-parent-requires
-parent-requires c κs =
-    omega (
-      arith,
-      name-there (c .before .before .before .before .before .before .before .before .before .args .table .now)
-          (c .before .before .before .before .before .before .before .before .before .args .n)
-          (c .before .before .before .before .before .before .before .before .before .args .i + 1) _ (c .before .before .before .kind2 .ensures)
-          (c .before .before .is-name .ensures) (c .before .if2 .taken),
-    )
+parent-requires c κs = omega (arith, name-there (c .before .before .before .before .before .before .before .before .before .args .table .now) (c .before .before .before .before .before .before .before .before .before .args .n) (c .before .before .before .before .before .before .before .before .before .args .i + 1) _ (c .before .before .before .kind2 .ensures) (c .before .before .is-name .ensures) (c .before .if2 .taken))
 
 enum-known-a : tie.Need-enum-known-a
 enum-known-a c = search needs
@@ -40,19 +33,7 @@ add-members : tie.Need-add-members
 add-members c = search needs
 
 members-requires : tie.Need-members-requires
-members-requires c κs =
-    omega (
-      arith,
-      name-there
-          (c .before .before .before .before .before .before .before .before .before .before .before .before .before .before .args .table .now)
-          (c .before .before .before .before .before .before .before .before .before .before .before .before .before .before .args .n)
-          (c .before .before .before .before .before .before .before .before .before .before .before .before .before .before .args .i + 1) _
-          (c .before .before .before .before .before .before .before .before .kind2 .ensures)
-          (c .before .before .before .before .before .before .before .is-name .ensures)
-          (c .before .before .before .before .before .before .if2 .taken),
-      within-ok (c .before .before .a .given .1)
-          (c .before .before .before .before .parent .ensures .within),
-    )
+members-requires c κs = omega (arith, name-there (c .before .before .before .before .before .before .before .before .before .before .before .before .before .before .args .table .now) (c .before .before .before .before .before .before .before .before .before .before .before .before .before .before .args .n) (c .before .before .before .before .before .before .before .before .before .before .before .before .before .before .args .i + 1) _ (c .before .before .before .before .before .before .before .before .kind2 .ensures) (c .before .before .before .before .before .before .before .is-name .ensures) (c .before .before .before .before .before .before .if2 .taken), within-ok (c .before .before .a .given .1) (c .before .before .before .before .parent .ensures .within))
 
 same-length : tie.Need-same-length
 same-length c = search needs

@@ -19,12 +19,10 @@ enum-known-b c = search needs
 class-row-requires : tie.Need-class-row-requires
 class-row-requires c κs =
     let g = c .before .before .before .before .before .before .before .before .before .before .before in
-    omega (
-      arith,
-      follows-ok (c .before .before .b .given .1) (c .before .before .before .before .followed .ensures) (lit< tt)
-          (c .before .before .before .before .before .before .before .before .methods .ensures .within),
-      g .pre,
-    )
+    let w = follows-ok (c .before .before .b .given .1) (c .before .before .before .before .followed .ensures) (lit< tt)
+    (c .before .before .before .before .before .before .before .before .methods .ensures .within) in
+    let l = g .pre in
+    omega arith
 
 enum-known-b-2 : tie.Need-enum-known-b-2
 enum-known-b-2 c = search needs

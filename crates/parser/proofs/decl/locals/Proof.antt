@@ -14,11 +14,9 @@ enum-known-a c = search needs
 
 body-requires : tie.Need-body-requires
 body-requires c κs =
-    omega (
-      arith,
-      within-ok (c .before .before .a .given .1)
-          (c .before .before .before .before .before .before .opened .ensures .piece .within),
-    )
+    let w = within-ok (c .before .before .a .given .1)
+    (c .before .before .before .before .before .before .opened .ensures .piece .within) in
+    omega arith
 
 enum-known-a-2 : tie.Need-enum-known-a-2
 enum-known-a-2 c = search needs

@@ -14,11 +14,9 @@ add-variable c = search needs
 
 variable-requires : tie.Need-variable-requires
 variable-requires c κs =
-    omega (
-      arith,
-      there (c .before .before .args .table .now) (c .before .before .args .n) (c .before .before .args .i) _ 15 refl
-          (c .before .before .pre .1) (lit< tt),
-    )
+    let w = there (c .before .before .args .table .now) (c .before .before .args .n) (c .before .before .args .i) _ 15 refl
+    (c .before .before .pre .1) (lit< tt) in
+    omega arith
 
 followed-requires : tie.Need-followed-requires
 followed-requires c κs = search needs
@@ -28,11 +26,9 @@ enum-known-b c = search needs
 
 parameters-requires : tie.Need-parameters-requires
 parameters-requires c κs =
-    omega (
-      arith,
-      follows-ok (c .before .before .b .given .1) (c .before .before .before .before .followed .ensures) (lit< tt)
-          (c .before .before .before .before .before .before .before .before .variable .ensures .0 .within),
-    )
+    let w = follows-ok (c .before .before .b .given .1) (c .before .before .before .before .followed .ensures) (lit< tt)
+    (c .before .before .before .before .before .before .before .before .variable .ensures .0 .within) in
+    omega arith
 
 enum-known-c : tie.Need-enum-known-c
 enum-known-c c = search needs
@@ -40,21 +36,17 @@ enum-known-c c = search needs
 locals-requires : tie.Need-locals-requires
 locals-requires c κs =
     let g = c .before .before .before .before .before .before .before .before .before .before .before .before .before .before .before .before .before .before in
-    omega (
-      arith,
-      follows-ok (c .before .before .before .before .before .before .before .before .before .b .given .1)
-          (c .before .before .before .before .before .before .before .before .before .before .before .followed .ensures) (lit< tt)
-          (c .before .before .before .before .before .before .before .before .before .before .before .before .before .before .before .variable
-          .ensures .0 .within),
-      within-ok (c .before .before .c .given .1)
-          (c .before .before .before .before .before .before .parameters .ensures .within),
-      ends-there
-          (c .before .before .before .before .before .before .before .before .before .b .given .1)
-          (c .before .before .before .before .before .before .before .before .before .before .before .followed .ensures)
-          (c .before .before .before .before .before .before .before .before .before .before .before .before .before .before .before .variable
-          .ensures .1),
-      g .pre .0,
-    )
+    let w = follows-ok (c .before .before .before .before .before .before .before .before .before .b .given .1)
+    (c .before .before .before .before .before .before .before .before .before .before .before .followed .ensures) (lit< tt)
+    (c .before .before .before .before .before .before .before .before .before .before .before .before .before .before .before .variable
+    .ensures .0 .within) in
+    let l = within-ok (c .before .before .c .given .1) (c .before .before .before .before .before .before .parameters .ensures .within) in
+    let w₂ = ends-there (c .before .before .before .before .before .before .before .before .before .b .given .1)
+    (c .before .before .before .before .before .before .before .before .before .before .before .followed .ensures)
+    (c .before .before .before .before .before .before .before .before .before .before .before .before .before .before .before .variable
+    .ensures .1) in
+    let l₂ = g .pre .0 in
+    omega arith
 
 enum-known-c-2 : tie.Need-enum-known-c-2
 enum-known-c-2 c = search needs

@@ -16,11 +16,9 @@ add-variables c = search needs
 variables-requires : tie.Need-variables-requires
 variables-requires c κs =
     let g = c .before .before .before .before .before in
-    omega (
-      arith,
-      there (g .args .table .now) (g .args .n) (g .args .j) _ 38 (c .before .before .kind .ensures) (c .before .if1 .taken)
-          (lit< tt),
-    )
+    let w = there (g .args .table .now) (g .args .n) (g .args .j) _ 38 (c .before .before .kind .ensures) (c .before .if1 .taken)
+    (lit< tt) in
+    omega arith
 
 same-length : tie.Need-same-length
 same-length c = search needs

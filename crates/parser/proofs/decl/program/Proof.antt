@@ -25,11 +25,9 @@ returns c = search program-head
 single-requires : tie.Need-single-requires
 single-requires c κs =
     let g = c .before .before .before .before .before .before in
-    omega (
-      arith,
-      matched-there (g .args .table .now) (g .args .n) 0 mainHead (omega arith) (omega arith),
-      c .before .before .matched .ensures,
-    )
+    let w = matched-there (g .args .table .now) (g .args .n) 0 mainHead (omega arith) (omega arith) in
+    let l = c .before .before .matched .ensures in
+    omega arith
 
 followed-requires : tie.Need-followed-requires
 followed-requires c κs = search needs
@@ -43,25 +41,20 @@ enum-known-c c = search needs
 classes-requires : tie.Need-classes-requires
 classes-requires c κs =
     let g = c .before .before .before .before .before .before .before .before .before .before .before .before .before .before .before .before .before in
-    omega (
-      arith,
-      within-ok (c .before .before .c .given .1)
-          (follows-within _ _ _ (c .before .before .before .before .followed2 .ensures) (lit< tt)
-          (follows-within _ _ _ (c .before .before .before .before .before .before .followed .ensures) (lit< tt)
-          (c .before .before .before .before .before .before .before .before .before .before .single .ensures .within))),
-      g .pre .few,
-    )
+    let w = within-ok (c .before .before .c .given .1)
+    (follows-within _ _ _ (c .before .before .before .before .followed2 .ensures) (lit< tt)
+    (follows-within _ _ _ (c .before .before .before .before .before .before .followed .ensures) (lit< tt)
+    (c .before .before .before .before .before .before .before .before .before .before .single .ensures .within))) in
+    let l = g .pre .few in
+    omega arith
 
 enum-known-d : tie.Need-enum-known-d
 enum-known-d c = search needs
 
 link-requires : tie.Need-link-requires
 link-requires c κs =
-    omega (
-      arith,
-      within-ok (c .before .before .d .given .1)
-          (c .before .before .before .before .before .before .classes .ensures .within),
-    )
+    let w = within-ok (c .before .before .d .given .1) (c .before .before .before .before .before .before .classes .ensures .within) in
+    omega arith
 
 enum-known-d-2 : tie.Need-enum-known-d-2
 enum-known-d-2 c = search needs

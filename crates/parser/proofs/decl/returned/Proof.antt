@@ -23,14 +23,12 @@ enum-known-c c = search needs
 method-row-requires : tie.Need-method-row-requires
 method-row-requires c κs =
     let g = c .before .before .before .before .before .before .before .before .before .before .before .before .before in
-    omega (
-      arith,
-      within-ok (c .before .before .c .given .1)
-          (follows-within _ _ _ (c .before .before .before .before .followed2 .ensures) (lit< tt)
-          (follows-within _ _ _ (c .before .before .before .before .before .before .followed .ensures) (lit< tt)
-          (c .before .before .before .before .before .before .before .before .before .before .operation .ensures .within))),
-      g .pre,
-    )
+    let w = within-ok (c .before .before .c .given .1)
+    (follows-within _ _ _ (c .before .before .before .before .followed2 .ensures) (lit< tt)
+    (follows-within _ _ _ (c .before .before .before .before .before .before .followed .ensures) (lit< tt)
+    (c .before .before .before .before .before .before .before .before .before .before .operation .ensures .within))) in
+    let l = g .pre in
+    omega arith
 
 enum-known-c-2 : tie.Need-enum-known-c-2
 enum-known-c-2 c = search needs
@@ -41,10 +39,11 @@ same-length c = search needs
 returns : tie.Need-returns
 returns c =
     let g = c .before .before .before .before .before .before .before .before .before .before .before .before .before .before .before .before in
+    let w = g .pre .1 in
     returned-ok (g .pre .0 .few)
     (c .before .before .before .before .before .before .before .before .before .before .before .before .before .operation .ensures)
     (c .before .before .before .before .before .before .before .before .before .followed .ensures)
-    (c .before .before .before .before .before .before .before .followed2 .ensures) (omega (arith, g .pre .1))
+    (c .before .before .before .before .before .before .before .followed2 .ensures) (omega arith)
     (c .before .before .before .before .before .c .given .1) (c .before .before .method-row .ensures)
 
 same-length-2 : tie.Need-same-length-2

@@ -21,25 +21,10 @@ is-name-requires : tie.Need-is-name-requires
 is-name-requires c κs = search needs
 
 put-requires : tie.Need-put-requires
-put-requires c κs =
-    omega (
-      arith,
-      within-ok (c .before .before .before .before .before .before .a .given .1)
-          (c .before .before .before .before .before .before .before .before .type-use .ensures .within),
-      name-there
-          (c .before .before .before .before .before .before .before .before .before .before .before .args .table .now)
-          (c .before .before .before .before .before .before .before .before .before .before .before .args .n)
-          (c .before .before .before .before .before .before .a .given .0 .1 .0) _ (c .before .before .before .kind .ensures)
-          (c .before .before .is-name .ensures) (c .before .if1 .taken),
-    )
+put-requires c κs = omega (arith, within-ok (c .before .before .before .before .before .before .a .given .1) (c .before .before .before .before .before .before .before .before .type-use .ensures .within), name-there (c .before .before .before .before .before .before .before .before .before .before .before .args .table .now) (c .before .before .before .before .before .before .before .before .before .before .before .args .n) (c .before .before .before .before .before .before .a .given .0 .1 .0) _ (c .before .before .before .kind .ensures) (c .before .before .is-name .ensures) (c .before .if1 .taken))
 
 add-t18 : tie.Need-add-t18
-add-t18 c =
-    omega (
-      arith,
-      within-ok (c .before .before .before .before .before .before .before .before .before .a .given .1)
-          (c .before .before .before .before .before .before .before .before .before .before .before .type-use .ensures .within),
-    )
+add-t18 c = omega (arith, within-ok (c .before .before .before .before .before .before .before .before .before .a .given .1) (c .before .before .before .before .before .before .before .before .before .before .before .type-use .ensures .within))
 
 same-length : tie.Need-same-length
 same-length c = search needs

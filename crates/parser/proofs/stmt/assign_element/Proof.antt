@@ -15,11 +15,9 @@ add-operation c = search needs
 
 operation-requires : tie.Need-operation-requires
 operation-requires c κs =
-    omega (
-      arith,
-      there (c .before .before .args .table .now) (c .before .before .args .n) (c .before .before .args .i + 1) _ 36 refl
-          (c .before .before .pre .2) (lit< tt),
-    )
+    let w = there (c .before .before .args .table .now) (c .before .before .args .n) (c .before .before .args .i + 1) _ 36 refl
+    (c .before .before .pre .2) (lit< tt) in
+    omega arith
 
 followed-requires : tie.Need-followed-requires
 followed-requires c κs = search needs
@@ -33,34 +31,31 @@ enum-known-c c = search needs
 operation-requires-2 : tie.Need-operation-requires-2
 operation-requires-2 c κs =
     let g = c .before .before .before .before .before .before .before .before .before .before .before .before .before in
-    omega (
-      arith,
-      within-ok (c .before .before .c .given .1)
-          (follows-within _ _ _ (c .before .before .before .before .followed2 .ensures) (lit< tt)
-          (follows-within _ _ _ (c .before .before .before .before .before .before .followed .ensures) (lit< tt)
-          (c .before .before .before .before .before .before .before .before .before .before .operation .ensures .within))),
-      g .pre .0,
-    )
+    let w = within-ok (c .before .before .c .given .1)
+    (follows-within _ _ _ (c .before .before .before .before .followed2 .ensures) (lit< tt)
+    (follows-within _ _ _ (c .before .before .before .before .before .before .followed .ensures) (lit< tt)
+    (c .before .before .before .before .before .before .before .before .before .before .operation .ensures .within))) in
+    let l = g .pre .0 in
+    omega arith
 
 followed-requires-3 : tie.Need-followed-requires-3
 followed-requires-3 c κs = search needs
 
 two-parts-requires : tie.Need-two-parts-requires
 two-parts-requires c κs =
-    let g = c .before .before .before .before .before .before .before .before .before .before .before .before .before .before .before .before .before .before .before in (
+    let g = c .before .before .before .before .before .before .before .before .before .before .before .before .before .before .before .before .before .before .before in
+    let w = there (g .args .table .now) (g .args .n) (g .args .i + 1) _ 36 refl (g .pre .2) (lit< tt) in
+    let l = g .pre .0 in
+    let w₂ = within-ok (c .before .before .before .before .before .before .before .before .c .given .1)
+    (follows-within _ _ _ (c .before .before .before .before .before .before .before .before .before .before .followed2 .ensures)
+    (lit< tt) (follows-within _ _ _
+    (c .before .before .before .before .before .before .before .before .before .before .before .before .followed .ensures) (lit< tt)
+    (c .before .before .before .before .before .before .before .before .before .before .before .before .before .before .before .before
+    .operation .ensures .within))) in (
       omega arith,
-      omega (arith, there (g .args .table .now) (g .args .n) (g .args .i + 1) _ 36 refl (g .pre .2) (lit< tt), g .pre .0),
-      omega (arith, there (g .args .table .now) (g .args .n) (g .args .i + 1) _ 36 refl (g .pre .2) (lit< tt), g .pre .0),
-      omega (
-        arith,
-        within-ok (c .before .before .before .before .before .before .before .before .c .given .1)
-            (follows-within _ _ _ (c .before .before .before .before .before .before .before .before .before .before .followed2 .ensures)
-            (lit< tt) (follows-within _ _ _
-            (c .before .before .before .before .before .before .before .before .before .before .before .before .followed .ensures) (lit< tt)
-            (c .before .before .before .before .before .before .before .before .before .before .before .before .before .before .before .before
-            .operation .ensures .within))),
-        g .pre .0,
-      ),
+      omega arith,
+      omega arith,
+      omega arith,
       follows-fits (c .before .followed3 .ensures)
           (mode-fits (g .pre .0 .few) (c .before .before .before .before .before .operation2 .ensures)),
     )

@@ -30,25 +30,21 @@ add-operation c = search needs
 operation-requires : tie.Need-operation-requires
 operation-requires c κs =
     let g = c .before .before .before .before .before .before in
-    omega (
-      arith,
-      there (g .args .table .now) (g .args .n) (g .args .i + 1) _ 30 (c .before .before .before .kind .ensures)
-          (c .before .if2 .taken) (lit< tt),
-    )
+    let w = there (g .args .table .now) (g .args .n) (g .args .i + 1) _ 30 (c .before .before .before .kind .ensures)
+    (c .before .if2 .taken) (lit< tt) in
+    omega arith
 
 followed-requires : tie.Need-followed-requires
 followed-requires c κs = search needs
 
 one-part-requires : tie.Need-one-part-requires
 one-part-requires c κs =
-    let g = c .before .before .before .before .before .before .before .before .before .before .before .before in (
+    let g = c .before .before .before .before .before .before .before .before .before .before .before .before in
+    let w = there (g .args .table .now) (g .args .n) (g .args .i + 1) _ 30
+    (c .before .before .before .before .before .before .before .before .before .kind .ensures)
+    (c .before .before .before .before .before .before .before .if2 .taken) (lit< tt) in (
       omega arith,
-      omega (
-        arith,
-        there (g .args .table .now) (g .args .n) (g .args .i + 1) _ 30
-            (c .before .before .before .before .before .before .before .before .before .kind .ensures)
-            (c .before .before .before .before .before .before .before .if2 .taken) (lit< tt),
-      ),
+      omega arith,
       follows-fits (c .before .followed .ensures)
           (mode-fits (g .pre .0 .few) (c .before .before .before .before .before .operation .ensures)),
     )

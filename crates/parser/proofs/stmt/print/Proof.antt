@@ -18,7 +18,8 @@ slice-aggregate-matched c = search needs
 matched-requires : tie.Need-matched-requires
 matched-requires c κs =
     let g = c .before .before .before in
-    omega (arith, there (g .args .table .now) (g .args .n) (g .args .i) _ 19 refl (g .pre .1) (lit< tt))
+    let w = there (g .args .table .now) (g .args .n) (g .args .i) _ 19 refl (g .pre .1) (lit< tt) in
+    omega arith
 
 add-t15 : tie.Need-add-t15
 add-t15 c = search needs
@@ -38,7 +39,8 @@ add-operation c = search needs
 operation-requires : tie.Need-operation-requires
 operation-requires c κs =
     let g = c .before .before .before .before .before .before in
-    omega (arith, head-there (g .args .table .now) (g .args .n) (g .args .i) _ (g .pre .1) (c .before .before .matched .ensures))
+    let w = head-there (g .args .table .now) (g .args .n) (g .args .i) _ (g .pre .1) (c .before .before .matched .ensures) in
+    omega arith
 
 followed-requires : tie.Need-followed-requires
 followed-requires c κs = search needs
@@ -48,11 +50,11 @@ followed-requires-2 c κs = search needs
 
 one-part-requires : tie.Need-one-part-requires
 one-part-requires c κs =
-    let g = c .before .before .before .before .before .before .before .before .before .before .before .before .before .before in (
+    let g = c .before .before .before .before .before .before .before .before .before .before .before .before .before .before in
+    let w = there (g .args .table .now) (g .args .n) (g .args .i) _ 19 refl (g .pre .1) (lit< tt) in (
       omega arith,
-      omega (arith, there (g .args .table .now) (g .args .n) (g .args .i) _ 19 refl (g .pre .1) (lit< tt)),
-      follows-fits
-          (c .before .followed2 .ensures)
+      omega arith,
+      follows-fits (c .before .followed2 .ensures)
           (follows-fits (c .before .before .before .followed .ensures)
           (mode-fits (g .pre .0 .few) (c .before .before .before .before .before .before .before .operation .ensures))),
     )

@@ -20,11 +20,9 @@ add-operation c = search needs
 operation-requires : tie.Need-operation-requires
 operation-requires c κs =
     let g = c .before .before .before .before .before in
-    omega (
-      arith,
-      there (g .args .table .now) (g .args .n) (g .args .i + 1) _ 34 (c .before .before .kind .ensures)
-          (c .before .if1 .taken) (lit< tt),
-    )
+    let w = there (g .args .table .now) (g .args .n) (g .args .i + 1) _ 34 (c .before .before .kind .ensures) (c .before .if1 .taken)
+    (lit< tt) in
+    omega arith
 
 followed-requires : tie.Need-followed-requires
 followed-requires c κs = search needs

@@ -1,7 +1,7 @@
 -- What each member of the cycle is given at the measure t, and what a call of it asks below t.
-use Prim.Native.Nat.{ℕ, _<_}
+use Prim.Native.Nat.{ℕ}
 use borrow.Fn.Kinds.{In}
-use borrow.Fn.PlainCycle.{Measures, is, falls, and}
+use borrow.Fn.PlainCycle.{Measures}
 use Rattle.parser.proofs.expr.arguments.Reads as arguments
 use Rattle.parser.proofs.expr.arguments.Kinds as arguments-kinds
 use Rattle.parser.proofs.expr.+arguments+call+element+levels+new_array+operand+operation+operations+parentheses+postfix+primary+some_arguments+suffixes+unary.Lts-arguments as arguments-lts
@@ -49,175 +49,140 @@ use Rattle.parser.proofs.expr.starts_array.Reads as starts-array-reads
 use Rattle.parser.proofs.kinds.is_atom.Reads as is-atom-reads
 use Rattle.parser.proofs.kinds.is_name.Reads as is-name-reads
 use Rattle.parser.proofs.kinds.is_operator.Reads as is-operator-reads
+use Rattle.parser.proofs.parts.followed.Reads as followed-reads
+use Rattle.parser.proofs.parts.linked.Reads as linked-reads
+use Rattle.parser.proofs.parts.one_part.Reads as one-part-reads
 use Rattle.parser.proofs.table.kind.Reads as kind-reads
 use Rattle.parser.proofs.table.link.Reads as link-reads
 use Rattle.parser.proofs.table.node.Reads as node-reads
 use Prim.Native.Nat.{_+_, _*_, _-_}
+use Rattle.parser.proofs.Cycles.{given, asked}
 
 abbrev pub μ-arguments : Measures 1 arguments-kinds.ps ℕ
 μ-arguments κs a = 16 * (a .1 .0 - a .1 .1 .0) + 13
 
 abbrev pub arguments-at : ℕ → In 1 arguments-kinds.ps
-arguments-at t = and 1 arguments-kinds.ps (is 1 arguments-kinds.ps μ-arguments t) arguments.Pre
-
-abbrev pub arguments-below : ℕ → In 1 arguments-kinds.ps
-arguments-below t = and 1 arguments-kinds.ps (falls 1 arguments-kinds.ps _<_ μ-arguments t) arguments.Pre
+arguments-at t = given arguments-kinds.ps μ-arguments arguments.Pre t
 
 abbrev pub μ-call : Measures 1 call-kinds.ps ℕ
 μ-call κs a = 16 * (a .1 .0 - a .1 .1 .1 .1 .1 .0) + 0
 
 abbrev pub call-at : ℕ → In 1 call-kinds.ps
-call-at t = and 1 call-kinds.ps (is 1 call-kinds.ps μ-call t) call.Pre
-
-abbrev pub call-below : ℕ → In 1 call-kinds.ps
-call-below t = and 1 call-kinds.ps (falls 1 call-kinds.ps _<_ μ-call t) call.Pre
+call-at t = given call-kinds.ps μ-call call.Pre t
 
 abbrev pub μ-element : Measures 1 element-kinds.ps ℕ
 μ-element κs a = 16 * (a .1 .0 - a .1 .1 .1 .1 .0) + 0
 
 abbrev pub element-at : ℕ → In 1 element-kinds.ps
-element-at t = and 1 element-kinds.ps (is 1 element-kinds.ps μ-element t) element.Pre
-
-abbrev pub element-below : ℕ → In 1 element-kinds.ps
-element-below t = and 1 element-kinds.ps (falls 1 element-kinds.ps _<_ μ-element t) element.Pre
+element-at t = given element-kinds.ps μ-element element.Pre t
 
 abbrev pub μ-levels : Measures 1 levels-kinds.ps ℕ
 μ-levels κs a = 16 * (a .1 .0 - a .1 .1 .1 .1 .1 .1 .0) + (1 + a .1 .1 .1 .0)
 
 abbrev pub levels-at : ℕ → In 1 levels-kinds.ps
-levels-at t = and 1 levels-kinds.ps (is 1 levels-kinds.ps μ-levels t) levels.Pre
-
-abbrev pub levels-below : ℕ → In 1 levels-kinds.ps
-levels-below t = and 1 levels-kinds.ps (falls 1 levels-kinds.ps _<_ μ-levels t) levels.Pre
+levels-at t = given levels-kinds.ps μ-levels levels.Pre t
 
 abbrev pub μ-new-array : Measures 1 new-array-kinds.ps ℕ
 μ-new-array κs a = 16 * (a .1 .0 - a .1 .1 .0) + 1
 
 abbrev pub new-array-at : ℕ → In 1 new-array-kinds.ps
-new-array-at t = and 1 new-array-kinds.ps (is 1 new-array-kinds.ps μ-new-array t) new-array.Pre
-
-abbrev pub new-array-below : ℕ → In 1 new-array-kinds.ps
-new-array-below t = and 1 new-array-kinds.ps (falls 1 new-array-kinds.ps _<_ μ-new-array t) new-array.Pre
+new-array-at t = given new-array-kinds.ps μ-new-array new-array.Pre t
 
 abbrev pub μ-operand : Measures 1 operand-kinds.ps ℕ
 μ-operand κs a = 16 * (a .1 .0 - a .1 .1 .1 .0) + 5
 
 abbrev pub operand-at : ℕ → In 1 operand-kinds.ps
-operand-at t = and 1 operand-kinds.ps (is 1 operand-kinds.ps μ-operand t) operand.Pre
-
-abbrev pub operand-below : ℕ → In 1 operand-kinds.ps
-operand-below t = and 1 operand-kinds.ps (falls 1 operand-kinds.ps _<_ μ-operand t) operand.Pre
+operand-at t = given operand-kinds.ps μ-operand operand.Pre t
 
 abbrev pub μ-operation : Measures 1 operation-kinds.ps ℕ
 μ-operation κs a = 16 * (a .1 .0 - a .1 .1 .1 .0) + 4
 
 abbrev pub operation-at : ℕ → In 1 operation-kinds.ps
-operation-at t = and 1 operation-kinds.ps (is 1 operation-kinds.ps μ-operation t) operation.Pre
-
-abbrev pub operation-below : ℕ → In 1 operation-kinds.ps
-operation-below t = and 1 operation-kinds.ps (falls 1 operation-kinds.ps _<_ μ-operation t) operation.Pre
+operation-at t = given operation-kinds.ps μ-operation operation.Pre t
 
 abbrev pub μ-operations : Measures 1 operations-kinds.ps ℕ
 μ-operations κs a = 16 * (a .1 .0 - a .1 .1 .1 .1 .1 .0) + 0
 
 abbrev pub operations-at : ℕ → In 1 operations-kinds.ps
-operations-at t = and 1 operations-kinds.ps (is 1 operations-kinds.ps μ-operations t) operations.Pre
-
-abbrev pub operations-below : ℕ → In 1 operations-kinds.ps
-operations-below t = and 1 operations-kinds.ps (falls 1 operations-kinds.ps _<_ μ-operations t) operations.Pre
+operations-at t = given operations-kinds.ps μ-operations operations.Pre t
 
 abbrev pub μ-parentheses : Measures 1 parentheses-kinds.ps ℕ
 μ-parentheses κs a = 16 * (a .1 .0 - a .1 .1 .0) + 0
 
 abbrev pub parentheses-at : ℕ → In 1 parentheses-kinds.ps
-parentheses-at t = and 1 parentheses-kinds.ps (is 1 parentheses-kinds.ps μ-parentheses t) parentheses.Pre
-
-abbrev pub parentheses-below : ℕ → In 1 parentheses-kinds.ps
-parentheses-below t = and 1 parentheses-kinds.ps (falls 1 parentheses-kinds.ps _<_ μ-parentheses t) parentheses.Pre
+parentheses-at t = given parentheses-kinds.ps μ-parentheses parentheses.Pre t
 
 abbrev pub μ-postfix : Measures 1 postfix-kinds.ps ℕ
 μ-postfix κs a = 16 * (a .1 .0 - a .1 .1 .0) + 2
 
 abbrev pub postfix-at : ℕ → In 1 postfix-kinds.ps
-postfix-at t = and 1 postfix-kinds.ps (is 1 postfix-kinds.ps μ-postfix t) postfix.Pre
-
-abbrev pub postfix-below : ℕ → In 1 postfix-kinds.ps
-postfix-below t = and 1 postfix-kinds.ps (falls 1 postfix-kinds.ps _<_ μ-postfix t) postfix.Pre
+postfix-at t = given postfix-kinds.ps μ-postfix postfix.Pre t
 
 abbrev pub μ-primary : Measures 1 primary-kinds.ps ℕ
 μ-primary κs a = 16 * (a .1 .0 - a .1 .1 .0) + 1
 
 abbrev pub primary-at : ℕ → In 1 primary-kinds.ps
-primary-at t = and 1 primary-kinds.ps (is 1 primary-kinds.ps μ-primary t) primary.Pre
-
-abbrev pub primary-below : ℕ → In 1 primary-kinds.ps
-primary-below t = and 1 primary-kinds.ps (falls 1 primary-kinds.ps _<_ μ-primary t) primary.Pre
+primary-at t = given primary-kinds.ps μ-primary primary.Pre t
 
 abbrev pub μ-some-arguments : Measures 1 some-arguments-kinds.ps ℕ
 μ-some-arguments κs a = 16 * (a .1 .0 - a .1 .1 .0) + 12
 
 abbrev pub some-arguments-at : ℕ → In 1 some-arguments-kinds.ps
-some-arguments-at t = and 1 some-arguments-kinds.ps (is 1 some-arguments-kinds.ps μ-some-arguments t) some-arguments.Pre
-
-abbrev pub some-arguments-below : ℕ → In 1 some-arguments-kinds.ps
-some-arguments-below t = and 1 some-arguments-kinds.ps (falls 1 some-arguments-kinds.ps _<_ μ-some-arguments t) some-arguments.Pre
+some-arguments-at t = given some-arguments-kinds.ps μ-some-arguments some-arguments.Pre t
 
 abbrev pub μ-suffixes : Measures 1 suffixes-kinds.ps ℕ
 μ-suffixes κs a = 16 * (a .1 .0 - a .1 .1 .1 .1 .1 .0) + 1
 
 abbrev pub suffixes-at : ℕ → In 1 suffixes-kinds.ps
-suffixes-at t = and 1 suffixes-kinds.ps (is 1 suffixes-kinds.ps μ-suffixes t) suffixes.Pre
-
-abbrev pub suffixes-below : ℕ → In 1 suffixes-kinds.ps
-suffixes-below t = and 1 suffixes-kinds.ps (falls 1 suffixes-kinds.ps _<_ μ-suffixes t) suffixes.Pre
+suffixes-at t = given suffixes-kinds.ps μ-suffixes suffixes.Pre t
 
 abbrev pub μ-unary : Measures 1 unary-kinds.ps ℕ
 μ-unary κs a = 16 * (a .1 .0 - a .1 .1 .0) + 3
 
 abbrev pub unary-at : ℕ → In 1 unary-kinds.ps
-unary-at t = and 1 unary-kinds.ps (is 1 unary-kinds.ps μ-unary t) unary.Pre
-
-abbrev pub unary-below : ℕ → In 1 unary-kinds.ps
-unary-below t = and 1 unary-kinds.ps (falls 1 unary-kinds.ps _<_ μ-unary t) unary.Pre
+unary-at t = given unary-kinds.ps μ-unary unary.Pre t
 
 abbrev pub arguments-calls : ℕ → arguments-lts.Claims
-arguments-calls t = (kind-reads.Asked, kind-reads.Learnt, some-arguments-below t, some-arguments.Post)
+arguments-calls t =
+    (kind-reads.Asked, kind-reads.Learnt, asked some-arguments-kinds.ps μ-some-arguments some-arguments.Pre t, some-arguments.Post)
 
 abbrev pub call-calls : ℕ → call-lts.Claims
-call-calls t = (kind-reads.Asked, kind-reads.Learnt, is-name-reads.Asked, is-name-reads.Learnt, arguments-below t, arguments.Post, node-reads.Asked, node-reads.Learnt, suffixes-below t, suffixes.Post)
+call-calls t = (kind-reads.Asked, kind-reads.Learnt, is-name-reads.Asked, is-name-reads.Learnt, asked arguments-kinds.ps μ-arguments arguments.Pre t, arguments.Post, node-reads.Asked, node-reads.Learnt, asked suffixes-kinds.ps μ-suffixes suffixes.Pre t, suffixes.Post)
 
 abbrev pub element-calls : ℕ → element-lts.Claims
-element-calls t = (operation-below t, operation.Post, kind-reads.Asked, kind-reads.Learnt, node-reads.Asked, node-reads.Learnt, suffixes-below t, suffixes.Post)
+element-calls t = (asked operation-kinds.ps μ-operation operation.Pre t, operation.Post, followed-reads.Asked, followed-reads.Learnt, node-reads.Asked, node-reads.Learnt, asked suffixes-kinds.ps μ-suffixes suffixes.Pre t, suffixes.Post)
 
 abbrev pub levels-calls : ℕ → levels-lts.Claims
-levels-calls t = (operations-below t, operations.Post, levels-below t, levels.Post)
+levels-calls t =
+    (asked operations-kinds.ps μ-operations operations.Pre t, operations.Post, asked levels-kinds.ps μ-levels levels.Pre t, levels.Post)
 
 abbrev pub new-array-calls : ℕ → new-array-lts.Claims
-new-array-calls t = (kind-reads.Asked, kind-reads.Learnt, operation-below t, operation.Post, node-reads.Asked, node-reads.Learnt, suffixes-below t, suffixes.Post)
+new-array-calls t = (kind-reads.Asked, kind-reads.Learnt, asked operation-kinds.ps μ-operation operation.Pre t, operation.Post, followed-reads.Asked, followed-reads.Learnt, node-reads.Asked, node-reads.Learnt, asked suffixes-kinds.ps μ-suffixes suffixes.Pre t, suffixes.Post)
 
 abbrev pub operand-calls : ℕ → operand-lts.Claims
-operand-calls t = (operation-below t, operation.Post, unary-below t, unary.Post)
+operand-calls t =
+    (asked operation-kinds.ps μ-operation operation.Pre t, operation.Post, asked unary-kinds.ps μ-unary unary.Pre t, unary.Post)
 
 abbrev pub operation-calls : ℕ → operation-lts.Claims
-operation-calls t = (unary-below t, unary.Post, levels-below t, levels.Post)
+operation-calls t = (asked unary-kinds.ps μ-unary unary.Pre t, unary.Post, asked levels-kinds.ps μ-levels levels.Pre t, levels.Post)
 
 abbrev pub operations-calls : ℕ → operations-lts.Claims
-operations-calls t = (kind-reads.Asked, kind-reads.Learnt, is-operator-reads.Asked, is-operator-reads.Learnt, operand-below t, operand.Post, node-reads.Asked, node-reads.Learnt, operations-below t, operations.Post)
+operations-calls t = (kind-reads.Asked, kind-reads.Learnt, is-operator-reads.Asked, is-operator-reads.Learnt, asked operand-kinds.ps μ-operand operand.Pre t, operand.Post, node-reads.Asked, node-reads.Learnt, asked operations-kinds.ps μ-operations operations.Pre t, operations.Post)
 
 abbrev pub parentheses-calls : ℕ → parentheses-lts.Claims
-parentheses-calls t = (operation-below t, operation.Post, kind-reads.Asked, kind-reads.Learnt)
+parentheses-calls t = (asked operation-kinds.ps μ-operation operation.Pre t, operation.Post, followed-reads.Asked, followed-reads.Learnt)
 
 abbrev pub postfix-calls : ℕ → postfix-lts.Claims
-postfix-calls t = (starts-array-reads.Asked, starts-array-reads.Learnt, new-array-below t, new-array.Post, primary-below t, primary.Post, suffixes-below t, suffixes.Post)
+postfix-calls t = (starts-array-reads.Asked, starts-array-reads.Learnt, asked new-array-kinds.ps μ-new-array new-array.Pre t, new-array.Post, asked primary-kinds.ps μ-primary primary.Pre t, primary.Post, asked suffixes-kinds.ps μ-suffixes suffixes.Pre t, suffixes.Post)
 
 abbrev pub primary-calls : ℕ → primary-lts.Claims
-primary-calls t = (kind-reads.Asked, kind-reads.Learnt, is-atom-reads.Asked, is-atom-reads.Learnt, node-reads.Asked, node-reads.Learnt, new-object-reads.Asked, new-object-reads.Learnt, parentheses-below t, parentheses.Post)
+primary-calls t = (kind-reads.Asked, kind-reads.Learnt, is-atom-reads.Asked, is-atom-reads.Learnt, node-reads.Asked, node-reads.Learnt, new-object-reads.Asked, new-object-reads.Learnt, asked parentheses-kinds.ps μ-parentheses parentheses.Pre t, parentheses.Post)
 
 abbrev pub some-arguments-calls : ℕ → some-arguments-lts.Claims
-some-arguments-calls t = (operation-below t, operation.Post, kind-reads.Asked, kind-reads.Learnt, link-reads.Asked, link-reads.Learnt, some-arguments-below t, some-arguments.Post)
+some-arguments-calls t = (asked operation-kinds.ps μ-operation operation.Pre t, operation.Post, kind-reads.Asked, kind-reads.Learnt, link-reads.Asked, link-reads.Learnt, asked some-arguments-kinds.ps μ-some-arguments some-arguments.Pre t, some-arguments.Post, linked-reads.Asked, linked-reads.Learnt)
 
 abbrev pub suffixes-calls : ℕ → suffixes-lts.Claims
-suffixes-calls t = (kind-reads.Asked, kind-reads.Learnt, element-below t, element.Post, node-reads.Asked, node-reads.Learnt, suffixes-below t, suffixes.Post, call-below t, call.Post)
+suffixes-calls t = (kind-reads.Asked, kind-reads.Learnt, asked element-kinds.ps μ-element element.Pre t, element.Post, node-reads.Asked, node-reads.Learnt, asked suffixes-kinds.ps μ-suffixes suffixes.Pre t, suffixes.Post, asked call-kinds.ps μ-call call.Pre t, call.Post)
 
 abbrev pub unary-calls : ℕ → unary-lts.Claims
-unary-calls t = (kind-reads.Asked, kind-reads.Learnt, unary-below t, unary.Post, node-reads.Asked, node-reads.Learnt, postfix-below t, postfix.Post)
+unary-calls t = (kind-reads.Asked, kind-reads.Learnt, asked unary-kinds.ps μ-unary unary.Pre t, unary.Post, one-part-reads.Asked, one-part-reads.Learnt, asked postfix-kinds.ps μ-postfix postfix.Pre t, postfix.Post)

@@ -1,5 +1,5 @@
 -- The answers of `block`.
-use Prim.Native.Nat.{ℕ, _<_}
+use Prim.Native.Nat.{ℕ}
 use Rattle.parser.proofs.stmt.block.Reads as block
 use Rattle.parser.proofs.stmt.+block+branches+conditional+list+single+while_loop.Lts-block as block-lts
 use mathlib.Core.Path.{refl}
@@ -17,22 +17,21 @@ module _ (t : ℕ) where
 
   pub block-list-requires : block-lts.Need-list-requires (block-calls t) (block-at t) block.Post
   block-list-requires c κs =
-      omega (
-        arith,
-        there (c .before .before .args .table .now) (c .before .before .args .n) (c .before .before .args .i) _ 38 refl
-            (c .before .before .pre .1 .1) (lit< tt),
-      )
+      let w = there (c .before .before .args .table .now) (c .before .before .args .n) (c .before .before .args .i) _ 38 refl
+      (c .before .before .pre .1 .1) (lit< tt) in
+      omega arith
 
   pub block-followed-requires : block-lts.Need-followed-requires (block-calls t) (block-at t) block.Post
   block-followed-requires c κs = search needs
 
   pub block-one-part-requires : block-lts.Need-one-part-requires (block-calls t) (block-at t) block.Post
   block-one-part-requires c κs =
-      let g = c .before .before .before .before .before .before .before .before in (
+      let g = c .before .before .before .before .before .before .before .before in
+      let w = there (g .args .table .now) (g .args .n) (g .args .i) _ 38 refl (g .pre .1 .1) (lit< tt) in (
         omega arith,
-        omega (arith, there (g .args .table .now) (g .args .n) (g .args .i) _ 38 refl (g .pre .1 .1) (lit< tt)),
-        follows-fits
-            (c .before .followed .ensures) (list-fits (c .before .before .before .before .before .list .ensures)),
+        omega arith,
+        follows-fits (c .before .followed .ensures)
+            (list-fits (c .before .before .before .before .before .list .ensures)),
       )
 
   pub block-same-length : block-lts.Need-same-length (block-calls t) (block-at t) block.Post

@@ -1,5 +1,5 @@
 -- The answers of `branches`.
-use Prim.Native.Nat.{ℕ, _<_}
+use Prim.Native.Nat.{ℕ}
 use Rattle.parser.proofs.stmt.branches.Reads as branches
 use Rattle.parser.proofs.stmt.+block+branches+conditional+list+single+while_loop.Lts-branches as branches-lts
 use borrow.Author.Needs.{needs}
@@ -23,11 +23,9 @@ module _ (t : ℕ) where
 
   pub branches-single-requires-2 : branches-lts.Need-single-requires-2 (branches-calls t) (branches-at t) branches.Post
   branches-single-requires-2 c κs =
-      omega (
-        arith,
-        follows-ok (c .before .before .b .given .1) (c .before .before .before .before .followed .ensures) (lit< tt)
-            (c .before .before .before .before .before .before .before .before .single .ensures .within),
-      )
+      let w = follows-ok (c .before .before .b .given .1) (c .before .before .before .before .followed .ensures) (lit< tt)
+      (c .before .before .before .before .before .before .before .before .single .ensures .within) in
+      omega arith
 
   pub branches-enum-known-c : branches-lts.Need-enum-known-c (branches-calls t) (branches-at t) branches.Post
   branches-enum-known-c c = search needs
@@ -35,32 +33,26 @@ module _ (t : ℕ) where
   pub branches-node-requires : branches-lts.Need-node-requires (branches-calls t) (branches-at t) branches.Post
   branches-node-requires c κs =
       let g = c .before .before .before .before .before .before .before .before .before .before .before .before .before .before .before .before .before .before in
-      omega (
-        arith,
-        follows-ok (c .before .before .before .before .before .before .before .before .before .b .given .1)
-            (c .before .before .before .before .before .before .before .before .before .before .before .followed .ensures) (lit< tt)
-            (c .before .before .before .before .before .before .before .before .before .before .before .before .before .before .before .single
-            .ensures .within),
-        within-ok (c .before .before .c .given .1)
-            (c .before .before .before .before .before .before .single2 .ensures .within),
-        g .pre .1,
-      )
+      let w = follows-ok (c .before .before .before .before .before .before .before .before .before .b .given .1)
+      (c .before .before .before .before .before .before .before .before .before .before .before .followed .ensures) (lit< tt)
+      (c .before .before .before .before .before .before .before .before .before .before .before .before .before .before .before .single
+      .ensures .within) in
+      let l = within-ok (c .before .before .c .given .1) (c .before .before .before .before .before .before .single2 .ensures .within) in
+      let w₂ = g .pre .1 in
+      omega arith
 
   pub branches-third-requires : branches-lts.Need-third-requires (branches-calls t) (branches-at t) branches.Post
   branches-third-requires c κs =
       let g = c .before .before .before .before .before .before .before .before .before .before .before .before .before .before .before .before .before .before .before .before .before .before in
-      omega (
-        arith,
-        follows-ok
-            (c .before .before .before .before .before .before .before .before .before .before .before .before .before .b .given .1)
-            (c .before .before .before .before .before .before .before .before .before .before .before .before .before .before .before .followed
-            .ensures) (lit< tt) (c .before .before .before .before .before .before .before .before .before .before .before .before .before
-            .before .before .before .before .before .before .single .ensures .within),
-        within-ok
-            (c .before .before .before .before .before .before .c .given .1)
-            (c .before .before .before .before .before .before .before .before .before .before .single2 .ensures .within),
-        g .pre .1,
-      )
+      let w = follows-ok (c .before .before .before .before .before .before .before .before .before .before .before .before .before .b
+      .given .1) (c .before .before .before .before .before .before .before .before .before .before .before .before .before .before
+      .before .followed .ensures) (lit< tt)
+      (c .before .before .before .before .before .before .before .before .before .before .before .before .before .before .before .before
+      .before .before .before .single .ensures .within) in
+      let l = within-ok (c .before .before .before .before .before .before .c .given .1)
+      (c .before .before .before .before .before .before .before .before .before .before .single2 .ensures .within) in
+      let w₂ = g .pre .1 in
+      omega arith
 
   pub branches-enum-known-c-2 : branches-lts.Need-enum-known-c-2 (branches-calls t) (branches-at t) branches.Post
   branches-enum-known-c-2 c = search needs
@@ -74,6 +66,7 @@ module _ (t : ℕ) where
   pub branches-returns : branches-lts.Need-returns (branches-calls t) (branches-at t) branches.Post
   branches-returns c =
       let g = c .before .before .before .before .before .before .before .before .before .before .before .before .before .before .before .before .before .before .before .before .before .before .before .before .before in
+      let w = g .pre .1 in
       branches-ok (g .pre .1 .0 .few)
       (c .before .before .before .before .before .before .before .before .before .before .before .before .before .before .before .before
       .before .before .before .before .before .before .single .ensures)
@@ -81,7 +74,7 @@ module _ (t : ℕ) where
       .before .before .followed .ensures)
       (c .before .before .before .before .before .before .before .before .before .before .before .before .before .before .before .before
       .b .given .1) (c .before .before .before .before .before .before .before .before .before .before .before .before .before .single2
-      .ensures) (omega (arith, g .pre .1)) (c .before .before .before .before .before .before .before .before .before .c .given .1)
+      .ensures) (omega arith) (c .before .before .before .before .before .before .before .before .before .c .given .1)
       (c .before .before .before .before .before .before .node .ensures) (c .before .before .third .ensures)
 
   pub branches-same-length-2 : branches-lts.Need-same-length-2 (branches-calls t) (branches-at t) branches.Post

@@ -1,5 +1,5 @@
 -- The answers of `conditional`.
-use Prim.Native.Nat.{ℕ, _<_}
+use Prim.Native.Nat.{ℕ}
 use Rattle.parser.proofs.stmt.conditional.Reads as conditional
 use Rattle.parser.proofs.stmt.+block+branches+conditional+list+single+while_loop.Lts-conditional as conditional-lts
 use mathlib.Core.Path.{refl}
@@ -20,13 +20,10 @@ module _ (t : ℕ) where
   pub conditional-branches-requires : conditional-lts.Need-branches-requires (conditional-calls t) (conditional-at t) conditional.Post
   conditional-branches-requires c κs =
       let g = c .before .before .before .before .before .before .before .before .before in
-      omega (
-        arith,
-        within-ok (c .before .before .a .given .1)
-            (c .before .before .before .before .before .before .test .ensures .piece .within),
-        there (g .args .table .now) (g .args .n)
-            (g .args .i) _ 10 refl (g .pre .1 .1) (lit< tt),
-      )
+      let w = within-ok (c .before .before .a .given .1)
+      (c .before .before .before .before .before .before .test .ensures .piece .within) in
+      let l = there (g .args .table .now) (g .args .n) (g .args .i) _ 10 refl (g .pre .1 .1) (lit< tt) in
+      omega arith
 
   pub conditional-enum-known-a-2 : conditional-lts.Need-enum-known-a-2 (conditional-calls t) (conditional-at t) conditional.Post
   conditional-enum-known-a-2 c = search needs

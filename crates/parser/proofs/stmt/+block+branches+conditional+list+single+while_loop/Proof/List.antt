@@ -1,5 +1,5 @@
 -- The answers of `list`.
-use Prim.Native.Nat.{ℕ, _<_}
+use Prim.Native.Nat.{ℕ}
 use Rattle.parser.proofs.stmt.list.Reads as list
 use Rattle.parser.proofs.stmt.+block+branches+conditional+list+single+while_loop.Lts-list as list-lts
 use borrow.Author.Needs.{needs}
@@ -24,23 +24,14 @@ module _ (t : ℕ) where
 
   pub list-list-requires : list-lts.Need-list-requires (list-calls t) (list-at t) list.Post
   list-list-requires c κs =
-      omega (
-        arith,
-        within-ok (c .before .before .a .given .1)
-            (c .before .before .before .before .before .before .single .ensures .within),
-      )
+      let w = within-ok (c .before .before .a .given .1) (c .before .before .before .before .before .before .single .ensures .within) in
+      omega arith
 
   pub list-linked-requires : list-lts.Need-linked-requires (list-calls t) (list-at t) list.Post
-  list-linked-requires c κs = (
-    omega arith,
-    omega (
-      arith,
-      within-ok (c .before .before .before .before .before .before .a .given .1)
-          (c .before .before .before .before .before .before .before .before .before .before .single .ensures .within),
-    ),
-    list-fits
-        (c .before .before .before .list .ensures),
-  )
+  list-linked-requires c κs =
+      let w = within-ok (c .before .before .before .before .before .before .a .given .1)
+      (c .before .before .before .before .before .before .before .before .before .before .single .ensures .within) in
+      (omega arith, omega arith, list-fits (c .before .before .before .list .ensures))
 
   pub list-same-length : list-lts.Need-same-length (list-calls t) (list-at t) list.Post
   list-same-length c = search needs

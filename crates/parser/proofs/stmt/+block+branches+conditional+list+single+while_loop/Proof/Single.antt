@@ -1,5 +1,5 @@
 -- The answers of `single`.
-use Prim.Native.Nat.{ℕ, _<_}
+use Prim.Native.Nat.{ℕ}
 use Rattle.parser.proofs.stmt.single.Reads as single
 use Rattle.parser.proofs.stmt.+block+branches+conditional+list+single+while_loop.Lts-single as single-lts
 use mathlib.Core.Path.{sym, ap, _∙_}
