@@ -379,13 +379,42 @@ module _ {n i : ℕ} {T : List ℕ} where
         }
 
   -- `(e)`
-  pub parentheses-is : {T₁ : List ℕ} {r₁ r : Answer} → n ≤ 2048 → kindInTable T n i ≡ 34 → ModePost (operation (levelAt 0)) n n (i + 1) T r₁ T₁ → Follows T₁ n 35 r₁ r
-      → ModePost primary n n i T r T₁
-  unfolding step levelAt isName
-  parentheses-is few z p s =
-      let il = there T n i _ 34 refl z (omega arith) in
-      as-mode (omega arith) (omega arith) (λ f ts h. rw (is h i refl z) refl)
-      (then-token few (of-mode (16 * (n - (i + 1)) + 15) (omega arith) p) (omega arith) s)
+  module _ (z : kindInTable T n i ≡ 34) where
+    pub parentheses-ok : {x j k : ℕ} {T₁ : List ℕ} {r₁ : Answer} → n ≤ 2048 → ModePost (operation (levelAt 0)) n n (i + 1) T r₁ T₁ → r₁ ≡ At x j
+        → k ≡ kindInTable T₁ n j → k ≡ 35 → ModePost primary n n i T (At x (j + 1)) T₁
+    unfolding step levelAt isName
+    parentheses-ok {x} {j} {k} {T₁} {r₁} few p e ek z′ =
+        let il = there T n i _ 34 refl z (omega arith) in
+        let jl = there T₁ n j k 35 ek z′ (omega arith) in
+        let w = within-ok e (p .within) in
+        record {
+          kept = p .kept;
+          within = (omega arith, omega arith, w .2);
+          says = λ ts h. stepped primary ts i (fuel primary n i) (λ f enough. rw (is h i refl z)
+              (bind-ok _ e (p .says ts h f (omega arith)) (λ a ea ta. rw (is (tokens-kept few (p .kept) h) j ek z′) (met-ok ea ta))));
+        }
+
+    pub parentheses-close : {x j k : ℕ} {T₁ : List ℕ} {r₁ : Answer} → n ≤ 2048 → ModePost (operation (levelAt 0)) n n (i + 1) T r₁ T₁ → r₁ ≡ At x j
+        → k ≡ kindInTable T₁ n j → k ≢ 35 → ModePost primary n n i T (Bad j) T₁
+    unfolding step levelAt isName
+    parentheses-close {x} {j} {k} {T₁} {r₁} few p e ek z′ =
+        let il = there T n i _ 34 refl z (omega arith) in
+        record {
+          kept = p .kept;
+          within = tt;
+          says = λ ts h. stepped primary ts i (fuel primary n i) (λ f enough. rw (is h i refl z)
+              (bind-ok _ e (p .says ts h f (omega arith)) (λ a ea ta. rw (is-not (tokens-kept few (p .kept) h) j ek z′) met-bad)));
+        }
+
+    pub parentheses-bad : {k : ℕ} {T₁ : List ℕ} {r₁ : Answer} → ModePost (operation (levelAt 0)) n n (i + 1) T r₁ T₁ → r₁ ≡ Bad k → ModePost primary n n i T (Bad k) T₁
+    unfolding step levelAt isName
+    parentheses-bad p e =
+        let il = there T n i _ 34 refl z (omega arith) in
+        record {
+          kept = p .kept;
+          within = tt;
+          says = λ ts h. stepped primary ts i (fuel primary n i) (λ f enough. rw (is h i refl z) (bind-bad _ e (p .says ts h f (omega arith))));
+        }
 
 -- ARGUMENTS
 is-argument : (e : Expression) (es : Part arguments) (t : List ℕ)

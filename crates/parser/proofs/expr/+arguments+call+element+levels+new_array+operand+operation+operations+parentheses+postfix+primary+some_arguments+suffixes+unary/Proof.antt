@@ -99,7 +99,7 @@ pub +arguments+call+element+levels+new-array+operand+operation+operations+parent
     (λ t. operand-lts.spec (operand-calls t) (operand-at t) operand.Post (Operand.operand-add-operation t) (Operand.operand-operation-requires t) (Operand.operand-unary-requires t) (Operand.operand-same-length t) (Operand.operand-returns t) (Operand.operand-same-length-2 t) (Operand.operand-returns-2 t))
     (λ t. operation-lts.spec (operation-calls t) (operation-at t) operation.Post (Operation.operation-unary-requires t) (Operation.operation-enum-known-a t) (Operation.operation-levels-requires t) (Operation.operation-enum-known-a-2 t) (Operation.operation-same-length t) (Operation.operation-returns t) (Operation.operation-same-length-2 t) (Operation.operation-returns-2 t))
     (λ t. operations-lts.spec (operations-calls t) (operations-at t) operations.Post (Operations.operations-kind-requires t) (Operations.operations-is-operator-requires t) (Operations.operations-add-operand t) (Operations.operations-operand-requires t) (Operations.operations-enum-known-a t) (Operations.operations-node-requires t) (Operations.operations-operations-requires t) (Operations.operations-enum-known-a-2 t) (Operations.operations-same-length t) (Operations.operations-returns t) (Operations.operations-same-length-2 t) (Operations.operations-returns-2 t) (Operations.operations-same-length-3 t) (Operations.operations-returns-3 t))
-    (λ t. parentheses-lts.spec (parentheses-calls t) (parentheses-at t) parentheses.Post (Parentheses.parentheses-add-operation t) (Parentheses.parentheses-operation-requires t) (Parentheses.parentheses-followed-requires t) (Parentheses.parentheses-same-length t) (Parentheses.parentheses-returns t))
+    (λ t. parentheses-lts.spec (parentheses-calls t) (parentheses-at t) parentheses.Post (Parentheses.parentheses-add-operation t) (Parentheses.parentheses-operation-requires t) (Parentheses.parentheses-enum-known-a t) (Parentheses.parentheses-kind-requires t) (Parentheses.parentheses-add-t16 t) (Parentheses.parentheses-same-length t) (Parentheses.parentheses-returns t) (Parentheses.parentheses-enum-known-a-2 t) (Parentheses.parentheses-same-length-2 t) (Parentheses.parentheses-returns-2 t) (Parentheses.parentheses-same-length-3 t) (Parentheses.parentheses-returns-3 t))
     (λ t. postfix-lts.spec (postfix-calls t) (postfix-at t) postfix.Post (Postfix.postfix-starts-array-requires t) (Postfix.postfix-new-array-requires t) (Postfix.postfix-same-length t) (Postfix.postfix-returns t) (Postfix.postfix-primary-requires t) (Postfix.postfix-enum-known-a t) (Postfix.postfix-suffixes-requires t) (Postfix.postfix-enum-known-a-2 t) (Postfix.postfix-same-length-2 t) (Postfix.postfix-returns-2 t) (Postfix.postfix-same-length-3 t) (Postfix.postfix-returns-3 t))
     (λ t. primary-lts.spec (primary-calls t) (primary-at t) primary.Post (Primary.primary-kind-requires t) (Primary.primary-is-atom-requires t) (Primary.primary-node-requires t) (Primary.primary-add-t11 t) (Primary.primary-same-length t) (Primary.primary-returns t) (Primary.primary-new-object-requires t) (Primary.primary-same-length-2 t) (Primary.primary-returns-2 t) (Primary.primary-parentheses-requires t) (Primary.primary-same-length-3 t) (Primary.primary-returns-3 t) (Primary.primary-same-length-4 t) (Primary.primary-returns-4 t))
     (λ t. some-arguments-lts.spec (some-arguments-calls t) (some-arguments-at t) some-arguments.Post (SomeArguments.some-arguments-operation-requires t) (SomeArguments.some-arguments-enum-known-a t) (SomeArguments.some-arguments-kind-requires t) (SomeArguments.some-arguments-link-requires t) (SomeArguments.some-arguments-add-t19 t) (SomeArguments.some-arguments-same-length t) (SomeArguments.some-arguments-returns t) (SomeArguments.some-arguments-add-some-arguments t) (SomeArguments.some-arguments-some-arguments-requires t) (SomeArguments.some-arguments-linked-requires t) (SomeArguments.some-arguments-same-length-2 t) (SomeArguments.some-arguments-returns-2 t) (SomeArguments.some-arguments-enum-known-a-2 t) (SomeArguments.some-arguments-same-length-3 t) (SomeArguments.some-arguments-returns-3 t) (SomeArguments.some-arguments-same-length-4 t) (SomeArguments.some-arguments-returns-4 t))

@@ -170,7 +170,7 @@ abbrev pub operations-calls : ℕ → operations-lts.Claims
 operations-calls t = (kind-reads.Asked, kind-reads.Learnt, is-operator-reads.Asked, is-operator-reads.Learnt, asked operand-kinds.ps μ-operand operand.Pre t, operand.Post, node-reads.Asked, node-reads.Learnt, asked operations-kinds.ps μ-operations operations.Pre t, operations.Post)
 
 abbrev pub parentheses-calls : ℕ → parentheses-lts.Claims
-parentheses-calls t = (asked operation-kinds.ps μ-operation operation.Pre t, operation.Post, followed-reads.Asked, followed-reads.Learnt)
+parentheses-calls t = (asked operation-kinds.ps μ-operation operation.Pre t, operation.Post, kind-reads.Asked, kind-reads.Learnt)
 
 abbrev pub postfix-calls : ℕ → postfix-lts.Claims
 postfix-calls t = (starts-array-reads.Asked, starts-array-reads.Learnt, asked new-array-kinds.ps μ-new-array new-array.Pre t, new-array.Post, asked primary-kinds.ps μ-primary primary.Pre t, primary.Post, asked suffixes-kinds.ps μ-suffixes suffixes.Pre t, suffixes.Post)
