@@ -29,7 +29,7 @@ use Rattle.writer.specs.laws.Lengths.{grows}
 use Rattle.writer.specs.contracts.Posts.{room, PutPost, NextPost, AtMost, Written, Whatever, WritePost, innerS, endS}
 use Rattle.writer.specs.contracts.Posts.{formTested, SaysS}
 use Rattle.writer.specs.contracts.Posts.{StatementPost, LoadPost, FollowedPost, PairPost, BranchesPost, OtherwisePost, BodyPost}
-use Rattle.writer.proofs.RowLaws.{positive-statement, fewer, fewerS-statements}
+use Rattle.writer.proofs.RowLaws.{positive-statement, fewerS, fewer-statements}
 use Rattle.writer.proofs.PieceLaws.{put-one, next-to, over, Opens, node-wrote}
 use Rattle.writer.proofs.ExpressionLaws.{lexemes, both-wrote, nothing-wrote}
 
