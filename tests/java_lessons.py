@@ -2,7 +2,8 @@
 
 Each is accepted here and by javac, and means the same in both, so they keep out of what differs: nested comments, a carriage return in a `//` comment; locals that are
 read before they are assigned; loops whose test is constant, which make what follows them unreachable; names that only Java reserves (`null`, `for`, `final`, ..) or that java.lang.Object
-has as methods (`equals`, `wait`, ..); main's parameter. They keep within bayrun's limits, which Java does not have: 100,000 steps, 64 open calls, 4,096 heap words, 256 outputs.
+has as methods (`equals`, `wait`, ..); main's parameter; an array of a class where one of a class above it is due, which Java takes. They keep within bayrun's limits, which Java does
+not have: 100,000 steps, 64 open calls, 4,096 heap words, 256 outputs.
 """
 from lessons import class_of, main_with, method, program
 
@@ -97,6 +98,44 @@ ARRAYS = [
     lesson("x=new int[5];i=0;while(i<5){x[i]=this.tell(x.length-i);i=i+1;}i=0;while(i<5){" + show("x[x[i]-1]") + "i=i+1;}", "int[] x;int i;", methods=TELL),
 ]
 
+FLAGS = "public boolean[] flags(int n){boolean[] b;int i;b=new boolean[n];i=1;while(i<n){b[i]=!b[i-1];i=i+1;}return b;}"
+
+ARRAYS_OF_TRUTHS = [
+    lesson("b=new boolean[3];" + truths("b[0]", "b[1]", "b[2]") + "b[1]=true;b[0]=b[1]&&!b[2];b[2]=!b[0];" + truths("b[0]", "b[1]", "b[2]", "!b[2]&&b[0]") + show("b.length"),
+           "boolean[] b;", methods=BIT),
+    lesson(show("new boolean[3].length", "new boolean[0].length", "this.flags(6).length") + truths("(new boolean[3])[2]", "this.flags(6)[2]", "this.flags(6)[5]", "!this.flags(2)[0]"),
+           methods=BIT + FLAGS),
+    lesson("s=new boolean[60];i=2;while(i<60){if(!s[i]){" + show("i") + "j=i+i;while(j<60){s[j]=true;j=j+i;}}else{}i=i+1;}", "boolean[] s;int i;int j;"),
+    lesson("b=this.flags(7);i=0;while(i<b.length&&!(b[i]&&3<i)){i=i+1;}" + show("i") + "while(0-1<i&&i<b.length){if(b[i])" + show("i") + "else{}i=i-1;}", "boolean[] b;int i;", methods=FLAGS),
+    lesson("b=new boolean[4];b[this.tell(1)]=this.yes(2);b[this.tell(3)]=this.no(4)&&this.yes(5);" + truths("b[this.tell(1)]", "b[3]"), "boolean[] b;", methods=BIT + SAYS + TELL),
+    lesson("b=new boolean[2];c=b;b[this.swap()]=true;" + truths("c[1]", "b[1]") + show("c.length", "b.length"), "boolean[] c;", "boolean[] b;", BIT + "public int swap(){b=new boolean[5];return 1;}"),
+    lesson("c=new Y();" + show("c.start(2)", "c.count(3)") + truths("c.set(1)"), "Y c;", methods=BIT,
+           classes="class X{boolean[] s;public int start(int n){s=new boolean[n];return s.length;}public boolean set(int k){s[k]=true;return s[k]&&!s[0];}}"
+           "class Y extends X{int[] s;public int count(int n){s=new int[n];s[n-1]=n;return s[n-1]*10+s.length;}}"),
+]
+
+CELL = "class Cell{int v;public int put(int n){v=n;return v;}public int get(){return v;}}"
+CELLS = "public Cell[] cells(int n){Cell[] x;int i;int t;x=new Cell[n];i=0;while(i<n){x[i]=new Cell();t=x[i].put(i*i);i=i+1;}return x;}"
+
+ARRAYS_OF_OBJECTS = [
+    lesson("x=this.cells(4);" + show("x[3].get()", "x[0].get()+x[1].get()+x[2].get()", "x.length") + "x[0]=x[2];" + show("x[0].put(9)", "x[2].get()", "x[1].get()"),
+           "Cell[] x;", methods=CELLS, classes=CELL),
+    lesson(show("this.cells(5)[4].get()", "this.cells(3).length", "new Cell[2].length", "new T[0].length", "this.cells(this.cells(3)[2].get())[3].get()"), methods=CELLS, classes=CELL),
+    # A name and a `[` at the start of a body: an element of a field, and an array of a class.
+    lesson("Cell=this.cells(2);" + show("this.first(6)", "this.other(7)", "Cell[0].get()"), "", "Cell[] Cell;",
+           CELLS + "public int first(int n){Cell[0]=Cell[1];return Cell[0].put(n);}public int other(int n){Cell[] Cell;Cell=this.cells(3);Cell[0]=new Cell();return Cell[0].put(n)+Cell[2].get();}", CELL),
+    lesson("x=new T[3];x[0]=this;x[1]=x[0];x[2]=x[1].self();" + show("x[2].up(1)", "x[0].up(2)", "n"), "T[] x;", "int n;", "public T self(){return this;}public int up(int k){n=n*10+k;return n;}"),
+    lesson("x=this.cells(7);i=0;while(i<7){t=x[i].put((i*5+3)*(4-i));i=i+1;}i=0;while(i<7){j=0;while(j<6-i){if(x[j+1].get()<x[j].get()){c=x[j];x[j]=x[j+1];x[j+1]=c;}else{}j=j+1;}i=i+1;}i=0;while(i<7){"
+           + show("x[i].get()") + "i=i+1;}", "Cell[] x;Cell c;int i;int j;int t;", methods=CELLS, classes=CELL),
+    lesson("x=this.cells(3);y=x;" + show("this.change(x)", "y[0].get()", "x[1].get()", "x[2].get()") + "y=this.cells(2);" + show("x.length", "y.length"), "Cell[] x;Cell[] y;",
+           methods=CELLS + "public int change(Cell[] p){int t;t=p[1].put(50);p[0]=p[2];p=new Cell[1];p[0]=new Cell();return p[0].put(77);}", classes=CELL),
+    lesson("x=this.cells(3);x[this.tell(1)]=this.made(2);" + show("x[1].get()", "x[this.tell(2)].put(this.tell(8))", "this.sum(x[0],x[this.tell(1)])"), "Cell[] x;",
+           methods=TELL + CELLS + "public Cell made(int k){Cell c;System.out.println(k);c=new Cell();k=c.put(k*100);return c;}public int sum(Cell a,Cell b){return a.get()+b.get();}", classes=CELL),
+    lesson("r=new Row();" + show("r.grow(3)", "r.count()", "r.at(0).at(1).count()"), "Row r;",
+           classes="class Row{Row[] below;boolean is;public int grow(int n){int i;int t;if(0<n){is=true;below=new Row[2];i=0;while(i<below.length){below[i]=new Row();t=below[i].grow(n-1);i=i+1;}}else{}return n;}"
+           "public Row at(int k){return below[k];}public int count(){int r;r=1;if(is)r=r+below[0].count()+below[1].count();else{}return r;}}"),
+]
+
 LIST = "class Node{int v;Node next;public int set(int x,Node n){v=x;next=n;return x;}public int value(){return v;}public Node rest(){return next;}}"
 TREE = ("class Tree{int key;Tree low;Tree high;boolean full;public int add(int k){int r;if(full){if(k<key)r=low.add(k);else r=high.add(k);}"
         "else{key=k;full=true;low=new Tree();high=new Tree();r=k;}return r;}"
@@ -128,6 +167,8 @@ ABC = ("class A{int n;public int id(){return 1;}public int twice(){return this.i
        "class B extends A{public int id(){return 20;}}class C extends B{int m;public int get(){return n*100+m;}public int mark(){m=7;return this.twice();}}")
 
 INHERITANCE = [
+    lesson("x=new A[3];x[0]=new C();x[1]=new A();x[2]=new B();i=0;while(i<x.length){" + show("x[i].twice()", "x[i].set(i+4)", "x[i].get()") + "i=i+1;}" + show("this.total(x)"), "A[] x;int i;",
+           methods="public int total(A[] x){int i;int r;i=0;r=0;while(i<x.length){r=r*10+x[i].get();i=i+1;}return r;}", classes=ABC),
     lesson("a=new A();b=new B();c=new C();" + show("a.twice()", "b.twice()", "c.twice()", "a.set(5)", "b.set(6)", "c.set(8)", "c.mark()", "a.get()", "b.get()", "c.get()"), "A a;B b;C c;", classes=ABC),
     lesson("a=new C();" + show("a.id()", "a.set(3)", "a.get()") + "a=new B();" + show("a.id()", "a.get()") + "a=new A();" + show("a.id()", "a.get()"), "A a;", classes=ABC),
     lesson(show("this.ask(new A())", "this.ask(new B())", "this.ask(new C())", "this.ask(this.pick(0))", "this.ask(this.pick(1))"),
@@ -212,7 +253,7 @@ WRITING = [
 ]
 
 # How each way of a fault ends. What was printed before it counts too, so parts that come before it print.
-NULL = "T none;int[] nothing;"
+NULL = "T none;int[] nothing;boolean[] flags;T[] row;"
 FAULTS = [
     (40, lesson(show("none.id()"), "", NULL, "public int id(){return 1;}")),
     (40, lesson(show("nothing[0]"), "", NULL)),
@@ -229,7 +270,19 @@ FAULTS = [
     (40, lesson(show("this.len(this.tell(1),nothing)"), "", NULL, TELL + "public int len(int k,int[] x){System.out.println(k);return x.length;}")),
     (40, lesson(show("1", "2-none.deep(3)"), "", NULL, "public int deep(int n){return n;}")),
     (40, lesson("a=new A();" + show("a.up(3)"), "A a;", classes="class A{A next;public int up(int n){int r;if(n<1)r=next.up(9);else r=this.up(n-1)+n;System.out.println(r);return r;}}")),
+    (40, lesson(show("row.length"), "", NULL)),
+    (40, lesson(show("row[0].id()"), "", NULL, "public int id(){return 1;}")),
+    (40, lesson("row=new T[2];row[0]=this;" + show("row[0].id()", "row[this.tell(1)].id()"), "", NULL, TELL + "public int id(){return 1;}")),
+    (40, lesson("row=new T[2];row[0]=row[1];" + show("row.length", "row[0].two(this.tell(3),this.tell(4))"), "", NULL, TELL + "public int two(int a,int b){return a;}")),
+    (40, lesson("flags[this.tell(1)]=this.yes(2);", "", NULL, TELL + SAYS)),
+    (40, lesson("if(this.yes(1)&&flags[this.tell(2)])" + show("3") + "else " + show("4"), "", NULL, TELL + SAYS)),
+    (40, lesson("row[this.tell(0-7)]=this;", "", NULL, TELL)),
     (41, program("(new int[1])[1]")),
+    (41, program("(new A[2])[0-1].m()") + class_of("A", method())),
+    (41, lesson("if((new boolean[2])[this.tell(2)])" + show("1") + "else " + show("2"), methods=TELL)),
+    (41, lesson("b=new boolean[2];b[1]=true;b[2]=this.yes(4);", "boolean[] b;", methods=SAYS)),
+    (41, lesson("row=new T[2];row[1]=this;row[this.tell(2)]=row[0];" + show("3"), "", NULL, TELL)),
+    (41, lesson("row=new T[0];" + show("row.length", "row[0].id()"), "", NULL, "public int id(){return 1;}")),
     (41, lesson("x=new int[3];" + show("x[2]", "x[3]"), "int[] x;")),
     (41, lesson("x=new int[3];" + show("x[0-1]"), "int[] x;")),
     (41, lesson("x=new int[0];" + show("x.length", "x[0]"), "int[] x;")),
@@ -244,6 +297,9 @@ FAULTS = [
     (41, lesson("x=new int[2];if(x[1]<1&&x[2]<1)" + show("1") + "else " + show("2"), "int[] x;")),
     (41, lesson("x=new int[2];" + show("this.back(x,3)"), "int[] x;", methods="public int back(int[] x,int n){int r;System.out.println(n);r=this.back(x,x[n-2]+n-1);return r;}")),
     (42, program("new int[0-1].length")),
+    (42, program("new boolean[0-1].length")),
+    (42, program("new A[0-1].length") + class_of("A")),
+    (42, lesson(show("this.len(new T[this.tell(1)],new boolean[this.tell(0-3)])"), methods=TELL + "public int len(T[] a,boolean[] b){return 1;}")),
     (42, lesson("x=new int[2147483647+1];" + show("x.length"), "int[] x;")),
     (42, lesson("n=3;while(0-9<n){" + show("n") + "x=new int[n];n=n-2;}", "int n;int[] x;")),
     (42, lesson(show("this.len(new int[this.tell(2)],new int[this.tell(0-2)],new int[this.tell(3)])"), methods=TELL + "public int len(int[] a,int[] b,int[] c){return 1;}")),
@@ -258,6 +314,8 @@ KINDS = [
     ("short circuit", SHORT_CIRCUIT),
     ("loops", LOOPS),
     ("arrays", ARRAYS),
+    ("arrays of truths", ARRAYS_OF_TRUTHS),
+    ("arrays of objects", ARRAYS_OF_OBJECTS),
     ("recursion", RECURSION),
     ("inheritance", INHERITANCE),
     ("hidden fields", HIDDEN_FIELDS),

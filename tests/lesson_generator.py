@@ -3,10 +3,13 @@
 A lesson has some classes, one below the other or not, fields that may hide others, and methods m0, m1, .. that subclasses redeclare. A method calls only those of smaller numbers, or itself
 with a smaller first argument, and loops turn a fixed number of times; so what a lesson can cost at most is added up as it is written, and kept below bayrun's limits.
 Locals are assigned before anything else, as Java asks. A bold lesson now and then uses a field that may still be null, an index that may be outside, or a size that may be negative.
+An array type fits only itself here, as document 02, (vi), has it, so that Java's tests of what is stored never fail; and but for bold lessons an array of a class is filled where it is made:
+by statements that assign each element, or by a method row0, row1, .. that each class has.
 """
 from lessons import fits, main_with
 
-INT, BOOLEAN, ARRAY = "int", "boolean", "int[]"
+INT, BOOLEAN = "int", "boolean"
+MARK = "[]"
 
 # How tightly forms bind, from `&&` to what may stand before a dot.
 AND, LESS, SUM, PRODUCT, NOT, POSTFIX = range(6)
@@ -14,6 +17,23 @@ AND, LESS, SUM, PRODUCT, NOT, POSTFIX = range(6)
 # At most, for main: steps, heap words, printed numbers, open calls.
 MOST = (90000, 3800, 240, 60)
 NOTHING = (0, 0, 0, 0)
+
+
+def array_of(element):
+    return element + MARK
+
+
+def is_array(wanted):
+    return wanted.endswith(MARK)
+
+
+def element_of(array):
+    return array[: -len(MARK)]
+
+
+def is_plain(wanted):
+    """Whether there is no null of the type."""
+    return wanted in (INT, BOOLEAN)
 
 
 def both(a, b):
@@ -68,8 +88,9 @@ class Expression:
 
 
 class Class:
-    def __init__(self, name, parent):
-        self.name, self.parent = name, parent
+    def __init__(self, k, parent):
+        self.name, self.parent = "C%d" % k, parent
+        self.row = "row%d" % k  # the name of the method that makes an array of this class, all of whose elements are the receiver
         self.fields = {}
         self.methods = []
 
@@ -114,14 +135,24 @@ class Body:
             return self.integer(depth)
         if wanted == BOOLEAN:
             return self.truth(depth)
-        if wanted == ARRAY:
-            return self.array(depth)
-        return self.object(wanted, depth)
+        return self.array(wanted, depth) if is_array(wanted) else self.object(wanted, depth)
 
     def variable(self, wanted):
         """A name of the type, and not null unless the lesson is bold; None where there is none."""
-        those = [n for n in self.of_type(wanted) if wanted in (INT, BOOLEAN) or n in self.known or self.lesson.dares()]
+        those = [n for n in self.of_type(wanted) if is_plain(wanted) or self.is_safe(n)]
         return Expression(self.dice.pick(those), POSTFIX, step()) if those else None
+
+    def is_safe(self, name):
+        return name in self.known or self.lesson.dares()
+
+    def arrays(self, element=None):
+        """The types of the arrays that have names, or of those whose elements fit; int[] or the element's own where there are none."""
+        named = {t for t in self.names.values() if is_array(t)}
+        return sorted(t for t in named if element is None or self.lesson.fits(element_of(t), element)) or [array_of(element or INT)]
+
+    def element(self, array, index):
+        before = "(" + array.text + ")" if array.is_new_array else array.at(POSTFIX)
+        return Expression(before + "[" + index.text + "]", POSTFIX, step(array.cost, index.cost))
 
     def literal(self):
         small = self.dice.below(12)
@@ -143,12 +174,10 @@ class Body:
             sign, binding = self.dice.pick([("+", SUM), ("-", SUM), ("*", PRODUCT)])
             return self.binary(sign, binding, self.integer(depth - 1), self.integer(depth - 1))
         if way < 8:
-            array = self.array(depth - 1)
+            array = self.array(self.dice.pick(self.arrays()), depth - 1)
             return Expression(array.at(POSTFIX) + ".length", POSTFIX, step(array.cost))
         if way < 10:
-            array, index = self.array(depth - 1), self.index(depth - 1)
-            before = "(" + array.text + ")" if array.is_new_array else array.at(POSTFIX)
-            return Expression(before + "[" + index.text + "]", POSTFIX, step(array.cost, index.cost))
+            return self.element(self.array(array_of(INT), depth - 1), self.index(depth - 1))
         return self.call(INT, depth) or self.integer(depth - 1)
 
     def index(self, depth):
@@ -160,7 +189,7 @@ class Body:
         return Expression(str(self.dice.below(self.lesson.length)), POSTFIX, step())
 
     def truth(self, depth):
-        way = self.dice.below(10) if 0 < depth else self.dice.below(3)
+        way = self.dice.below(12) if 0 < depth else self.dice.below(3)
         if way < 1:
             return Expression(self.dice.pick(["true", "false"]), POSTFIX, step())
         if way < 3:
@@ -172,25 +201,38 @@ class Body:
         if way < 9:
             e = self.truth(depth - 1)
             return Expression("!" + e.at(NOT), NOT, step(e.cost))
+        if way < 11:
+            return self.element(self.array(array_of(BOOLEAN), depth - 1), self.index(depth - 1))
         return self.call(BOOLEAN, depth) or self.truth(depth - 1)
 
-    def array(self, depth):
+    def array(self, wanted, depth):
         way = self.dice.below(8)
-        known = self.variable(ARRAY)
+        known = self.variable(wanted)
         if known and (way < 6 or depth < 1):
             return known
-        called = self.call(ARRAY, depth) if 0 < depth and way < 7 else None
+        called = self.call(wanted, depth) if 0 < depth and way < 7 else None
         if called:
             return called
+        element = element_of(wanted)
         if self.lesson.dares():
-            return Expression("new int[%d-%d]" % (self.dice.below(3), 1 + self.dice.below(2)), POSTFIX, (4, 2, 0, 0), True)
+            return Expression("new %s[%d-%d]" % (element, self.dice.below(3), 1 + self.dice.below(2)), POSTFIX, (4, 2, 0, 0), True)
         size = self.lesson.length + self.dice.below(3)
-        return Expression("new int[%d]" % size, POSTFIX, (2, size + 1, 0, 0), True)
+        return self.new_array(element, size) if is_plain(element) else self.row(self.lesson.class_of(element), size)
+
+    def new_array(self, element, size):
+        return Expression("new %s[%d]" % (element, size), POSTFIX, (2, size + 1, 0, 0), True)
+
+    def row(self, c, size):
+        """An array of a class that is filled: a new object's call, 10 steps of its method and 11 for each element."""
+        return Expression("new %s().%s(%d)" % (c.name, c.row, size), POSTFIX, (13 + 11 * size, self.lesson.size(c) + 1 + size, 0, 1))
 
     def object(self, wanted, depth):
         known = self.variable(wanted)
         if self.owner and self.lesson.fits(self.owner.name, wanted) and self.dice.chance(50):
             return Expression("this", POSTFIX, step())
+        rows = [n for n in sorted(self.names) if self.names[n] in self.arrays(wanted) and self.is_safe(n)]
+        if rows and self.dice.chance(60):
+            return self.element(Expression(self.dice.pick(rows), POSTFIX, step()), self.index(0))
         if known and self.dice.chance(70):
             return known
         called = self.call(wanted, depth) if 0 < depth and self.dice.chance(40) else None
@@ -234,11 +276,27 @@ class Body:
             return self.showing(depth)
         target = self.dice.pick(targets)
         wanted = self.names[target]
-        if wanted == ARRAY and target in self.known and self.dice.chance(80):
-            index, value = self.index(depth), self.integer(depth)
-            return "%s[%s]=%s;" % (target, index.text, value.text), step(index.cost, value.cost)
+        if is_array(wanted) and target in self.known and self.dice.chance(80):
+            return self.element_assignment(target, self.index(depth), self.expression(element_of(wanted), depth))
+        if is_array(wanted) and not is_plain(element_of(wanted)) and self.dice.chance(50):
+            return self.filling(target, element_of(wanted))
         value = self.expression(wanted, depth)
         return "%s=%s;" % (target, value.text), step(value.cost)
+
+    def element_assignment(self, target, index, value):
+        return "%s[%s]=%s;" % (target, index.text, value.text), step(index.cost, value.cost)
+
+    def filling(self, target, element):
+        """A new array of a class, and a value for each element. Before the last has one nothing is called and, but for bold lessons, none is read."""
+        made = self.new_array(element, self.lesson.length)
+        texts, costs = ["%s=%s;" % (target, made.text)], [step(made.cost)]
+        self.known.discard(target)
+        for k in range(self.lesson.length):
+            text, cost = self.element_assignment(target, Expression(str(k), POSTFIX, step()), self.object(element, 0))
+            texts.append(text)
+            costs.append(cost)
+        self.known.add(target)
+        return "".join(texts), total(costs)
 
     def showing(self, depth):
         value = self.integer(depth)
@@ -306,7 +364,7 @@ class Lesson:
         self.finished = []
         for k in range(2 + self.dice.below(4)):
             parent = self.dice.pick(self.classes) if self.classes and self.dice.chance(65) else None
-            self.classes.append(Class("C%d" % k, parent))
+            self.classes.append(Class(k, parent))
         for c in self.classes:
             for _ in range(self.dice.below(4)):
                 c.fields["f%d" % self.dice.below(5)] = self.any_type()
@@ -318,14 +376,16 @@ class Lesson:
         return self.dice.chance(self.bold)
 
     def any_type(self):
-        way = self.dice.below(8)
-        return INT if way < 4 else BOOLEAN if way < 5 else ARRAY if way < 6 else self.dice.pick(self.classes).name
+        way = self.dice.below(10)
+        if way < 7:
+            return INT if way < 4 else BOOLEAN if way < 5 else self.dice.pick(self.classes).name
+        return array_of(self.dice.pick([INT, BOOLEAN, self.dice.pick(self.classes).name]))
 
     def class_of(self, name):
         return next(c for c in self.classes if c.name == name)
 
     def fits(self, given, wanted):
-        if given == wanted or given in (INT, BOOLEAN, ARRAY) or wanted in (INT, BOOLEAN, ARRAY):
+        if any(is_plain(t) or is_array(t) for t in (given, wanted)):
             return given == wanted
         return any(c.name == wanted for c in self.class_of(given).chain())
 
@@ -376,7 +436,7 @@ class Lesson:
             body.known.add(name)
         body.kept.update(["i", "j"])
         for name, wanted in sorted(c.visible().items()):
-            if body.names[name] == wanted and wanted not in (INT, BOOLEAN) and name not in parameters and self.dice.chance(75):
+            if body.names[name] == wanted and not is_plain(wanted) and name not in parameters and self.dice.chance(75):
                 value = body.expression(wanted, 0)
                 first.append(("%s=%s;" % (name, value.text), step(value.cost)))
                 body.known.add(name)
@@ -398,14 +458,16 @@ class Lesson:
     def again(self, m, body, parameters):
         """The call of itself, with a smaller first argument, where that is above 0."""
         n = parameters[0]
-        given = ["%s-1" % n] + [body.expression(w, 0).text for w in m.parameters[1:]]
-        call = "this.%s(%s)" % (m.name, ",".join(given))
+        given = [body.expression(w, 0) for w in m.parameters[1:]]
+        call = "this.%s(%s)" % (m.name, ",".join(["%s-1" % n] + [g.text for g in given]))
+        # The conditional, its test, the assignment or the print, the call, `this`, and the first argument.
+        cost = both((11, 0, 0, 0), total(g.cost for g in given))
         targets = [name for name in body.of_type(m.result) if body.names[name] == m.result and name not in body.kept]
         if not targets and m.result == INT:
-            return "if(0<%s)System.out.println(%s);else{}" % (n, call), (20 + 4 * len(given), 8, 1, 0)
+            return "if(0<%s)System.out.println(%s);else{}" % (n, call), both(cost, (0, 0, 1, 0))
         if not targets:
             return "", NOTHING
-        return "if(0<%s)%s=%s;else{}" % (n, self.dice.pick(targets), call), (20 + 4 * len(given), 8 * len(given), 0, 0)
+        return "if(0<%s)%s=%s;else{}" % (n, self.dice.pick(targets), call), cost
 
     def text(self):
         shown = []
@@ -421,7 +483,8 @@ class Lesson:
         for c in self.classes:
             fields = "".join("%s %s;" % (wanted, name) for name, wanted in sorted(c.fields.items()))
             head = "class " + c.name + (" extends " + c.parent.name if c.parent else "")
-            declared.append(head + "{" + fields + "\n" + "\n".join(c.methods) + "}")
+            row = "public %s[] %s(int n){%s[] r;int i;r=new %s[n];i=0;while(i<n){r[i]=this;i=i+1;}return r;}" % (c.name, c.row, c.name, c.name)
+            declared.append(head + "{" + fields + "\n" + "\n".join(c.methods + [row]) + "}")
         return main_with("{" + "\n".join(shown) + "}") + "\n" + "\n".join(declared)
 
 

@@ -205,6 +205,47 @@ def fault_rows():
     ]
 
 
+def array_rows():
+    """Document 02, (vi): arrays of booleans and of a class, whose elements begin as false and null; no objects are made. Main has 3 nodes before the method begins, and a call of `t` 6."""
+    one = class_of("A", "int x;" + method())
+    held = "c=new A[2];c[0]=this;c[1]=new B();"
+    tail = "public int t(int k){System.out.println(k);return k;}"
+
+    def in_method(body, value="1"):
+        return program("new A().m()") + class_of("A", "boolean[] b;A[] c;" + method(body, value=value) + tail)
+
+    return [
+        fine(program("new boolean[3].length"), 4, 4, 3, heap=4),
+        stopped(51, program("@new boolean[3].length"), 4, 0, heap=3),
+        fine(program("new boolean[0].length"), 4, 1, 0, heap=1),
+        stopped(42, program("@new boolean[0-1].length"), 6, 0, heap=0),
+        fine(program("new A[3].length") + one, 4, 4, 3, heap=4),
+        stopped(51, program("@new A[3].length") + one, 4, 0, heap=3),
+        fine(program("new A[16383].length") + one, 4, 16384, 16383, heap=16384),
+        stopped(42, program("@new A[0-1].length") + one, 6, 0, heap=0),
+        stopped(50, program("new A[@1].length") + one, 3, 0, budget=3),
+        stopped(50, program("(new A[1])[@0].m()") + one, 5, 2, budget=5),
+        fine(main_with("if((new boolean[2])[1])System.out.println(1);else System.out.println(2);"), 7, 3, 2),
+        stopped(41, main_with("if(@(new boolean[2])[2]){}else{}"), 5, 3),
+        stopped(41, program("@(new A[1])[1].m()") + one, 6, 2),
+        stopped(40, program("@(new A[1])[0].m()") + one, 6, 2),
+        stopped(40, in_method("@b[this.t(1)]=this.t(2)<3;"), 3 + 1 + 6 + 8, 3, 1, 2),
+        stopped(40, in_method("@c[0-1]=this;"), 3 + 5, 3),
+        stopped(40, in_method("", "@c.length"), 3 + 2, 3),
+        stopped(40, in_method("", "@c[0].t(this.t(4))"), 3 + 4, 3),
+        stopped(40, in_method("c=new A[2];c[0]=this;", "c[0].t(1)+@c[1].t(this.t(4))"), 3 + 3 + 3 + 1 + 8 + 4 + 6, 6, 1, 4),
+        stopped(41, in_method("b=new boolean[2];b[1]=true;@b[2]=b[1];"), 3 + 3 + 3 + 5, 6),
+        stopped(41, in_method("c=new A[2];@c[2]=c[0];"), 3 + 3 + 5, 6),
+        fine(in_method("b=new boolean[2];b[1]=!b[0];if(b[0]&&b[1])System.out.println(4);else if(b[1])System.out.println(5);else{}"), 3 + 3 + 6 + 5 + 6 + 1, 6, 5, 1),
+        # An element holds an object of the class, or of one below it.
+        fine(program("new A().m()") + class_of("A", "A[] c;" + method(held, value="c[0].k()+c[1].k()*10") + method(name="k")) + class_of("B", method(name="k", value="2"), "A"),
+             3 + 3 + 3 + 3 + 13, 2 + 3 + 2, 21),
+        # The index gives the field another array; the one that was read is written.
+        fine(program("new A().m()") + class_of("A", "A[] c;" + method("A[] d;c=new A[2];d=c;c[this.s()]=this;", value="d[1].t(7)+c.length") + tail + "public int s(){c=new A[5];return 1;}"),
+             3 + 3 + 2 + 8 + 11, 2 + 3 + 6, 7, 12),
+    ]
+
+
 def errors():
     """Lines of run that are no case, and what the program says of each."""
     return [
@@ -237,4 +278,4 @@ def errors():
 
 
 def run_rows():
-    return bench_rows() + zero_rows() + strip_rows() + order_rows() + budget_rows() + heap_rows() + call_rows() + output_rows() + fault_rows()
+    return bench_rows() + zero_rows() + strip_rows() + order_rows() + budget_rows() + heap_rows() + call_rows() + output_rows() + fault_rows() + array_rows()

@@ -16,25 +16,26 @@ use Rattle.base.specs.Outcome.{Outcome, accepted, refused, _>>=_}
 use Rattle.base.specs.contracts.Table.{col}
 use Rattle.lexer.specs.Kinds.{isName}
 use Rattle.lexer.specs.Tokens.{Token}
-use Rattle.parser.specs.Tree.{Name, Sort.arguments, Part, Expression, placeE, Ty, Ty.int, Ty.boolean, Ty.intArray, Ty.class}
+use Rattle.parser.specs.Tree.{Name, Sort.arguments, Part, Expression, placeE}
+use Rattle.parser.specs.Tree.{Element, Element.int, Element.boolean, Element.class, Ty, Ty.plain, Ty.arrayOf}
 use Rattle.parser.specs.Tree.{Part.noArguments, Part.argument, Variable, Class}
 use Rattle.parser.specs.contracts.Layout.{absent, rowOf, rowVariables}
 use Rattle.parser.specs.contracts.Post.{isAtom, kindInTable}
 use Rattle.reader.specs.contracts.Spans.{Spans}
 use Rattle.reader.specs.laws.SpanLaws.{inside}
 use Rattle.typesystem.specs.ClassTable.{Found, Context, chain, methodOf}
-use Rattle.typesystem.specs.Judge.{judge, must, receiver, arity, invocation}
+use Rattle.typesystem.specs.Judge.{judge, must, receiver, ofArray, arity, invocation}
 use Rattle.lookup.specs.declared.answer.Judged.{Judged}
 use Rattle.lookup.specs.declared.answer.Judged.the-variants.{Fine, Refused}
 use Rattle.lookup.specs.contracts.HeldClasses.{wordAt, NameNumber, MaybeNumber, no-name, a-name, noType, VariablesHeld, more-variables}
-use Rattle.lookup.specs.contracts.HeldClasses.{MethodHeld, Codes, code-int, code-boolean, code-intArray, code-class, ListedAt}
+use Rattle.lookup.specs.contracts.HeldClasses.{MethodHeld, code-int, code-boolean, code-class, Codes, code-plain, code-array, ListedAt}
 use Rattle.lookup.specs.laws.HeldLaws.{word-in, row-there}
 use Rattle.lookup.specs.contracts.Lookups.{TypeOf, Knows, Fits, rowFound, FindsMethod}
 use Rattle.lookup.specs.laws.ChainLaws.{found-stands}
 use Rattle.lookup.specs.laws.VariableLaws.{typed-some, typed-none}
 use Rattle.lookup.specs.contracts.Answers.{asJudged, asJudged-fine, asJudged-refused, Judges, well, ill}
 use Rattle.lookup.specs.contracts.Shows.{PartAt, Form, aVariable, aNewArray, aNewObject, aNegation, aBinary, anElement, aLength, aCall}
-use Rattle.lookup.specs.contracts.Shows.{aLiteral, aTruth, aThis, formAtom, formCompound, formE, GoesOn, one-more-argument}
+use Rattle.lookup.specs.contracts.Shows.{aLiteral, aTruth, aThis, formAtom, formCompound, formE, formAt, GoesOn, one-more-argument}
 use Rattle.lookup.specs.contracts.Shows.{shows-literal, shows-truth, shows-variable, shows-this, shows-new-array, shows-new-object}
 use Rattle.lookup.specs.contracts.Shows.{shows-negation, shows-binary, shows-element, shows-length, shows-call}
 use Rattle.lookup.specs.laws.ShowLaws.{goes-on, ended}
@@ -42,9 +43,11 @@ use Rattle.bodies.specs.declared.scope.Scope.{Scope}
 use Rattle.bodies.specs.contracts.Scoping.{InScope, PartIn, NameTyped}
 use Rattle.bodies.specs.contracts.OperatorPost.{OperationPost}
 use Rattle.bodies.specs.contracts.ExpressionPost.{Invoked, NamePost, ThisPost, NodeJudged, NodePost, AtomPost, CreationPost}
-use Rattle.bodies.specs.contracts.ExpressionPost.{DottedPost, ExpressionPost, OperandPost, SinglePost, InvocationPost, ArgumentsPost}
+use Rattle.bodies.specs.contracts.ExpressionPost.{DottedPost, ExpressionPost, OperandPost, SinglePost, ArrayPost, NewArrayPost}
+use Rattle.bodies.specs.contracts.ExpressionPost.{LengthPost, InvocationPost, ArgumentsPost}
 use Rattle.bodies.specs.contracts.ExpressionPost.{ObjectPost, SameCount}
-use Rattle.bodies.proofs.PartLaws.{judges-fine, judges-refused, judged-fine, judged-refused, goes, halts, few-tokens}
+use Rattle.bodies.proofs.PartLaws.{judges-fine, judges-refused, judged-fine, judged-refused, goes, halts, plain-code, array-code}
+use Rattle.bodies.proofs.PartLaws.{array-fine, array-refused, few-tokens}
 use Rattle.bodies.proofs.PartLaws.{one-more, lies, seen-in, start-of}
 
 -- a form by another name
@@ -75,7 +78,7 @@ module _ {tab : List ℕ} {s : Scope} {row : ℕ} where
   this-main {at₃} far e₃ = record { says = λ ts G Γ i p st. go (few-tokens i) (Γ .owner) (i .declarer) (sym st ∙ sym e₃) }
     where
       go : {ts : List Token} → length ts ≤ 2048 → {p : ℕ} (o : Option (List ℕ)) → MaybeNumber ts o (s .owner) → p ≡ at₃
-          → Judges ts (option o (refused thisInMain p) λ c. accepted (class c)) (Refused thisInMain at₃)
+          → Judges ts (option o (refused thisInMain p) λ c. accepted (plain (class c))) (Refused thisInMain at₃)
       go few none (no-name q) z = rw z ill
       go few (some c) (a-name sp) z = absurd (omega (arith, sp .there))
 
@@ -84,9 +87,9 @@ module _ {tab : List ℕ} {s : Scope} {row : ℕ} where
   this-object near = record { says = λ ts G Γ i p st. go (p .start) (Γ .owner) (i .declarer) }
     where
       go : {ts : List Token} (p : ℕ) (o : Option (List ℕ)) → MaybeNumber ts o (s .owner)
-          → Judges ts (option o (refused thisInMain p) λ c. accepted (class c)) (Fine (s .owner))
+          → Judges ts (option o (refused thisInMain p) λ c. accepted (plain (class c))) (Fine (s .owner))
       go p none (no-name q) = absurd (omega arith)
-      go p (some c) (a-name sp) = well (code-class sp)
+      go p (some c) (a-name sp) = well (code-plain (code-class sp))
 
 module _ {tab : List ℕ} {s : Scope} {kind row : ℕ} {r : Judged} where
   -- what is answered to a form is answered to a kind of that form
@@ -109,7 +112,7 @@ module _ {tab : List ℕ} {s : Scope} {kind row : ℕ} {r : Judged} where
 
 truths : {tab : List ℕ} {s : Scope} {row : ℕ} (b : Bool) (first end : ℕ) → NodeJudged tab s (aTruth b) first end row (Fine 2049)
 unfolding judge
-truths b first end ts G Γ i e (shows-truth st) = well (code-boolean refl)
+truths b first end ts G Γ i e (shows-truth st) = well (code-plain (code-boolean refl))
 
 module _ {tab : List ℕ} {s : Scope} {kind row : ℕ} where
   pub atom-literal : kind ≡ 4 → AtomPost tab s kind row (Fine 2048)
@@ -117,7 +120,7 @@ module _ {tab : List ℕ} {s : Scope} {kind row : ℕ} where
   atom-literal is = atom (sym (ap formAtom is)) go
     where
       go : (first end : ℕ) → NodeJudged tab s aLiteral first end row (Fine 2048)
-      go first end ts G Γ i e (shows-literal st v) = well (code-int refl)
+      go first end ts G Γ i e (shows-literal st v) = well (code-plain (code-int refl))
 
   pub atom-true : kind ≡ 21 → AtomPost tab s kind row (Fine 2049)
   unfolding formAtom
@@ -135,8 +138,8 @@ module _ {tab : List ℕ} {n row x : ℕ} (e₂ : x ≡ wordAt tab 2 (row + 1)) 
   object-known is =
       record {
         says = λ ts G w Γ p c sp st.
-            let k = code-class (rw (sym e₂) at sp) in
-            rw (sym (f .says ts G w (class (c .text)) k) ∙ is) (well k);
+            let k = code-plain (code-class (rw (sym e₂) at sp)) in
+            rw (sym (f .says ts G w (plain (class (c .text))) k) ∙ is) (well k);
       }
 
   pub object-unknown : b ≡ false → {at₁ : ℕ} → at₁ ≡ wordAt tab 1 (row + 1) → ObjectPost tab n row (Refused typeUnknown at₁)
@@ -144,7 +147,7 @@ module _ {tab : List ℕ} {n row x : ℕ} (e₂ : x ≡ wordAt tab 2 (row + 1)) 
   object-unknown is e₁ =
       record {
         says = λ ts G w Γ p c sp st.
-            rw (sym (f .says ts G w (class (c .text)) (code-class (rw (sym e₂) at sp))) ∙ is, sym st ∙ sym e₁) ill;
+            rw (sym (f .says ts G w (plain (class (c .text))) (code-plain (code-class (rw (sym e₂) at sp)))) ∙ is, sym st ∙ sym e₁) ill;
       }
 
 -- COUNTS
@@ -228,18 +231,19 @@ module _ {tab : List ℕ} {s : Scope} {first end row : ℕ} where
 
   module _ {k : ℕ} (kind : k ≡ kindInTable tab (s .tokens) row) {r : Judged} where
     -- the kinds tell the form
-    told : {F : Form} → formE k (kindInTable tab (s .tokens) (row + 1)) ≡ F → NodeJudged tab s F first end row r
-        → ExpressionPost tab s first end row r
-    told f g =
-        record {
-          says = λ ts G Γ i e h. g ts G Γ i e (seen-in i first end
-              (ap (λ (j : ℕ). formE j (kindInTable tab (s .tokens) (row + 1))) (sym kind) ∙ f) e h);
-        }
+    told : {F : Form} → formE k (kindInTable tab (s .tokens) (row + 1)) (kindInTable tab (s .tokens) (row + 2)) ≡ F
+        → NodeJudged tab s F first end row r → ExpressionPost tab s first end row r
+    told f g = record { says = λ ts G Γ i e h. g ts G Γ i e (seen-in i first end (by kind ∙ f) e h) }
+      where
+        by : k ≡ kindInTable tab (s .tokens) row
+            → formAt tab (s .tokens) row ≡ formE k (kindInTable tab (s .tokens) (row + 1)) (kindInTable tab (s .tokens) (row + 2))
+        by e = ap (λ (j : ℕ). formE j (kindInTable tab (s .tokens) (row + 1)) (kindInTable tab (s .tokens) (row + 2))) (sym e)
 
     -- this kind alone tells it
-    alone : (k′ : ℕ) → k ≡ k′ → NodeJudged tab s (formE k′ (kindInTable tab (s .tokens) (row + 1))) first end row r
+    alone : (k′ : ℕ) → k ≡ k′
+        → NodeJudged tab s (formE k′ (kindInTable tab (s .tokens) (row + 1)) (kindInTable tab (s .tokens) (row + 2))) first end row r
         → ExpressionPost tab s first end row r
-    alone k′ is g = told (ap (λ (j : ℕ). formE j (kindInTable tab (s .tokens) (row + 1))) is) g
+    alone k′ is g = told (ap (λ (j : ℕ). formE j (kindInTable tab (s .tokens) (row + 1)) (kindInTable tab (s .tokens) (row + 2))) is) g
 
     pub expression-atom : {a : Bool} → a ≡ isAtom k → a ≡ true → AtomPost tab s k row r → ExpressionPost tab s first end row r
     unfolding formE
@@ -259,7 +263,8 @@ module _ {tab : List ℕ} {s : Scope} {first end row : ℕ} where
     expression-not is e₄ f = alone 29 is go
       where
         go : NodeJudged tab s aNegation first end row r
-        go ts G Γ i t (shows-negation {e = e} st x) = f .says ts G Γ i e (rw e₄ x) boolean boolean (code-boolean refl) (code-boolean refl)
+        go ts G Γ i t (shows-negation {e = e} st x) =
+            f .says ts G Γ i e (rw e₄ x) (plain boolean) (plain boolean) (code-plain (code-boolean refl)) (code-plain (code-boolean refl))
 
     pub expression-element : k ≡ 36 → NodePost tab s anElement first end row r → ExpressionPost tab s first end row r
     unfolding formE formCompound isAtom isName
@@ -303,31 +308,93 @@ module _ {tab : List ℕ} {s : Scope} {first end row want answer : ℕ} {v : Jud
   single-refused is =
       record { says = λ ts G Γ i e h t u c d. judged-refused (halts (judge G Γ e) (must G e t) (accepted u) (f .says ts G Γ i e h t c) is) }
 
--- `a[i]`
+-- ARRAYS
 
-module _ {tab : List ℕ} {s : Scope} {first end row left : ℕ} (e₄ : left ≡ wordAt tab 4 row) {v : Judged}
-    (f : OperandPost tab s first row left 2050 v) where
-  pub element-first : {n p : ℕ} → v ≡ Refused n p → NodePost tab s anElement first end row (Refused n p)
+module _ {tab : List ℕ} {s : Scope} {first end row : ℕ} {v : Judged} (f : ExpressionPost tab s first end row v) where
+  pub array-unjudged : {n p : ℕ} → v ≡ Refused n p → ArrayPost tab s first end row (Refused n p)
+  array-unjudged is = record { says = λ ts G Γ i e h. rw (judges-refused (f .says ts G Γ i e h) is) ill }
+
+  module _ {t : ℕ} (is : v ≡ Fine t) where
+    pub array-wrong : t < 4096 → {at₃ : ℕ} → at₃ ≡ wordAt tab 3 row → ArrayPost tab s first end row (Refused wrongType at₃)
+    array-wrong low e₃ =
+        record {
+          says = λ ts G Γ i e h.
+              let w = judges-fine (f .says ts G Γ i e h) is in
+              let u = plain-code (w .2) low in
+              rw (w .1, u .1, e₃, start-of i first end h) ill;
+        }
+
+    pub array-right : 4096 ≤ t → ArrayPost tab s first end row (Fine (t - 4096))
+    array-right high =
+        record {
+          says = λ ts G Γ i e h.
+              let w = judges-fine (f .says ts G Γ i e h) is in
+              let u = array-code (few-tokens i) (w .2) high in
+              rw (w .1, u .1) (well (u .2));
+        }
+
+-- `a[i]` and `a.length`
+
+module _ {tab : List ℕ} {s : Scope} {first row left : ℕ} (e₄ : left ≡ wordAt tab 4 row) {v : Judged}
+    (f : ArrayPost tab s first row left v) where
+  pub element-first : {n p : ℕ} → v ≡ Refused n p → {end : ℕ} → NodePost tab s anElement first end row (Refused n p)
   unfolding judge
-  element-first {n} {p} is = record { says = go }
+  element-first {n} {p} is {end} = record { says = go }
     where
       go : NodeJudged tab s anElement first end row (Refused n p)
       go ts G Γ i e (shows-element {a = a} {i = j} st x y) =
-          judged-refused
-          (halts (judge G Γ a) (must G a intArray) (judge G Γ j >>= λ t. must G j int t >>= λ _. accepted int)
-          (f .says ts G Γ i a (rw e₄ x) intArray (code-intArray refl)) is)
+          judged-refused (array-refused (placeE a .start) _ (judge G Γ a) (f .says ts G Γ i a (rw e₄ x)) is)
 
-  pub element-second : {w : ℕ} → v ≡ Fine w → {right : ℕ} → right ≡ wordAt tab 5 row → {r : Judged}
-      → SinglePost tab s (row + 1) end right 2048 2048 r → NodePost tab s anElement first end row r
+  pub element-second : {w : ℕ} → v ≡ Fine w → {right : ℕ} → right ≡ wordAt tab 5 row → {end : ℕ} {r : Judged}
+      → SinglePost tab s (row + 1) end right 2048 w r → NodePost tab s anElement first end row r
   unfolding judge
-  element-second is e₅ {r} g = record { says = go }
+  element-second is e₅ {end} {r} g = record { says = go }
     where
       go : NodeJudged tab s anElement first end row r
       go ts G Γ i e (shows-element {a = a} {i = j} st x y) =
-          rw
-          (goes (judge G Γ a) (must G a intArray) (judge G Γ j >>= λ t. must G j int t >>= λ _. accepted int)
-          (f .says ts G Γ i a (rw e₄ x) intArray (code-intArray refl)) is)
-          (g .says ts G Γ i j (rw e₅ y) int int (code-int refl) (code-int refl))
+          let w = array-fine (placeE a .start) (λ s. judge G Γ j >>= λ u. must G j (plain int) u >>= λ _. accepted (plain s)) (judge G Γ a)
+          (f .says ts G Γ i a (rw e₄ x)) is in
+          rw (w .1) (g .says ts G Γ i j (rw e₅ y) (plain int) (plain (w .0)) (code-plain (code-int refl)) (w .2))
+
+  pub length-refused : {n p : ℕ} → v ≡ Refused n p → LengthPost tab s first row (Refused n p)
+  unfolding judge
+  length-refused {n} {p} is = record { says = λ end. go end }
+    where
+      go : (end : ℕ) → NodeJudged tab s aLength first end row (Refused n p)
+      go end ts G Γ i t (shows-length {e = e} st x) =
+          judged-refused (array-refused (placeE e .start) _ (judge G Γ e) (f .says ts G Γ i e (rw e₄ x)) is)
+
+  pub length-right : {w : ℕ} → v ≡ Fine w → LengthPost tab s first row (Fine 2048)
+  unfolding judge
+  length-right is = record { says = λ end. go end }
+    where
+      go : (end : ℕ) → NodeJudged tab s aLength first end row (Fine 2048)
+      go end ts G Γ i t (shows-length {e = e} st x) =
+          let w = array-fine (placeE e .start) (λ _. accepted (plain int)) (judge G Γ e) (f .says ts G Γ i e (rw e₄ x)) is in
+          judged-fine (w .1) (code-plain (code-int refl))
+
+-- `new T[e]`
+
+module _ {tab : List ℕ} {s : Scope} {end row t : ℕ} (type : TypeOf tab (s .tokens) (row + 1) t) {b : Bool} (f : Knows tab (s .tokens) t b) where
+  pub new-array-known : b ≡ true → {part : ℕ} → part ≡ wordAt tab 4 row → {r : Judged} → SinglePost tab s (row + 1) end part 2048 t r
+      → NewArrayPost tab s end row r
+  unfolding judge
+  new-array-known is e₄ {r} g = record { says = λ first. go first }
+    where
+      go : (first : ℕ) → NodeJudged tab s aNewArray first end row r
+      go first ts G Γ i e (shows-new-array {u = u} {e = x} st m q y) =
+          let c = type .says ts (i .world .tokens) (row + 1) refl (arrayOf (u .element)) m in
+          rw (sym (f .says ts G (i .world) (arrayOf (u .element)) c) ∙ is)
+          (g .says ts G Γ i x (rw e₄ y) (plain int) (arrayOf (u .element)) (code-plain (code-int refl)) c)
+
+  pub new-array-unknown : b ≡ false → {at₁ : ℕ} → at₁ ≡ wordAt tab 1 (row + 1) → NewArrayPost tab s end row (Refused typeUnknown at₁)
+  unfolding judge
+  new-array-unknown is {at₁} e₁ = record { says = λ first. go first }
+    where
+      go : (first : ℕ) → NodeJudged tab s aNewArray first end row (Refused typeUnknown at₁)
+      go first ts G Γ i e (shows-new-array {u = u} {e = x} st m q y) =
+          let c = type .says ts (i .world .tokens) (row + 1) refl (arrayOf (u .element)) m in
+          rw (sym (f .says ts G (i .world) (arrayOf (u .element)) c) ∙ is, sym q ∙ sym e₁) ill
 
 -- OPERATIONS
 
@@ -366,38 +433,37 @@ module _ {tab : List ℕ} {s : Scope} {first end row left : ℕ} (e₄ : left �
 
 -- `new` AND `.`
 
-module _ {tab : List ℕ} {s : Scope} {first end row k : ℕ} (kind : k ≡ kindInTable tab (s .tokens) (row + 1)) {r : Judged} where
-  -- a form of two kinds, of which the code has read the second
-  second : {F : Form} (k₁ : ℕ) → formCompound k₁ k ≡ F → NodeJudged tab s F first end row r
-      → NodePost tab s (formCompound k₁ (kindInTable tab (s .tokens) (row + 1))) first end row r
-  second k₁ f g = formed (sym (ap (formCompound k₁) (sym kind) ∙ f)) (record { says = g })
+module _ {tab : List ℕ} {s : Scope} {first end row k : ℕ} {r : Judged} where
+  -- a form of which the code has read the kind that tells it from the other
+  module _ (kind : k ≡ kindInTable tab (s .tokens) (row + 2)) where
+    third : {F : Form} → formCompound 14 (kindInTable tab (s .tokens) (row + 1)) k ≡ F → NodeJudged tab s F first end row r
+        → CreationPost tab s first end row r
+    third f g = formed (sym (ap (formCompound 14 (kindInTable tab (s .tokens) (row + 1))) (sym kind) ∙ f)) (record { says = g })
 
-  pub creation-array : k ≡ 11 → {part : ℕ} → part ≡ wordAt tab 4 row → SinglePost tab s (row + 1) end part 2048 2050 r
-      → CreationPost tab s first end row r
-  unfolding formCompound judge
-  creation-array is e₄ f = second 14 (ap (formCompound 14) is) go
-    where
-      go : NodeJudged tab s aNewArray first end row r
-      go ts G Γ i t (shows-new-array {e = e} st x) = f .says ts G Γ i e (rw e₄ x) int intArray (code-int refl) (code-intArray refl)
+    pub creation-array : k ≡ 36 → NewArrayPost tab s end row r → CreationPost tab s first end row r
+    unfolding formCompound
+    creation-array is f = third (ap (formCompound 14 (kindInTable tab (s .tokens) (row + 1))) is) (f .says first)
 
-  pub creation-object : (k ≡ 11 → ⊥) → ObjectPost tab (s .tokens) row r → CreationPost tab s first end row r
-  unfolding formCompound
-  creation-object other f = second 14 (rw (ne-eqb k 11 other)) go
-    where
-      go : NodeJudged tab s aNewObject first end row r
-      go ts G Γ i t (shows-new-object {p = p} {c = c} st x y) = f .says ts G (i .world) Γ p c x y
+    pub creation-object : (k ≡ 36 → ⊥) → ObjectPost tab (s .tokens) row r → CreationPost tab s first end row r
+    unfolding formCompound
+    creation-object other f = third (rw (ne-eqb k 36 other)) go
+      where
+        go : NodeJudged tab s aNewObject first end row r
+        go ts G Γ i t (shows-new-object {p = p} {c = c} st x y) = f .says ts G (i .world) Γ p c x y
 
-  pub dotted-length : k ≡ 12 → {part : ℕ} → part ≡ wordAt tab 4 row → SinglePost tab s first row part 2050 2048 r
-      → DottedPost tab s first end row r
-  unfolding formCompound judge
-  dotted-length is e₄ f = second 31 (ap (formCompound 31) is) go
-    where
-      go : NodeJudged tab s aLength first end row r
-      go ts G Γ i t (shows-length {e = e} st x) = f .says ts G Γ i e (rw e₄ x) intArray int (code-intArray refl) (code-int refl)
+  module _ (kind : k ≡ kindInTable tab (s .tokens) (row + 1)) where
+    second : {F : Form} → formCompound 31 k (kindInTable tab (s .tokens) (row + 2)) ≡ F → NodeJudged tab s F first end row r
+        → DottedPost tab s first end row r
+    second f g =
+        formed (sym (ap (λ (j : ℕ). formCompound 31 j (kindInTable tab (s .tokens) (row + 2))) (sym kind) ∙ f)) (record { says = g })
 
-  pub dotted-call : (k ≡ 12 → ⊥) → NodePost tab s aCall first end row r → DottedPost tab s first end row r
-  unfolding formCompound
-  dotted-call other f = second 31 (rw (ne-eqb k 12 other)) (f .says)
+    pub dotted-length : k ≡ 12 → LengthPost tab s first row r → DottedPost tab s first end row r
+    unfolding formCompound
+    dotted-length is f = second (ap (λ (j : ℕ). formCompound 31 j (kindInTable tab (s .tokens) (row + 2))) is) (f .says end)
+
+    pub dotted-call : (k ≡ 12 → ⊥) → NodePost tab s aCall first end row r → DottedPost tab s first end row r
+    unfolding formCompound
+    dotted-call other f = second (rw (ne-eqb k 12 other)) (f .says)
 
 -- CALLS
 
@@ -418,10 +484,10 @@ module _ {tab : List ℕ} {s : Scope} {first end row left : ℕ} (e₄ : left �
         pick : (ts : List Token) → length ts ≤ 2048 → (e : Expression) → placeE e .start ≡ at₃ → (u : Ty) → Codes ts u t
             → (k : List ℕ → Outcome Ty)
             → Judges ts (receiver e u k) (Refused wrongType at₃)
-        pick ts few e z int c k = rw z ill
-        pick ts few e z boolean c k = rw z ill
-        pick ts few e z intArray c k = rw z ill
-        pick ts few e z (class d) (code-class sp) k = absurd (omega (arith, sp .there))
+        pick ts few e z (plain int) c k = rw z ill
+        pick ts few e z (plain boolean) c k = rw z ill
+        pick ts few e z (plain (class d)) (code-plain (code-class sp)) k = absurd (omega (arith, sp .there))
+        pick ts few e z (arrayOf u) c k = rw z ill
 
         go : NodeJudged tab s aCall first end row (Refused wrongType at₃)
         go ts G Γ i t (shows-call {e = e} st sp q x y) =
@@ -435,10 +501,10 @@ module _ {tab : List ℕ} {s : Scope} {first end row left : ℕ} (e₄ : left �
       where
         pick : (ts : List Token) (e : Expression) (u : Ty) → Codes ts u t → (k : List ℕ → Outcome Ty)
             → ((c : List ℕ) → NameNumber ts c t → Judges ts (k c) r) → Judges ts (receiver e u k) r
-        pick ts e int (code-int q) k good = absurd (omega arith)
-        pick ts e boolean (code-boolean q) k good = absurd (omega arith)
-        pick ts e intArray (code-intArray q) k good = absurd (omega arith)
-        pick ts e (class d) (code-class sp) k good = good d sp
+        pick ts e (plain int) (code-plain (code-int q)) k good = absurd (omega arith)
+        pick ts e (plain boolean) (code-plain (code-boolean q)) k good = absurd (omega arith)
+        pick ts e (plain (class d)) (code-plain (code-class sp)) k good = good d sp
+        pick ts e (arrayOf u) (code-array c q) k good = absurd (omega arith)
 
         go : NodeJudged tab s aCall first end row r
         go ts G Γ i t (shows-call {e = e} {m = m} {es = es} st sp q x y) =
@@ -482,7 +548,7 @@ module _ (tab : List ℕ) (s : Scope) (end row c x f : ℕ) {ts : List Token} {G
         (F .method .parameters) taken-at
 
     result-code : {t r : ℕ} → t ≡ wordAt tab 3 f → TypeOf tab (s .tokens) t r → Codes ts (F .method .result .type) r
-    result-code e₃ type = type .says ts (i .world .tokens) (F .method .result) (column 3 (st .result) e₃) (st .head .type)
+    result-code e₃ type = type .says ts (i .world .tokens) (F .method .result .row) (column 3 (st .result) e₃) (F .method .result .type) (st .head .type)
 
 module _ {tab : List ℕ} {s : Scope} {end row c x f : ℕ} (e₂ : x ≡ wordAt tab 2 (row + 1))
     (finds : FindsMethod tab (s .tokens) (s .classes) c x f) where
@@ -584,8 +650,8 @@ module _ {tab : List ℕ} {s : Scope} {first end row parameter : ℕ} where
       one {ts} {G} {Γ} i e h w vs d (more-variables x c₃ c₆ st) =
           let there = row-there (i .world .tokens) (w .name .row) (x .name .token .there) in
           f .says ts G Γ i e h (w .type .type)
-          (type .says ts (i .world .tokens) (w .type) (sym (word-in tab 3 (w .name .row) there c₃) ∙ ap (wordAt tab 3) d ∙ sym e₃)
-          (x .type))
+          (type .says ts (i .world .tokens) (w .type .row) (sym (word-in tab 3 (w .name .row) there c₃) ∙ ap (wordAt tab 3) d ∙ sym e₃)
+          (w .type .type) (x .type))
 
       pub arguments-refused : {n p : ℕ} → v ≡ Refused n p → ArgumentsPost tab s first end row parameter (Refused n p)
       unfolding judge arity

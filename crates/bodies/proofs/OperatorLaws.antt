@@ -9,7 +9,7 @@ use Rattle.lexer.specs.Tokens.{Token}
 use Rattle.parser.specs.Tree.{Operator, Operator.and, Operator.less, Operator.plus, Operator.minus, Operator.times, Ty}
 use Rattle.reader.specs.contracts.Matches.{operatorKind}
 use Rattle.typesystem.specs.Operators.{line, resultIn, operation}
-use Rattle.lookup.specs.contracts.HeldClasses.{Lexemes, noType, Codes, code-int, code-boolean}
+use Rattle.lookup.specs.contracts.HeldClasses.{Lexemes, noType, code-int, code-boolean, Codes, code-plain}
 use Rattle.lookup.specs.contracts.Lookups.{LookedUp, untyped, typed}
 use Rattle.lookup.specs.laws.HeldLaws.{same-codes, other-codes}
 use Rattle.bodies.specs.contracts.OperatorPost.{LinePost, has-line, no-line, OperationPost}
@@ -54,19 +54,19 @@ module _ {k left r : ℕ} where
       }
 
   pub conjoined : k ≡ 24 → LinePost left 2049 2049 r → OperationPost k left r
-  conjoined is f = only and is (λ tab n ts lx t c. one-line lx (code-boolean refl) (code-boolean refl) f t c)
+  conjoined is f = only and is (λ tab n ts lx t c. one-line lx (code-plain (code-boolean refl)) (code-plain (code-boolean refl)) f t c)
 
   pub compared : k ≡ 25 → LinePost left 2048 2049 r → OperationPost k left r
-  compared is f = only less is (λ tab n ts lx t c. one-line lx (code-int refl) (code-boolean refl) f t c)
+  compared is f = only less is (λ tab n ts lx t c. one-line lx (code-plain (code-int refl)) (code-plain (code-boolean refl)) f t c)
 
   pub added : k ≡ 26 → LinePost left 2048 2048 r → OperationPost k left r
-  added is f = only plus is (λ tab n ts lx t c. one-line lx (code-int refl) (code-int refl) f t c)
+  added is f = only plus is (λ tab n ts lx t c. one-line lx (code-plain (code-int refl)) (code-plain (code-int refl)) f t c)
 
   pub subtracted : k ≡ 27 → LinePost left 2048 2048 r → OperationPost k left r
-  subtracted is f = only minus is (λ tab n ts lx t c. one-line lx (code-int refl) (code-int refl) f t c)
+  subtracted is f = only minus is (λ tab n ts lx t c. one-line lx (code-plain (code-int refl)) (code-plain (code-int refl)) f t c)
 
   pub multiplied : k ≡ 28 → LinePost left 2048 2048 r → OperationPost k left r
-  multiplied is f = only times is (λ tab n ts lx t c. one-line lx (code-int refl) (code-int refl) f t c)
+  multiplied is f = only times is (λ tab n ts lx t c. one-line lx (code-plain (code-int refl)) (code-plain (code-int refl)) f t c)
 
 pub no-operator : {k left : ℕ} → (k ≡ 24 → ⊥) → (k ≡ 25 → ⊥) → (k ≡ 26 → ⊥) → (k ≡ 27 → ⊥) → (k ≡ 28 → ⊥) → OperationPost k left noType
 no-operator {k} {left} n₁ n₂ n₃ n₄ n₅ = record { says = λ tab n ts lx o is t c. absurd (go o is) }

@@ -1,6 +1,6 @@
 -- What the laws on expressions and on statements share: answers put together, and what a row shows of a part that lies in a range of
 -- tokens.
-use Prim.Native.Nat.{ℕ, _+_, _≤_, _<_}
+use Prim.Native.Nat.{ℕ, _+_, _-_, _≤_, _<_}
 use native.Mathlib.Omega.{arith}
 use mathlib.Core.Path.{_≡_, refl, _∙_, subst}
 use mathlib.Core.List.{List}
@@ -8,18 +8,20 @@ use lib.ListN.{length}
 use Rattle.base.specs.Outcome.{Outcome, accepted, refused, _>>=_}
 use Rattle.base.specs.laws.Tests.{apart}
 use Rattle.lexer.specs.Tokens.{Token}
-use Rattle.parser.specs.Tree.{Sort, Sort.arguments, Sort.statements, Part, Expression, Statement, placeE, Ty, Class}
+use Rattle.parser.specs.Tree.{Sort, Sort.arguments, Sort.statements, Part, Expression, Statement, placeE, Element, Ty, Ty.plain, Ty.arrayOf, Class}
 use Rattle.parser.specs.contracts.Layout.{absent}
 use Rattle.parser.specs.contracts.Post.{kindInTable}
 use Rattle.reader.specs.contracts.Spans.{Among, Spans}
 use Rattle.reader.specs.laws.SpanLaws.{inside, inside-statement}
-use Rattle.typing.specs.laws.Choices.{bind-assoc}
+use Rattle.typing.specs.laws.Choices.{bind-assoc, refused-accepted}
 use Rattle.typesystem.specs.ClassTable.{Context}
+use Rattle.typesystem.specs.Judge.{ofArray}
 use Rattle.lookup.specs.declared.answer.Judged.{Judged}
 use Rattle.lookup.specs.declared.answer.Judged.the-variants.{Fine, Refused}
-use Rattle.lookup.specs.contracts.HeldClasses.{wordAt, Codes}
+use Rattle.lookup.specs.contracts.HeldClasses.{wordAt, ElementCodes, Codes, code-plain, code-array}
+use Rattle.lookup.specs.laws.HeldLaws.{element-below}
 use Rattle.lookup.specs.contracts.Answers.{asJudged, asJudged-fine, asJudged-refused, Judges, well, ill}
-use Rattle.lookup.specs.contracts.Shows.{Form, formE, formS, GoesOn, one-more-argument, GoesOnS, one-more-statement}
+use Rattle.lookup.specs.contracts.Shows.{Form, formAt, formS, GoesOn, one-more-argument, GoesOnS, one-more-statement}
 use Rattle.lookup.specs.laws.ShowLaws.{Bounds, BoundsS, shown, shownS, starts, goes-on, goes-onS}
 use Rattle.bodies.specs.declared.scope.Scope.{Scope}
 use Rattle.bodies.specs.contracts.Scoping.{InScope, PartIn, ShowsIn, ShowsStatement}
@@ -58,6 +60,35 @@ halts o test next {n = n} {p = p} e is = bind-assoc o test (λ _. next) ∙ rest
     rest : (o >>= test >>= λ _. next) ≡ refused n p
     rest = rw (asJudged-refused (o >>= test) e is)
 
+-- ARRAYS, by the number of a type
+
+pub plain-code : {ts : List Token} {t : Ty} {w : ℕ} → Codes ts t w → w < 4096 → (s : Element) × (t ≡ plain s)
+plain-code (code-plain {t = s} c) low = (s, refl)
+plain-code (code-array c e) low = absurd (omega arith)
+
+pub array-code : {ts : List Token} {t : Ty} {w : ℕ} → length ts ≤ 2048 → Codes ts t w → 4096 ≤ w
+    → (s : Element) × (t ≡ arrayOf s) × Codes ts (plain s) (w - 4096)
+array-code few (code-plain c) high = absurd (omega (arith, element-below few c))
+array-code {ts} {w = w} few (code-array {t = s} {v = v} c e) high =
+    (s, refl, let z : v ≡ w - 4096 = omega arith in code-plain (subst (ElementCodes ts s) z c))
+
+-- the answer for a part that must be an array, and what follows
+module _ {A : Type 0} {ts : List Token} (p : ℕ) (k : Element → Outcome A) {v : Judged} where
+  pub array-fine : (o : Outcome Ty) {w : ℕ} → Judges ts (o >>= λ t. ofArray p t λ u. accepted (plain u)) v → v ≡ Fine w
+      → (s : Element) × ((o >>= λ t. ofArray p t k) ≡ k s) × Codes ts (plain s) w
+  array-fine (accepted (plain t)) h e = absurd (refused-accepted (judges-fine h e .1))
+  array-fine (accepted (arrayOf t)) {w} h e =
+      let j = judges-fine h e in
+      let z : j .0 ≡ plain t = cc in
+      (t, refl, subst (λ (u : Ty). Codes ts u w) z (j .2))
+  array-fine (refused n q) h e = absurd (refused-accepted (judges-fine h e .1))
+
+  pub array-refused : (o : Outcome Ty) {n q : ℕ} → Judges ts (o >>= λ t. ofArray p t λ u. accepted (plain u)) v → v ≡ Refused n q
+      → (o >>= λ t. ofArray p t k) ≡ refused n q
+  array-refused (accepted (plain t)) h e = let z = judges-refused h e in cc
+  array-refused (accepted (arrayOf t)) h e = let z = judges-refused h e in apart (cc)
+  array-refused (refused i j) h e = let z = judges-refused h e in cc
+
 -- RANGES
 
 -- the range of a part, by the row of its whole
@@ -73,7 +104,7 @@ module _ (first end row : ℕ) where
   unfolding Spans
   ranges =
       record {
-        of-new-array = λ {p} {e} at h. behind end e at (h .1);
+        of-new-array = λ {p} {u} {e} at h. behind end e at (h .1);
         of-negation = λ {p} {e} at h. behind end e at (h .1);
         of-binary = λ {p} {o} {l} {r} at h. (before first l at (h .1), behind end r at (h .2));
         of-element = λ {p} {a} {i} at h. (before first a at (h .1), behind end i at (h .2));
@@ -122,7 +153,7 @@ few-tokens i = omega (arith, i .world .tokens .count, i .world .tokens .few)
 
 module _ {tab : List ℕ} {ts : List Token} {G : List Class} {Γ : Context} {s : Scope} (i : InScope tab ts G Γ s) (first end : ℕ)
     {row : ℕ} where
-  pub seen-in : {F : Form} → formE (kindInTable tab (s .tokens) row) (kindInTable tab (s .tokens) (row + 1)) ≡ F → (e : Expression)
+  pub seen-in : {F : Form} → formAt tab (s .tokens) row ≡ F → (e : Expression)
       → PartIn tab ts row first end e → ShowsIn tab ts (s .tokens) first end row F e
   seen-in f e h = shown (i .world .tokens) row _ _ _ (ranges first end row) f e h
 

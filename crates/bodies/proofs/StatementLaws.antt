@@ -1,6 +1,6 @@
 -- What the functions on statements return meets their contracts: the kind of a statement's first token tells what it is, and the answers
 -- for its parts are put together as the judging function does.
-use Prim.Native.Nat.{ℕ, _+_, _≤_, _<_}
+use Prim.Native.Nat.{ℕ, _+_, _≤_, _<_, _-_}
 use native.Mathlib.Omega.{arith}
 use mathlib.Core.Path.{_≡_, refl, sym, ap, _∙_, subst}
 use mathlib.Core.List.{List}
@@ -9,7 +9,7 @@ use borrow.Author.Tests.{ne-eqb}
 use Rattle.base.specs.Codes.{wrongType}
 use Rattle.base.specs.Outcome.{_>>=_}
 use Rattle.lexer.specs.Tokens.{Token}
-use Rattle.parser.specs.Tree.{Sort.statements, Part, Ty.int, Ty.boolean, Ty.intArray, Class}
+use Rattle.parser.specs.Tree.{Sort.statements, Part, Element.int, Element.boolean, Ty.plain, Class}
 use Rattle.parser.specs.contracts.Layout.{absent}
 use Rattle.parser.specs.contracts.Post.{kindInTable}
 use Rattle.reader.specs.contracts.Spans.{Spans}
@@ -18,8 +18,7 @@ use Rattle.typesystem.specs.ClassTable.{Context}
 use Rattle.typesystem.specs.Judge.{judge, must}
 use Rattle.lookup.specs.declared.answer.Judged.{Judged}
 use Rattle.lookup.specs.declared.answer.Judged.the-variants.{Fine, Refused}
-use Rattle.lookup.specs.contracts.HeldClasses.{wordAt, code-int, code-boolean, code-intArray}
-use Rattle.lookup.specs.contracts.Lookups.{Fits}
+use Rattle.lookup.specs.contracts.HeldClasses.{wordAt, code-int, code-boolean, code-plain}
 use Rattle.lookup.specs.contracts.Answers.{asJudged, goes-on, stops}
 use Rattle.lookup.specs.contracts.Shows.{Form, aBlock, aConditional, aLoop, aPrint, anAssignment, anElementStore, formS}
 use Rattle.lookup.specs.contracts.Shows.{shows-block, shows-conditional, shows-loop, shows-print, shows-assignment, shows-element-store}
@@ -30,28 +29,29 @@ use Rattle.bodies.specs.contracts.Scoping.{InScope}
 use Rattle.bodies.specs.contracts.ExpressionPost.{NamePost, OperandPost}
 use Rattle.bodies.specs.contracts.StatementPost.{StatementPost, ListPost, StatementJudged, StatementNodePost, BranchesPost}
 use Rattle.bodies.specs.contracts.StatementPost.{ValuePost}
-use Rattle.bodies.proofs.PartLaws.{judges-fine, judges-refused, goes, halts, few-tokens, one-moreS, liesS, seen-inS}
+use Rattle.bodies.proofs.PartLaws.{judges-fine, judges-refused, goes, halts, plain-code, array-code, few-tokens}
+use Rattle.bodies.proofs.PartLaws.{one-moreS, liesS, seen-inS}
 
 -- ASSIGNMENTS
 
-module _ {tab : List ℕ} {s : Scope} {end row first : ℕ} (e₄ : first ≡ wordAt tab 4 row) {v : Judged}
+module _ {tab : List ℕ} {s : Scope} {end row first want : ℕ} (e₄ : first ≡ wordAt tab 4 row) {v : Judged}
     (f : OperandPost tab s (row + 1) end first 2048 v) where
-  pub value-first : {n p : ℕ} → v ≡ Refused n p → ValuePost tab s end row (Refused n p)
+  pub value-first : {n p : ℕ} → v ≡ Refused n p → ValuePost tab s end row want (Refused n p)
   value-first is =
       record {
-        says = λ ts G Γ sc i e x y.
-            rw (halts (judge G Γ i) (must G i int) (judge G Γ e >>= λ u. must G e int u)
-            (f .says ts G Γ sc i (rw e₄ x) int (code-int refl)) is);
+        says = λ ts G Γ sc i e x y t c.
+            rw (halts (judge G Γ i) (must G i (plain int)) (judge G Γ e >>= λ u. must G e t u)
+            (f .says ts G Γ sc i (rw e₄ x) (plain int) (code-plain (code-int refl))) is);
       }
 
   pub value-second : {w : ℕ} → v ≡ Fine w → {second : ℕ} → second ≡ wordAt tab 5 row → {r : Judged}
-      → OperandPost tab s (row + 1) end second 2048 r → ValuePost tab s end row r
+      → OperandPost tab s (row + 1) end second want r → ValuePost tab s end row want r
   value-second is e₅ g =
       record {
-        says = λ ts G Γ sc i e x y.
-            rw (goes (judge G Γ i) (must G i int) (judge G Γ e >>= λ u. must G e int u)
-            (f .says ts G Γ sc i (rw e₄ x) int (code-int refl)) is)
-            (g .says ts G Γ sc e (rw e₅ y) int (code-int refl));
+        says = λ ts G Γ sc i e x y t c.
+            rw (goes (judge G Γ i) (must G i (plain int)) (judge G Γ e >>= λ u. must G e t u)
+            (f .says ts G Γ sc i (rw e₄ x) (plain int) (code-plain (code-int refl))) is)
+            (g .says ts G Γ sc e (rw e₅ y) t c);
       }
 
 module _ {tab : List ℕ} {s : Scope} {end row : ℕ} {v : Judged} (f : NamePost tab s row v) where
@@ -80,26 +80,27 @@ module _ {tab : List ℕ} {s : Scope} {end row : ℕ} {v : Judged} (f : NamePost
             let d = judges-fine (f .says ts G Γ sc q x st sp) is in
             rw (d .1) (g .says ts G Γ sc e (rw e₄ y) (d .0) (d .2))
 
-    module _ {b : Bool} (fit : Fits tab (s .tokens) (s .classes) target 2050 b) where
-      pub element-value : b ≡ true → {r : Judged} → ValuePost tab s end row r → StatementNodePost tab s anElementStore end row r
-      unfolding judge
-      element-value yes′ {r} g = record { says = go }
-        where
-          go : StatementJudged tab s anElementStore end row r
-          go ts G Γ sc t (shows-element-store {p = q} {x = x} {i = i} {e = e} st sp y z) =
-              let d = judges-fine (f .says ts G Γ sc q x st sp) is in
-              rw (d .1, sym (fit .says ts G (sc .world) (sc .many) (d .0) intArray (d .2) (code-intArray refl)) ∙ yes′)
-              (g .says ts G Γ sc i e y z)
+    pub element-value : 4096 ≤ target → {r : Judged} → ValuePost tab s end row (target - 4096) r
+        → StatementNodePost tab s anElementStore end row r
+    unfolding judge
+    element-value high {r} g = record { says = go }
+      where
+        go : StatementJudged tab s anElementStore end row r
+        go ts G Γ sc t (shows-element-store {p = q} {x = x} {i = i} {e = e} st sp y z) =
+            let d = judges-fine (f .says ts G Γ sc q x st sp) is in
+            let u = array-code (few-tokens sc) (d .2) high in
+            rw (d .1, u .1) (g .says ts G Γ sc i e y z (plain (u .0)) (u .2))
 
-      pub element-wrong : b ≡ false → {at₃ : ℕ} → at₃ ≡ wordAt tab 3 row
-          → StatementNodePost tab s anElementStore end row (Refused wrongType at₃)
-      unfolding judge
-      element-wrong no′ {at₃} e₃ = record { says = go }
-        where
-          go : StatementJudged tab s anElementStore end row (Refused wrongType at₃)
-          go ts G Γ sc t (shows-element-store {p = q} {x = x} st sp y z) =
-              let d = judges-fine (f .says ts G Γ sc q x st sp) is in
-              rw (d .1, sym (fit .says ts G (sc .world) (sc .many) (d .0) intArray (d .2) (code-intArray refl)) ∙ no′, e₃, st)
+    pub element-wrong : target < 4096 → {at₃ : ℕ} → at₃ ≡ wordAt tab 3 row
+        → StatementNodePost tab s anElementStore end row (Refused wrongType at₃)
+    unfolding judge
+    element-wrong low {at₃} e₃ = record { says = go }
+      where
+        go : StatementJudged tab s anElementStore end row (Refused wrongType at₃)
+        go ts G Γ sc t (shows-element-store {p = q} {x = x} st sp y z) =
+            let d = judges-fine (f .says ts G Γ sc q x st sp) is in
+            let u = plain-code (d .2) low in
+            rw (d .1, u .1, e₃, st)
 
 -- BRANCHES AND LOOPS
 
@@ -125,8 +126,8 @@ module _ {tab : List ℕ} {s : Scope} {end row test : ℕ} (e₄ : test ≡ word
     where
       go : StatementJudged tab s aConditional end row (Refused n p)
       go ts G Γ sc t (shows-conditional {e = e} {s = a} {t = b} st x y z) =
-          rw (halts (judge G Γ e) (must G e boolean) (judge G Γ a >>= λ _. judge G Γ b)
-          (f .says ts G Γ sc e (rw e₄ x) boolean (code-boolean refl)) is)
+          rw (halts (judge G Γ e) (must G e (plain boolean)) (judge G Γ a >>= λ _. judge G Γ b)
+          (f .says ts G Γ sc e (rw e₄ x) (plain boolean) (code-plain (code-boolean refl))) is)
 
   pub conditional-branches : {w : ℕ} → v ≡ Fine w → {r : Judged} → BranchesPost tab s end row r
       → StatementNodePost tab s aConditional end row r
@@ -135,8 +136,8 @@ module _ {tab : List ℕ} {s : Scope} {end row test : ℕ} (e₄ : test ≡ word
     where
       go : StatementJudged tab s aConditional end row r
       go ts G Γ sc t (shows-conditional {e = e} {s = a} {t = b} st x y z) =
-          rw (goes (judge G Γ e) (must G e boolean) (judge G Γ a >>= λ _. judge G Γ b)
-          (f .says ts G Γ sc e (rw e₄ x) boolean (code-boolean refl)) is) (g .says ts G Γ sc a b y z)
+          rw (goes (judge G Γ e) (must G e (plain boolean)) (judge G Γ a >>= λ _. judge G Γ b)
+          (f .says ts G Γ sc e (rw e₄ x) (plain boolean) (code-plain (code-boolean refl))) is) (g .says ts G Γ sc a b y z)
 
   pub loop-refused : {n p : ℕ} → v ≡ Refused n p → StatementNodePost tab s aLoop end row (Refused n p)
   unfolding judge
@@ -144,7 +145,7 @@ module _ {tab : List ℕ} {s : Scope} {end row test : ℕ} (e₄ : test ≡ word
     where
       go : StatementJudged tab s aLoop end row (Refused n p)
       go ts G Γ sc t (shows-loop {e = e} {s = a} st x y) =
-          rw (halts (judge G Γ e) (must G e boolean) (judge G Γ a) (f .says ts G Γ sc e (rw e₄ x) boolean (code-boolean refl)) is)
+          rw (halts (judge G Γ e) (must G e (plain boolean)) (judge G Γ a) (f .says ts G Γ sc e (rw e₄ x) (plain boolean) (code-plain (code-boolean refl))) is)
 
   pub loop-body : {w : ℕ} → v ≡ Fine w → {body : ℕ} → body ≡ wordAt tab 5 row → {r : Judged} → StatementPost tab s (row + 1) end body r
       → StatementNodePost tab s aLoop end row r
@@ -153,7 +154,7 @@ module _ {tab : List ℕ} {s : Scope} {end row test : ℕ} (e₄ : test ≡ word
     where
       go : StatementJudged tab s aLoop end row r
       go ts G Γ sc t (shows-loop {e = e} {s = a} st x y) =
-          rw (goes (judge G Γ e) (must G e boolean) (judge G Γ a) (f .says ts G Γ sc e (rw e₄ x) boolean (code-boolean refl)) is)
+          rw (goes (judge G Γ e) (must G e (plain boolean)) (judge G Γ a) (f .says ts G Γ sc e (rw e₄ x) (plain boolean) (code-plain (code-boolean refl))) is)
           (g .says ts G Γ sc a (rw e₅ y))
 
 -- STATEMENTS
@@ -202,7 +203,7 @@ module _ {tab : List ℕ} {s : Scope} {first end row : ℕ} where
     statement-print is e₄ f = alone 19 is go
       where
         go : StatementJudged tab s aPrint end row r
-        go ts G Γ sc t (shows-print {e = e} st x) = f .says ts G Γ sc e (rw e₄ x) int (code-int refl)
+        go ts G Γ sc t (shows-print {e = e} st x) = f .says ts G Γ sc e (rw e₄ x) (plain int) (code-plain (code-int refl))
 
     module _ (n₁ : k ≡ 38 → ⊥) (n₂ : k ≡ 10 → ⊥) (n₃ : k ≡ 23 → ⊥) (n₄ : k ≡ 19 → ⊥) {k′ : ℕ}
         (after : k′ ≡ kindInTable tab (s .tokens) (row + 1)) where

@@ -10,9 +10,9 @@ use lookup::answer::Judged;
 use lookup::chain::find_method;
 use lookup::chain::fits;
 use lookup::rows::word;
+use lookup::types::ARRAY;
 use lookup::types::BOOLEAN;
 use lookup::types::INT;
-use lookup::types::INT_ARRAY;
 use lookup::types::NOTHING;
 use lookup::types::known;
 use lookup::types::type_of;
@@ -30,8 +30,8 @@ ghost use Rattle.reader.specs.contracts.WalkPost.{Walkable};
 ghost use Rattle.lookup.specs.contracts.Shows.{aBinary, anElement, aCall};
 ghost use Rattle.bodies.specs.contracts.Scoping.{Judgeable};
 ghost use Rattle.bodies.specs.contracts.ExpressionPost.{NamePost, ThisPost, AtomPost, NodePost, ExpressionPost, OperandPost};
-ghost use Rattle.bodies.specs.contracts.ExpressionPost.{CreationPost, DottedPost, SinglePost, InvocationPost};
-ghost use Rattle.bodies.specs.contracts.ExpressionPost.{ArgumentsPost, ObjectPost, SameCount};
+ghost use Rattle.bodies.specs.contracts.ExpressionPost.{CreationPost, DottedPost, SinglePost, ArrayPost, NewArrayPost, LengthPost};
+ghost use Rattle.bodies.specs.contracts.ExpressionPost.{InvocationPost, ArgumentsPost, ObjectPost, SameCount};
 
 // `this`, which main has not: 34.
 fn receiver(table: &[u32], s: Scope, row: usize) -> Judged
@@ -194,17 +194,34 @@ fn single(
     }
 }
 
+// A part that must be an array, 31; the answer is the type of what it holds.
+fn array(table: &[u32], fields: &[u32], s: Scope, first: usize, end: usize, row: usize) -> Judged
+    requires { ⌜ Judgeable (now table) (now fields) s × (end ≤ s .tokens) ⌝ }
+    ensures { λ r. ⌜ ArrayPost (now (table .entry)) s first end row r ⌝ }
+{
+    let e = expression(table, fields, s, first, end, row);
+    match e {
+        Judged::Fine(t) => {
+            if t < ARRAY {
+                return Judged::Refused(codes::WRONG_TYPE, word(table, columns::BEGIN, row));
+            }
+            Judged::Fine(t - ARRAY)
+        }
+        Judged::Refused(number, at) => Judged::Refused(number, at),
+    }
+}
+
 // `a[i]`.
 fn element(table: &[u32], fields: &[u32], s: Scope, first: usize, end: usize, row: usize) -> Judged
     requires { ⌜ Judgeable (now table) (now fields) s × (first ≤ row) × (row < end) × (end ≤ s .tokens) ⌝ }
     ensures { λ r. ⌜ NodePost (now (table .entry)) s anElement first end row r ⌝ }
 {
     let left = word(table, columns::FIRST, row);
-    let a = operand(table, fields, s, first, row, left, INT_ARRAY);
+    let a = array(table, fields, s, first, row, left);
     match a {
-        Judged::Fine(_) => {
+        Judged::Fine(t) => {
             let right = word(table, columns::SECOND, row);
-            single(table, fields, s, row + 1, end, right, INT, INT)
+            single(table, fields, s, row + 1, end, right, INT, t)
         }
         Judged::Refused(number, at) => Judged::Refused(number, at),
     }
@@ -239,16 +256,41 @@ fn binary(
     }
 }
 
-// `new int[e]` or `new C()`.
+// `new T[e]`: 24 before e.
+fn new_array(table: &[u32], fields: &[u32], s: Scope, end: usize, row: usize) -> Judged
+    requires { ⌜ Judgeable (now table) (now fields) s × (row < end) × (end ≤ s .tokens) ⌝ }
+    ensures { λ r. ⌜ NewArrayPost (now (table .entry)) s end row r ⌝ }
+{
+    let t = type_of(table, s.tokens, row + 1);
+    if known(table, s.tokens, t) {
+        let part = word(table, columns::FIRST, row);
+        return single(table, fields, s, row + 1, end, part, INT, t);
+    }
+    Judged::Refused(codes::TYPE_UNKNOWN, word(table, columns::START, row + 1))
+}
+
+// `new T[e]` or `new C()`.
 fn creation(table: &[u32], fields: &[u32], s: Scope, first: usize, end: usize, row: usize) -> Judged
     requires { ⌜ Judgeable (now table) (now fields) s × (first ≤ row) × (row < end) × (end ≤ s .tokens) ⌝ }
     ensures { λ r. ⌜ CreationPost (now (table .entry)) s first end row r ⌝ }
 {
-    if kind(table, s.tokens, row + 1) == kinds::INT {
-        let part = word(table, columns::FIRST, row);
-        return single(table, fields, s, row + 1, end, part, INT, INT_ARRAY);
+    if kind(table, s.tokens, row + 2) == kinds::OPEN_BRACKET {
+        return new_array(table, fields, s, end, row);
     }
     new_object(table, s.tokens, row)
+}
+
+// `e.length`.
+fn measured(table: &[u32], fields: &[u32], s: Scope, first: usize, row: usize) -> Judged
+    requires { ⌜ Judgeable (now table) (now fields) s × (row ≤ s .tokens) ⌝ }
+    ensures { λ r. ⌜ LengthPost (now (table .entry)) s first row r ⌝ }
+{
+    let part = word(table, columns::FIRST, row);
+    let a = array(table, fields, s, first, row, part);
+    match a {
+        Judged::Fine(_) => Judged::Fine(INT),
+        Judged::Refused(number, at) => Judged::Refused(number, at),
+    }
 }
 
 // `e.length` or a call.
@@ -257,8 +299,7 @@ fn dotted(table: &[u32], fields: &[u32], s: Scope, first: usize, end: usize, row
     ensures { λ r. ⌜ DottedPost (now (table .entry)) s first end row r ⌝ }
 {
     if kind(table, s.tokens, row + 1) == kinds::LENGTH {
-        let part = word(table, columns::FIRST, row);
-        return single(table, fields, s, first, row, part, INT_ARRAY, INT);
+        return measured(table, fields, s, first, row);
     }
     call(table, fields, s, first, end, row)
 }

@@ -7,11 +7,10 @@ use base::codes;
 use base::codes::BROKEN;
 use lexer::kinds;
 use lookup::answer::Judged;
-use lookup::chain::fits;
 use lookup::rows::word;
+use lookup::types::ARRAY;
 use lookup::types::BOOLEAN;
 use lookup::types::INT;
-use lookup::types::INT_ARRAY;
 use parser::columns;
 use parser::columns::ABSENT;
 use parser::table::kind;
@@ -20,23 +19,30 @@ ghost use Rattle.lookup.specs.contracts.Shows.{aConditional, aLoop, anAssignmen
 ghost use Rattle.bodies.specs.contracts.Scoping.{Judgeable};
 ghost use Rattle.bodies.specs.contracts.StatementPost.{StatementPost, ListPost, StatementNodePost, BranchesPost, ValuePost};
 
-// Index and value of an assignment to an element.
-fn index_and_value(table: &[u32], fields: &[u32], s: Scope, end: usize, row: usize) -> Judged
+// Index and value of an assignment to an element, which is of type `want`.
+fn index_and_value(
+    table: &[u32],
+    fields: &[u32],
+    s: Scope,
+    end: usize,
+    row: usize,
+    want: usize,
+) -> Judged
     requires { ⌜ Judgeable (now table) (now fields) s × (row < end) × (end ≤ s .tokens) ⌝ }
-    ensures { λ r. ⌜ ValuePost (now (table .entry)) s end row r ⌝ }
+    ensures { λ r. ⌜ ValuePost (now (table .entry)) s end row want r ⌝ }
 {
     let index = word(table, columns::FIRST, row);
     let i = operand(table, fields, s, row + 1, end, index, INT);
     match i {
         Judged::Fine(_) => {
             let value = word(table, columns::SECOND, row);
-            operand(table, fields, s, row + 1, end, value, INT)
+            operand(table, fields, s, row + 1, end, value, want)
         }
         Judged::Refused(number, at) => Judged::Refused(number, at),
     }
 }
 
-// An assignment to an element: the target is looked up first, and must be an int[]: 31 at its name.
+// An assignment to an element: the target is looked up first, and must be an array: 31 at its name.
 fn element_store(table: &[u32], fields: &[u32], s: Scope, end: usize, row: usize) -> Judged
     requires { ⌜ Judgeable (now table) (now fields) s × (row < end) × (end ≤ s .tokens) ⌝ }
     ensures { λ r. ⌜ StatementNodePost (now (table .entry)) s anElementStore end row r ⌝ }
@@ -44,10 +50,10 @@ fn element_store(table: &[u32], fields: &[u32], s: Scope, end: usize, row: usize
     let x = name(table, fields, s, row);
     match x {
         Judged::Fine(t) => {
-            if fits(table, s.tokens, s.classes, t, INT_ARRAY) {
-                return index_and_value(table, fields, s, end, row);
+            if t < ARRAY {
+                return Judged::Refused(codes::WRONG_TYPE, word(table, columns::BEGIN, row));
             }
-            Judged::Refused(codes::WRONG_TYPE, word(table, columns::BEGIN, row))
+            index_and_value(table, fields, s, end, row, t - ARRAY)
         }
         Judged::Refused(number, at) => Judged::Refused(number, at),
     }

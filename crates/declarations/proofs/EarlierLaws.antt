@@ -9,12 +9,12 @@ use lib.ListN.{length, length-append, length-map}
 use Rattle.base.specs.Bytes.{same}
 use Rattle.base.specs.contracts.Table.{col}
 use Rattle.lexer.specs.Tokens.{Token}
-use Rattle.parser.specs.Tree.{Ty, Ty.int, Ty.boolean, Ty.intArray, Ty.class, TypeUse, Variable, Method}
+use Rattle.parser.specs.Tree.{Ty, Ty.plain, Ty.arrayOf, Variable, Method}
 use Rattle.parser.specs.contracts.Layout.{absent, rowVariables, rowMethods, headOf}
 use Rattle.reader.specs.contracts.Matches.{TypeMatches, VariableMatches}
 use Rattle.typesystem.specs.ClassTable.{occurs, textOf}
 use Rattle.lookup.specs.contracts.HeldClasses.{wordAt, Lexemes, NameNumber, VariablesHeld, more-variables, MethodHeld, MethodsHeld, more-methods}
-use Rattle.lookup.specs.laws.HeldLaws.{word-in, start-word, spelt, name-word, row-there}
+use Rattle.lookup.specs.laws.HeldLaws.{element-there, word-in, start-word, spelt, name-word, row-there}
 use Rattle.lookup.specs.contracts.Lookups.{Names, no-names, more-names, Repeated}
 use Rattle.declarations.specs.contracts.Earlier.{onto, VariablesListed, Along}
 
@@ -47,12 +47,10 @@ onto-next f earlier us v = ap (onto earlier) (map-append f us (v ∷ [])) ∙ on
 
 -- ROWS
 
-type-there : (ts : List Token) (t : TypeUse) (ty : Ty) → TypeMatches ts t ty → t .row < length ts
+type-there : (ts : List Token) (i : ℕ) (t : Ty) → TypeMatches ts i t → i < length ts
 unfolding TypeMatches
-type-there ts t int m = m .0 .there
-type-there ts t boolean m = m .there
-type-there ts t intArray m = m .0 .there
-type-there ts t (class c) m = m .there
+type-there ts i (plain t) m = element-there ts i t (m .0)
+type-there ts i (arrayOf t) m = element-there ts i t (m .0)
 
 -- what the words of a row tell of the variable, or the method's head, that is declared there
 pub record DeclaredAt (tab : List ℕ) (ts : List Token) (v : Variable) (row : ℕ) : Type 0 where
@@ -69,7 +67,7 @@ module _ {tab : List ℕ} {n : ℕ} {ts : List Token} (lx : Lexemes tab n ts) wh
       subst (DeclaredAt tab ts v) at (record {
         matches = m;
         type = word-in tab 3 (v .name .row) (row-there lx (v .name .row) there) c₃;
-        type-start = start-word lx (v .type .row) (type-there ts (v .type) (v .type .type) (m .type)) ∙ m .start;
+        type-start = start-word lx (v .type .row) (type-there ts (v .type .row) (v .type .type) (m .type)) ∙ m .start;
         number = name-word lx (v .name .row) (m .name .token);
         start = start-word lx (v .name .row) there ∙ m .name .start;
       })

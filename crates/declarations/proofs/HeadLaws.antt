@@ -39,7 +39,7 @@ use Rattle.declarations.proofs.VariableLaws.{declared-known, type-place
 -- the number of the type of the variable of a row
 type-code : {tab : List ℕ} {n : ℕ} {ts : List Token} → Lexemes tab n ts → {v : Variable} {row t p : ℕ} → DeclaredAt tab ts v row → t ≡ wordAt tab 3 row → TypeOf tab n t p
     → Codes ts (v .type .type) p
-type-code {ts = ts} lx {v} d e₃ h = h .says ts lx (v .type) (sym (d .type) ∙ sym e₃) (d .matches .type)
+type-code {ts = ts} lx {v} d e₃ h = h .says ts lx (v .type .row) (sym (d .type) ∙ sym e₃) (v .type .type) (d .matches .type)
 
 module _ {tab : List ℕ} {n left a b : ℕ} where
   pub types-none-left : a < absent → left ≡ 0 → TypesCompared tab n left a b false

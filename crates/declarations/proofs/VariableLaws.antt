@@ -14,7 +14,7 @@ use Rattle.base.specs.Outcome.{Outcome, accepted, refused, _>>=_}
 use Rattle.lexer.specs.Tokens.{Token}
 use Rattle.parser.specs.Tree.{Variable, Class}
 use Rattle.parser.specs.contracts.Layout.{absent, rowVariables}
-use Rattle.typesystem.specs.ClassTable.{known, occurs, textOf}
+use Rattle.typesystem.specs.ClassTable.{underlying, known, occurs, textOf}
 use Rattle.typesystem.specs.Declarations.{knownType, fields, variables}
 use Rattle.lookup.specs.declared.answer.Judged.{Judged}
 use Rattle.lookup.specs.declared.answer.Judged.the-variants.{Fine, Refused}
@@ -31,12 +31,12 @@ use Rattle.declarations.proofs.EarlierLaws.{onto-occurs, onto-length, o
 -- TYPES
 
 pub known-at : {tab : List ℕ} {n row t : ℕ} {r : Bool} → TypeOf tab n row t → Knows tab n t r → KnownAt tab n row r
-known-at h k = record { says = λ ts G w t at m. k .says ts G w (t .type) (h .says ts (w .tokens) t at m) }
+known-at h k = record { says = λ ts G w i at t m. k .says ts G w t (h .says ts (w .tokens) i at t m) }
 
 -- whether the type of the variable of a row is known
 pub declared-known : {tab : List ℕ} {n row t : ℕ} {b : Bool} → KnownAt tab n t b → t ≡ wordAt tab 3 row → {ts : List Token} {G : List Class} → ClassTableHeld tab n ts G → {v : Variable}
-    → DeclaredAt tab ts v row → known G (v .type .type) ≡ b
-declared-known k e₃ {ts} {G} w {v} d = sym (k .says ts G w (v .type) (sym (d .type) ∙ sym e₃) (d .matches .type))
+    → DeclaredAt tab ts v row → known G (underlying (v .type .type)) ≡ b
+declared-known k e₃ {ts} {G} w {v} d = sym (k .says ts G w (v .type .row) (sym (d .type) ∙ sym e₃) (v .type .type) (d .matches .type))
 
 -- where the type stands
 pub type-place : {tab : List ℕ} {row t p : ℕ} → t ≡ wordAt tab 3 row → p ≡ wordAt tab 1 t → {ts : List Token} {v : Variable} → DeclaredAt tab ts v row → p ≡ v .type .start

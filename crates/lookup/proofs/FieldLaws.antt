@@ -143,7 +143,7 @@ module _ {tab : List ℕ} {n left row at : ℕ} {before : List ℕ} where
             let own = own-name word lx d (more-variables m c₃ c₆ s) in
             elim (ℕ-discrete w x) [
               | yes is ↦
-                  let type : Codes ts (v .type .type) t = typed .says ts lx (v .type) (sym (word-in tab 3 (v .name .row) (omega (arith, d, near)) c₃) ∙ ap (wordAt tab 3) d ∙ sym e₃) (m .type) in
+                  let type : Codes ts (v .type .type) t = typed .says ts lx (v .type .row) (sym (word-in tab 3 (v .name .row) (omega (arith, d, near)) c₃) ∙ ap (wordAt tab 3) d ∙ sym e₃) (v .type .type) (m .type) in
                   let told : Codes ts (v .type .type) (getD after x 0) = subst (Codes ts (v .type .type)) (sym (ap (λ (i : ℕ). getD after i 0) (sym is) ∙ type-here)) type in
                   let placed : getD after (2048 + x) 0 ≡ 32 + at = ap (λ (i : ℕ). getD after (2048 + i) 0) (sym is) ∙ slot-here in
                   let first : getD after (2048 + x) 0 ≡ 32 + (at + 0) = omega (arith, placed) in

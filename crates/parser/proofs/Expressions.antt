@@ -21,6 +21,7 @@ use Rattle.parser.specs.contracts.Post.{moreSuffixes, levelAt, isOperato
 use Rattle.parser.specs.contracts.Parts.{OnePart}
 use Rattle.parser.proofs.Laws.{there, there-by, tokens-kept, given-node, kind-of, is, is-not, at-result, bind-ok, bind-bad, stepped}
 use Rattle.parser.proofs.Laws.{within-ok, within-more}
+use Rattle.parser.proofs.Types.{makes-array}
 use Rattle.parser.proofs.Pieces.{then-node, of-mode, as-mode}
 
 -- a node as the code writes it
@@ -158,11 +159,11 @@ module _ {n i : ℕ} {T T₁ : List ℕ} {r₁ : Answer} (level : ℕ) (p : Mode
   pub unary-bad : {z : ℕ} → n ≤ 2048 → r₁ ≡ Bad z → level ≤ 3 → ModePost (operation (levelAt level)) n n i T (Bad z) T₁
   unary-bad few e le = refused-below (3 - level) level 3 (omega arith) (omega arith) few (operation-bad few (operand-last 3 (omega arith) (omega arith) p) e)
 
--- what is no `new int` is a primary and its suffixes
+-- what is no `new T[e]` is a primary and its suffixes
 not-array : (T : List ℕ) (n i : ℕ) → startsArray T n i ≡ false → (ts : List Token) → TokensIn T n ts → (P : (s : Sort) → Mode s → ℕ → Parsed (Part s))
     → step ts P postfix i ≡ bind (P expression primary i) (λ l j. P expression (suffixes true i l) j)
-unfolding step startsArray
-not-array T n i t ts h P = rw (← h .kinds i, ← h .kinds (i + 1), t) refl
+unfolding step
+not-array T n i t ts h P = rw (makes-array T n i h ∙ t) refl
 
 pub postfix-ok : {n i x j : ℕ} {b : Bool} {T T₁ T₂ : List ℕ} {r₁ r : Answer} → n ≤ 2048 → b ≡ startsArray T n i → b ≡ false
     → ModePost primary n n i T r₁ T₁ → r₁ ≡ At x j → RestPost (moreSuffixes true i) n x j T₁ r T₂ → ModePost postfix n n i T r T₂

@@ -1,6 +1,7 @@
 -- Laws that the proofs of the parser's functions cite.
 pub mod Operators
 pub mod Laws
+pub mod Types
 pub mod Cycles
 pub mod Pieces
 pub mod Expressions

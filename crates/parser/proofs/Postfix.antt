@@ -8,16 +8,17 @@ use mathlib.Core.Bool.{Bool, true, false, _&&_, _||_}
 use native.Mathlib.Omega.{arith}
 use lib.Dec.{eqb, eqb→eq, leb, leb→le, T}
 use borrow.Author.Tests.{ne-eqb}
+use Rattle.base.specs.Choice.{option}
 use Rattle.base.specs.contracts.Table.{col, put}
 use Rattle.lexer.specs.Kinds.{isName}
 use Rattle.lexer.specs.Tokens.{Token, decimal}
 use Rattle.parser.specs.declared.answer.Answer.{Answer}
 use Rattle.parser.specs.declared.answer.Answer.the-variants.{At, Bad}
-use Rattle.parser.specs.Tree.{Place, Name, Sort, Sort.arguments, Part, Expression}
+use Rattle.parser.specs.Tree.{Place, Name, ElementUse, Sort, Sort.arguments, Part, Expression}
 use Rattle.parser.specs.Tree.{Part.literal, Part.truth, Part.variable, Part.this, Part.newArray, Part.newObject, Part.element}
 use Rattle.parser.specs.Tree.{Part.arrayLength, Part.call, Part.noArguments, Part.argument}
-use Rattle.parser.specs.Stream.{tokenAt, kindAt, startAt, placeAt, nameAt}
-use Rattle.parser.specs.Parse.{Parsed, ok, bind, anExpression, Mode, operation, postfix, primary, suffixes, argumentList}
+use Rattle.parser.specs.Stream.{tokenAt, kindAt, startAt, placeAt, nameAt, elementAt}
+use Rattle.parser.specs.Parse.{Parsed, ok, bad, bind, expect, elementType, beginsType, anExpression, Mode, operation, postfix, primary, suffixes, argumentList}
 use Rattle.parser.specs.Parse.{someArguments, step, parseAs}
 use Rattle.parser.specs.contracts.Layout.{absent, rowOf, node, given, store}
 use Rattle.parser.specs.contracts.Post.{kindInTable, TokensIn, met-ok, met-bad, ModePost, RestPost, moreSuffixes, levelAt, isAtom}
@@ -28,6 +29,7 @@ use Rattle.parser.proofs.Pieces.{of-mode, as-mode}
 use Rattle.parser.proofs.Laws.{plus-two, plus-three, plus-four, there, there-by, tokens-kept, given-node, kind-of, is, is-not}
 use Rattle.parser.proofs.Laws.{passes, at-result, bind-ok, bind-bad, stepped, within-ok, within-more}
 use Rattle.parser.proofs.Expressions.{made}
+use Rattle.parser.proofs.Types.{ElementRead, element-read, makes-array}
 
 -- a conjunction of tests
 both : (a b : Bool) → (a && b) ≡ true → (a ≡ true) × (b ≡ true)
@@ -44,33 +46,40 @@ pub name-there : (T : List ℕ) (n i k : ℕ) {b : Bool} → k ≡ kindInTable T
 unfolding isName
 name-there T n i k e eb t = there-by isName refl T n i k e (sym eb ∙ t)
 
--- `new int[e]`
-is-new-array : (p : Place) (e : Expression) (t : List ℕ) → store (newArray p e) t ≡ node (store e t) (p .row) (p .start) (rowOf e) absent
+-- `new T[e]`
+is-new-array : (p : Place) (u : ElementUse) (e : Expression) (t : List ℕ)
+    → store (newArray p u e) t ≡ node (store e t) (p .row) (p .start) (rowOf e) absent
 unfolding store
-is-new-array p e t = refl
+is-new-array p u e t = refl
 
 module _ (T : List ℕ) (n i k : ℕ) (ek : k ≡ kindInTable T n i) where
-  pub new-int : (k′ : ℕ) → k ≡ 14 → k′ ≡ kindInTable T n (i + 1) → eqb k′ 11 ≡ startsArray T n i
+  pub after-new : {k₁ k₂ : ℕ} {b : Bool} → k ≡ 14 → k₂ ≡ kindInTable T n (i + 2) → k₁ ≡ kindInTable T n (i + 1)
+      → b ≡ beginsType k₁ (eqb k₂ 36) → b ≡ startsArray T n i
   unfolding startsArray
-  new-int k′ z ek′ = rw (← ek, z, ← ek′) refl
+  after-new z ek₂ ek₁ eb = rw (← ek, z, ← ek₁, ← ek₂) eb
 
   pub no-new : k ≢ 14 → false ≡ startsArray T n i
   unfolding startsArray
   no-new z = rw (← ek, ne-eqb k 14 z) refl
 
 module _ (T : List ℕ) (n i : ℕ) (pre : startsArray T n i ≡ true) where
-  array-tests : {ts : List Token} → TokensIn T n ts → (eqb (kindAt ts i) 14 && eqb (kindAt ts (i + 1)) 11) ≡ true
-  unfolding startsArray
-  array-tests h = rw (← h .kinds i, ← h .kinds (i + 1)) pre
+  -- the element type after `new`
+  element-after : {ts : List Token} → TokensIn T n ts → ElementRead ts (i + 1)
+  element-after {ts} h = element-read ts (i + 1) _ (both (eqb (kindAt ts i) 14) _ (makes-array T n i h ∙ pre) .1)
 
   -- what follows the length
   abbrev sized : ℕ → List Token → Expression → ℕ → Parsed Expression
-  sized f ts a j = parseAs f ts (suffixes false i (newArray (placeAt ts i i) a)) j
+  sized f ts a j =
+      option (elementType ts (i + 1)) (bad (i + 1)) λ t.
+      parseAs f ts (suffixes false i (newArray (placeAt ts i i) (elementAt ts (i + 1) t) a)) j
 
   array-steps : {k : ℕ} → k ≡ kindInTable T n (i + 2) → k ≡ 36 → (f : ℕ) (ts : List Token) → TokensIn T n ts
       → step ts (λ s m j. parseAs f ts m j) postfix i ≡ bind (andToken ts 37 (parseAs f ts anExpression (i + 3))) (sized f ts)
   unfolding step
-  array-steps ek z f ts h = rw (array-tests h, is h (i + 2) ek z, plus-three i) (regroup ts 37 (sized f ts) (parseAs f ts anExpression (i + 3)))
+  array-steps ek z f ts h =
+      let opened : step ts (λ s m j. parseAs f ts m j) postfix i ≡ bind (parseAs f ts anExpression (i + 3)) (λ a j. expect ts 37 j λ j. sized f ts a j) =
+      rw (makes-array T n i h ∙ pre, element-after h .read, is h (i + 2) ek z, plus-three i) refl in
+      opened ∙ regroup ts 37 (sized f ts) (parseAs f ts anExpression (i + 3))
 
   module _ {k : ℕ} {T₁ : List ℕ} {r₁ r₂ : Answer} (few : n ≤ 2048) (ek : k ≡ kindInTable T n (i + 2)) (z : k ≡ 36)
       (p : ModePost (operation (levelAt 0)) n n (i + 3) T r₁ T₁) (s : Follows T₁ n 37 r₁ r₂) where
@@ -91,8 +100,11 @@ module _ (T : List ℕ) (n i : ℕ) (pre : startsArray T n i ≡ true) where
         let same : given T₂ ≡ given T₁ = ap given eT ∙ given-node T₁ i (col T₁ 1 i) x 2048 in
         as-mode (omega arith) (omega arith) (array-steps ek z)
         (then-on few o sized e (q .kept ∙ same) (within-more j (i + 1) n n n r (omega arith) (omega arith) (q .within))
-        (λ ts h f en a ea ta. q .says (newArray (placeAt ts i i) a) T refl
-        (made T₂ i i x 2048 h (omega arith) eT ∙ cc (is-new-array (placeAt ts i i) a T)) ts (tokens-kept few same h) f (omega arith)))
+        (λ ts h f en a ea ta.
+        let u = elementAt ts (i + 1) (element-after (tokens-kept few (sym (p .kept)) h) .element) in
+        rw (element-after (tokens-kept few (sym (p .kept)) h) .read)
+        (q .says (newArray (placeAt ts i i) u a) T refl
+        (made T₂ i i x 2048 h (omega arith) eT ∙ cc (is-new-array (placeAt ts i i) u a T)) ts (tokens-kept few same h) f (omega arith))))
 
   pub array-open : {k : ℕ} → k ≡ kindInTable T n (i + 2) → k ≢ 36 → ModePost postfix n n i T (Bad (i + 2)) T
   unfolding step
@@ -100,7 +112,7 @@ module _ (T : List ℕ) (n i : ℕ) (pre : startsArray T n i ≡ true) where
       record {
         kept = refl;
         within = tt;
-        says = λ ts h. stepped postfix ts i (fuel postfix n i) (λ f enough. rw (array-tests h, is-not h (i + 2) ek q) met-bad);
+        says = λ ts h. stepped postfix ts i (fuel postfix n i) (λ f enough. rw (makes-array T n i h ∙ pre, element-after h .read, is-not h (i + 2) ek q) met-bad);
       }
 
 -- SUFFIXES

@@ -6,6 +6,7 @@ use mathlib.Core.List.{List, [], _∷_}
 use mathlib.Core.Logic.{_≢_}
 use mathlib.Core.Bool.{Bool, true, false}
 use native.Mathlib.Omega.{arith}
+use lib.Dec.{eqb}
 use borrow.Author.Tests.{ne-eqb}
 use Rattle.base.specs.contracts.Table.{put}
 use Rattle.lexer.specs.Kinds.{isName}
@@ -14,64 +15,62 @@ use Rattle.parser.specs.declared.answer.Answer.{Answer}
 use Rattle.parser.specs.declared.answer.Answer.the-variants.{At, Bad}
 use Rattle.parser.specs.Tree.{Variable}
 use Rattle.parser.specs.Stream.{nameAt}
-use Rattle.parser.specs.Parse.{ok, bind, typeFrom, variableFrom, beginsVariable, variablesFrom, someParameters, parametersFrom}
+use Rattle.parser.specs.Parse.{ok, bind, beginsType, typeFrom, variableFrom, beginsVariable, variablesFrom, someParameters, parametersFrom}
 use Rattle.parser.specs.contracts.Layout.{given, rowVariables, storeVariable, storeVariables}
 use Rattle.parser.specs.contracts.Post.{kindInTable, TokensIn, met-ok, met-bad}
 use Rattle.parser.specs.contracts.DeclarationPost.{declarationStored, OpenedPost, aType, aVariable, variableList, parameterList}
-use Rattle.parser.specs.contracts.DeclarationPost.{formals, DeclPost, startsVariable}
+use Rattle.parser.specs.contracts.DeclarationPost.{formals, DeclPost, followsType, startsVariable}
 use Rattle.parser.specs.contracts.Parts.{Follows, ListOf, PiecePost}
 use Rattle.parser.proofs.Pieces.{andToken, regroup, member, then-token, then-bad, then-list, last-member, no-member, more-members}
 use Rattle.parser.proofs.Pieces.{of-declaration, as-declarations, as-piece}
 use Rattle.parser.proofs.Laws.{there, given-put, is, is-not, passes, bind-ok, bind-bad, at-suc, within-ok, plus-three}
 use Rattle.parser.proofs.Postfix.{name-there}
+use Rattle.parser.proofs.Types.{ElementRead, element-read, element-not, type-there}
 
 -- TYPES
-module _ {n i k : ℕ} {T : List ℕ} (ek : k ≡ kindInTable T n i) where
-  pub type-array : {k₁ k₂ : ℕ} → k ≡ 11 → k₁ ≡ kindInTable T n (i + 1) → k₁ ≡ 36 → k₂ ≡ kindInTable T n (i + 2) → k₂ ≡ 37 → DeclPost aType n i T (At i (i + 3)) T
+module _ {n i k : ℕ} {T : List ℕ} {b : Bool} (ek : k ≡ kindInTable T n i) (eb : b ≡ beginsType k true) where
+  -- what the definition reads where the code's test holds
+  element-at : b ≡ true → {ts : List Token} → TokensIn T n ts → ElementRead ts i
+  element-at t {ts} h = element-read ts i true (passes h (λ (k : ℕ). beginsType k true) i ek (sym eb ∙ t))
+
+  module _ {k₁ : ℕ} (t : b ≡ true) (ek₁ : k₁ ≡ kindInTable T n (i + 1)) where
+    pub type-array : {k₂ : ℕ} → k₁ ≡ 36 → k₂ ≡ kindInTable T n (i + 2) → k₂ ≡ 37 → DeclPost aType n i T (At i (i + 3)) T
+    unfolding typeFrom
+    type-array z₁ ek₂ z₂ =
+        let l = there T n (i + 2) _ 37 ek₂ z₂ (omega arith) in
+        record {
+          kept = refl;
+          within = (omega arith, omega arith, omega arith);
+          says = λ ts h f enough. rw (element-at t h .read, is h (i + 1) ek₁ z₁, is h (i + 2) ek₂ z₂, plus-three i) (met-ok refl refl);
+        }
+
+    pub type-open : {k₂ : ℕ} → k₁ ≡ 36 → k₂ ≡ kindInTable T n (i + 2) → k₂ ≢ 37 → DeclPost aType n i T (Bad (i + 2)) T
+    unfolding typeFrom
+    type-open z₁ ek₂ z₂ =
+        record {
+          kept = refl;
+          within = tt;
+          says = λ ts h f enough. rw (element-at t h .read, is h (i + 1) ek₁ z₁, is-not h (i + 2) ek₂ z₂) met-bad;
+        }
+
+    pub type-plain : k₁ ≢ 36 → DeclPost aType n i T (At i (i + 1)) T
+    unfolding typeFrom
+    type-plain z₁ =
+        let l = type-there T n i k ek eb t in
+        record {
+          kept = refl;
+          within = (omega arith, omega arith, omega arith);
+          says = λ ts h f enough. rw (element-at t h .read, is-not h (i + 1) ek₁ z₁) (met-ok refl refl);
+        }
+
+  pub type-none : b ≡ false → DeclPost aType n i T (Bad i) T
   unfolding typeFrom
-  type-array z ek₁ z₁ ek₂ z₂ =
-      let l = there T n (i + 2) _ 37 ek₂ z₂ (omega arith) in
+  type-none t =
       record {
         kept = refl;
-        within = (omega arith, omega arith, omega arith);
-        says = λ ts h f enough. rw (is h i ek z, is h (i + 1) ek₁ z₁, is h (i + 2) ek₂ z₂, plus-three i) (met-ok refl refl);
+        within = tt;
+        says = λ ts h f enough. rw (element-not ts i (passes h (λ (k : ℕ). beginsType k true) i ek (sym eb ∙ t))) met-bad;
       }
-
-  pub type-open : {k₁ k₂ : ℕ} → k ≡ 11 → k₁ ≡ kindInTable T n (i + 1) → k₁ ≡ 36 → k₂ ≡ kindInTable T n (i + 2) → k₂ ≢ 37 → DeclPost aType n i T (Bad (i + 2)) T
-  unfolding typeFrom
-  type-open z ek₁ z₁ ek₂ z₂ =
-      record { kept = refl; within = tt; says = λ ts h f enough. rw (is h i ek z, is h (i + 1) ek₁ z₁, is-not h (i + 2) ek₂ z₂) met-bad }
-
-  pub type-int : {k₁ : ℕ} → k ≡ 11 → k₁ ≡ kindInTable T n (i + 1) → k₁ ≢ 36 → DeclPost aType n i T (At i (i + 1)) T
-  unfolding typeFrom
-  type-int z ek₁ z₁ =
-      let l = there T n i _ 11 ek z (omega arith) in
-      record {
-        kept = refl;
-        within = (omega arith, omega arith, omega arith);
-        says = λ ts h f enough. rw (is h i ek z, is-not h (i + 1) ek₁ z₁) (met-ok refl refl);
-      }
-
-  pub type-boolean : k ≡ 5 → DeclPost aType n i T (At i (i + 1)) T
-  unfolding typeFrom
-  type-boolean z =
-      let l = there T n i _ 5 ek z (omega arith) in
-      record { kept = refl; within = (omega arith, omega arith, omega arith); says = λ ts h f enough. rw (is h i ek z) (met-ok refl refl) }
-
-  pub type-class : {b : Bool} → k ≢ 11 → k ≢ 5 → b ≡ isName k → b ≡ true → DeclPost aType n i T (At i (i + 1)) T
-  unfolding typeFrom
-  type-class z z′ eb t =
-      let l = name-there T n i k ek eb t in
-      record {
-        kept = refl;
-        within = (omega arith, omega arith, omega arith);
-        says = λ ts h f enough. rw (is-not h i ek z, is-not h i ek z′, passes h isName i ek (sym eb ∙ t)) (met-ok refl refl);
-      }
-
-  pub type-none : {b : Bool} → k ≢ 11 → k ≢ 5 → b ≡ isName k → b ≡ false → DeclPost aType n i T (Bad i) T
-  unfolding typeFrom
-  type-none z z′ eb t =
-      record { kept = refl; within = tt; says = λ ts h f enough. rw (is-not h i ek z, is-not h i ek z′, passes h isName i ek (sym eb ∙ t)) met-bad }
 
 -- A TYPE AND A NAME
 is-variable : (v : Variable) (t : List ℕ) → storeVariable v t ≡ put t 3 (v .name .row) (v .type .row)
@@ -102,32 +101,32 @@ module _ {n i : ℕ} {T : List ℕ} {r₁ : Answer} (p : DeclPost aType n i T r�
         record { kept = refl; within = tt; says = λ ts h f enough. bind-ok _ e (p .says ts h f enough) (λ u eu tu. rw (passes h isName j ek (sym eb ∙ t)) met-bad) }
 
 -- WHERE A VARIABLE BEGINS
-module _ (T : List ℕ) (c : Bool) (n i k : ℕ) (ek : k ≡ kindInTable T n i) where
-  pub starts-int : k ≡ 11 → true ≡ startsVariable T c n i
+module _ (T : List ℕ) (c : Bool) (n i : ℕ) where
+  pub follows-in-class : c ≡ true → true ≡ followsType T c n i
+  unfolding followsType
+  follows-in-class t = rw t refl
+
+  module _ (t : c ≡ false) {k : ℕ} {b : Bool} (ek : k ≡ kindInTable T n i) (eb : b ≡ isName k) where
+    pub follows-name : b ≡ true → true ≡ followsType T c n i
+    unfolding followsType
+    follows-name t′ = rw (t, ← ek, sym eb ∙ t′) refl
+
+    pub follows-mark : {k′ : ℕ} → b ≡ false → k ≡ 36 → k′ ≡ kindInTable T n (i + 1) → eqb k′ 37 ≡ followsType T c n i
+    unfolding followsType
+    follows-mark t′ z ek′ = rw (t, ← ek, sym eb ∙ t′, z, ← ek′) refl
+
+    pub follows-other : b ≡ false → k ≢ 36 → eqb k 36 ≡ followsType T c n i
+    unfolding followsType
+    follows-other t′ z = rw (t, ← ek, sym eb ∙ t′, ne-eqb k 36 z) refl
+
+  pub starts-here : {k : ℕ} {b b′ : Bool} → b ≡ followsType T c n (i + 1) → k ≡ kindInTable T n i → b′ ≡ beginsType k b → b′ ≡ startsVariable T c n i
   unfolding startsVariable
-  starts-int z = rw (← ek, z) refl
+  starts-here eb ek eb′ = rw (← ek, ← eb) eb′
 
-  pub starts-boolean : k ≡ 5 → true ≡ startsVariable T c n i
-  unfolding startsVariable
-  starts-boolean z = rw (← ek, z) refl
-
-  module _ (z : k ≢ 11) (z′ : k ≢ 5) {b : Bool} (eb : b ≡ isName k) where
-    pub starts-field : b ≡ true → c ≡ true → true ≡ startsVariable T c n i
-    unfolding startsVariable
-    starts-field t t′ = rw (← ek, ne-eqb k 11 z, ne-eqb k 5 z′, sym eb ∙ t, t′) refl
-
-    pub starts-local : {k′ : ℕ} {b′ : Bool} → b ≡ true → c ≡ false → k′ ≡ kindInTable T n (i + 1) → b′ ≡ isName k′ → b′ ≡ startsVariable T c n i
-    unfolding startsVariable
-    starts-local t t′ ek′ eb′ = rw (← ek, ne-eqb k 11 z, ne-eqb k 5 z′, sym eb ∙ t, t′, ← ek′) eb′
-
-    pub starts-none : b ≡ false → false ≡ startsVariable T c n i
-    unfolding startsVariable
-    starts-none t = rw (← ek, ne-eqb k 11 z, ne-eqb k 5 z′, sym eb ∙ t) refl
-
--- the definition's test, as the code has it
-begins : (T : List ℕ) (c : Bool) (n i : ℕ) {ts : List Token} → TokensIn T n ts → beginsVariable c ts i ≡ startsVariable T c n i
-unfolding beginsVariable startsVariable
-begins T c n i h = rw (h .kinds i, h .kinds (i + 1)) refl
+  -- the definition's test, as the code has it
+  begins : {ts : List Token} → TokensIn T n ts → beginsVariable c ts i ≡ startsVariable T c n i
+  unfolding beginsVariable startsVariable followsType
+  begins h = rw (h .kinds i, h .kinds (i + 1), h .kinds (i + 1 + 1)) refl
 
 -- LISTS
 is-more : (v : Variable) (vs : List Variable) (t : List ℕ)

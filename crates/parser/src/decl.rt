@@ -2,6 +2,7 @@
 use crate::answer::Answer;
 use crate::columns;
 use crate::expr::operation;
+use crate::kinds::begins_type;
 use crate::kinds::is_name;
 use crate::parts::followed;
 use crate::parts::linked;
@@ -11,7 +12,6 @@ use crate::table::kind;
 use crate::table::link;
 use crate::table::matched;
 use crate::table::put;
-use lexer::kinds::BOOLEAN;
 use lexer::kinds::CLASS;
 use lexer::kinds::CLOSE;
 use lexer::kinds::CLOSE_BRACE;
@@ -19,7 +19,6 @@ use lexer::kinds::CLOSE_BRACKET;
 use lexer::kinds::COMMA;
 use lexer::kinds::END;
 use lexer::kinds::EXTENDS;
-use lexer::kinds::INT;
 use lexer::kinds::MAIN;
 use lexer::kinds::NAME;
 use lexer::kinds::OPEN;
@@ -39,7 +38,7 @@ ghost use Rattle.parser.specs.contracts.Layout.{methodRow, classRow};
 ghost use Rattle.parser.specs.contracts.Post.{Parsable, kindInTable};
 ghost use Rattle.parser.specs.contracts.DeclarationPost.{DeclPost, OpenedPost, LocalsPost, BodyPost, ReturnedPost, MembersPost};
 ghost use Rattle.parser.specs.contracts.DeclarationPost.{ClassMethodsPost, ProgramPost};
-ghost use Rattle.parser.specs.contracts.DeclarationPost.{startsVariable, EndsThere};
+ghost use Rattle.parser.specs.contracts.DeclarationPost.{followsType, startsVariable, EndsThere};
 ghost use Rattle.parser.specs.contracts.DeclarationPost.{aType, aVariable, variableList, parameterList, formals, aMethod, methodList};
 ghost use Rattle.parser.specs.contracts.DeclarationPost.{aParent, aClass, classList};
 
@@ -48,20 +47,13 @@ fn type_use(table: &[u32], n: usize, i: usize) -> Answer
     requires { ⌜ (n ≤ 2048) × (i ≤ n) × (n ≤ length (now table)) ⌝ }
     ensures { λ r. ⌜ DeclPost aType n i (now (table .entry)) r (now (table .entry)) ⌝ }
 {
-    let k = kind(table, n, i);
-    if k == INT {
+    if begins_type(kind(table, n, i), true) {
         if kind(table, n, i + 1) == OPEN_BRACKET {
             if kind(table, n, i + 2) == CLOSE_BRACKET {
                 return Answer::At(i, i + 3);
             }
             return Answer::Bad(i + 2);
         }
-        return Answer::At(i, i + 1);
-    }
-    if k == BOOLEAN {
-        return Answer::At(i, i + 1);
-    }
-    if is_name(k) {
         return Answer::At(i, i + 1);
     }
     Answer::Bad(i)
@@ -85,25 +77,28 @@ fn variable(table: &mut [u32], n: usize, i: usize) -> Answer
     }
 }
 
-// Whether a variable begins here: in a body a name does so only where another name follows.
+// Whether a name before token i is a type: in a class it is, in a body where another name or `[]` follows it.
+fn follows_type(table: &[u32], in_class: bool, n: usize, i: usize) -> bool
+    requires { ⌜ (n ≤ 2048) × (i ≤ n + 1) × (n ≤ length (now table)) ⌝ }
+    ensures { λ r. ⌜ r ≡ followsType (now (table .entry)) «in_class» n i ⌝ }
+{
+    if in_class {
+        return true;
+    }
+    let k = kind(table, n, i);
+    if is_name(k) {
+        return true;
+    }
+    k == OPEN_BRACKET && kind(table, n, i + 1) == CLOSE_BRACKET
+}
+
+// Whether a variable begins here.
 fn starts_variable(table: &[u32], in_class: bool, n: usize, i: usize) -> bool
     requires { ⌜ (n ≤ 2048) × (i ≤ n) × (n ≤ length (now table)) ⌝ }
     ensures { λ r. ⌜ r ≡ startsVariable (now (table .entry)) «in_class» n i ⌝ }
 {
-    let k = kind(table, n, i);
-    if k == INT {
-        return true;
-    }
-    if k == BOOLEAN {
-        return true;
-    }
-    if is_name(k) {
-        if in_class {
-            return true;
-        }
-        return is_name(kind(table, n, i + 1));
-    }
-    false
+    let named = follows_type(table, in_class, n, i + 1);
+    begins_type(kind(table, n, i), named)
 }
 
 // Fields or locals, each with its `;`.

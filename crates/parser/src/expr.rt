@@ -2,6 +2,7 @@
 // number of the token where the whole begins and the row of what stands before.
 use crate::answer::Answer;
 use crate::columns;
+use crate::kinds::begins_type;
 use crate::kinds::is_atom;
 use crate::kinds::is_name;
 use crate::kinds::is_operator;
@@ -15,7 +16,6 @@ use lexer::kinds::CLOSE;
 use lexer::kinds::CLOSE_BRACKET;
 use lexer::kinds::COMMA;
 use lexer::kinds::DOT;
-use lexer::kinds::INT;
 use lexer::kinds::LENGTH;
 use lexer::kinds::NEW;
 use lexer::kinds::NOT;
@@ -118,18 +118,19 @@ fn unary(table: &mut [u32], n: usize, i: usize) -> Answer
     }
 }
 
-// Whether `new int` begins here.
+// Whether `new T[e]` begins here: after `new` a class makes an array where a `[` follows it.
 fn starts_array(table: &[u32], n: usize, i: usize) -> bool
     requires { ⌜ (n ≤ 2048) × (i ≤ n) × (n ≤ length (now table)) ⌝ }
     ensures { λ r. ⌜ r ≡ startsArray (now (table .entry)) n i ⌝ }
 {
     if kind(table, n, i) == NEW {
-        return kind(table, n, i + 1) == INT;
+        let bracket = kind(table, n, i + 2) == OPEN_BRACKET;
+        return begins_type(kind(table, n, i + 1), bracket);
     }
     false
 }
 
-// A primary, or `new int[e]`, and what follows it.
+// A primary, or `new T[e]`, and what follows it.
 fn postfix(table: &mut [u32], n: usize, i: usize) -> Answer
     requires { ⌜ Parsable (now table) n i ⌝ }
     ensures { λ r. ⌜ ModePost Parse.postfix n n i (now (table .entry)) r (now (table .exit)) ⌝ }
@@ -144,7 +145,7 @@ fn postfix(table: &mut [u32], n: usize, i: usize) -> Answer
     }
 }
 
-// `new int[e]`, which a `[` does not directly follow.
+// `new T[e]`, which a `[` does not directly follow.
 fn new_array(table: &mut [u32], n: usize, i: usize) -> Answer
     requires { ⌜ Parsable (now table) n i × (startsArray (now table) n i ≡ true) ⌝ }
     ensures { λ r. ⌜ ModePost Parse.postfix n n i (now (table .entry)) r (now (table .exit)) ⌝ }

@@ -138,8 +138,8 @@ module _ {tab : List ℕ} {ts : List Token} where
   apart (truth p b) low e h m o = zero-parts (truth p b) p refl h (truth-kinds b ∙ known kIf (m .is)) (λ d. refl) refl
   apart (variable p x) low e h m o = zero-parts (variable p x) p refl h (name-kinds _ (m .named) .0) (λ d. refl) refl
   apart (this p) low e h m o = zero-parts (this p) p refl h (known kIf (m .is)) (λ d. refl) refl
-  apart (newArray p x) low e h m o =
-      one (newArray p x) p x refl (h .0) (known kIf (m .0 .is)) (sound (known kOpenBrace (m .0 .is)) (h .1) (m .2) (o .1)) (λ d. refl) refl
+  apart (newArray p u x) low e h m o =
+      one (newArray p u x) p x refl (h .0) (known kIf (m .0 .is)) (sound (known kOpenBrace (m .0 .is)) (h .1) (m .4) (o .1)) (λ d. refl) refl
   apart (newObject p c) low e h m o = zero-parts (newObject p c) p refl h (known kIf (m .0 .is)) (λ d. refl) refl
   apart (negation p x) low e h m o =
       one (negation p x) p x refl (h .0) (known kIf (m .0 .is)) (sound (known kOpenBrace (m .0 .is)) (h .1) (m .1) (o .1)) (λ d. refl) refl

@@ -81,9 +81,16 @@ lengthOf = around (bytes "System.out.println(") (bytes ".length);")
 abbrev pub asked : Sample → List ℕ
 asked = around (bytes "System.out.println(") (bytes ".m());")
 
+-- stored in an array of t, and an element of such an array
+abbrev pub toElement : (t : List ℕ) → Sample → List ℕ
+toElement t g = doing (t ++ bytes "[] e;e=new " ++ t ++ bytes "[1];e[0]=" ++ g .value ++ bytes ";")
+
+abbrev pub elementSample : (t : List ℕ) → Sample
+elementSample t = record { type = t; value = bytes "(new " ++ t ++ bytes "[1])[0]" }
+
 abbrev pub nodeLessons : List (List ℕ)
 nodeLessons =
-    -- a number: operands, println, a size, an index, the index of a target, a stored element
+    -- a number: operands, println, a size, an index, the index of a target, an element of int[]
     around (bytes "System.out.println(") (bytes "+1);") truth ∷
     around (bytes "System.out.println(1+") (bytes ");") object ∷
     around (bytes "System.out.println(") (bytes "-1);") array ∷
@@ -93,7 +100,7 @@ nodeLessons =
     around (bytes "z=new int[") (bytes "];") truth ∷
     around (bytes "System.out.println((new int[1])[") (bytes "]);") object ∷
     around (bytes "z=new int[1];z[") (bytes "]=1;") truth ∷
-    around (bytes "z=new int[1];z[0]=") (bytes ";") truth ∷
+    map (toElement (bytes "int")) (truth ∷ nullArray ∷ array ∷ object ∷ []) ++
     map toPrint (truth ∷ nullArray ∷ array ∷ object ∷ []) ++
     -- a truth value: operands, the tests of `if` and `while`
     around (bytes "if(") (bytes "&&true){}else{}") integer ∷
@@ -101,6 +108,12 @@ nodeLessons =
     around (bytes "if(") (bytes "){}else{}") array ∷
     around (bytes "while(") (bytes "){}") integer ∷
     map turnedRound (integer ∷ nullArray ∷ array ∷ object ∷ []) ++
+    -- a value of another kind than the elements', and an element of another kind than the node needs
+    map (toElement (bytes "boolean")) (integer ∷ nullArray ∷ array ∷ object ∷ []) ++
+    map (toElement (bytes "A")) (integer ∷ truth ∷ array ∷ []) ++
+    map toPrint (elementSample (bytes "boolean") ∷ elementSample (bytes "A") ∷ []) ++
+    map turnedRound (elementSample (bytes "int") ∷ elementSample (bytes "A") ∷ []) ++
+    map asked (elementSample (bytes "int") ∷ elementSample (bytes "boolean") ∷ []) ++
     -- an array: what is indexed, the target of a stored element, what has a length
     around (bytes "System.out.println(") (bytes "[0]);") object ∷
     doing (bytes "int x;x[0]=1;") ∷

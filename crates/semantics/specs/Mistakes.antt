@@ -48,6 +48,26 @@ pub one-step-for-while : endOf threeRounds usual ≡ ends 0 0 29 1 (pos 3 ∷ []
 unfolding endOf
 one-step-for-while = refl
 
+-- the elements of a boolean[] begin as false
+abbrev pub falseElement : List ℕ
+falseElement =
+    printing (bytes "new A().m()")
+    ++ bytes " class A{public int m(){boolean[] b;int r;b=new boolean[2];if(!b[0])r=1;else r=2;return r;}}"
+
+pub elements-begin-as-false : endOf falseElement usual ≡ ends 0 0 14 4 (pos 1 ∷ [])
+unfolding endOf
+elements-begin-as-false = refl
+
+-- the bound of an array of a class is its own length: here a second array lies behind it
+abbrev pub pastTheEnd : List ℕ
+pastTheEnd =
+    printing (bytes "new A().m()")
+    ++ bytes " class A{public int m(){A[] x;A[] y;x=new A[1];y=new A[3];y=x[2].n();return 1;}public A[] n(){return new A[1];}}"
+
+pub bound-of-the-array : endOf pastTheEnd usual ≡ ends 41 138 14 7 []
+unfolding endOf
+bound-of-the-array = refl
+
 -- Stuck at a value of another kind, in lessons that Check refuses: each would run to its end if the kind were not tested there.
 abbrev pub truthAssigned : List ℕ
 truthAssigned = printing (bytes "new A().m()") ++ bytes " class A{public int m(){int x;x=true;return 1;}}"
@@ -77,3 +97,10 @@ objectReturned = printing (bytes "new A().m().n()") ++ bytes " class A{public in
 pub stuck-at-return : uncheckedOf objectReturned usual ≡ some wentWrong
 unfolding uncheckedOf
 stuck-at-return = refl
+
+abbrev pub numberStored : List ℕ
+numberStored = printing (bytes "new A().m()") ++ bytes " class A{public int m(){boolean[] x;x=new boolean[1];x[0]=1;return 1;}}"
+
+pub stuck-at-element : uncheckedOf numberStored usual ≡ some wentWrong
+unfolding uncheckedOf
+stuck-at-element = refl

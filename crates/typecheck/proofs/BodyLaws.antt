@@ -74,7 +74,7 @@ module _ {tab : List ℕ} {s : Scope} {row first : ℕ} (e₄ : first ≡ wordAt
               matches = st .value-matches;
               within = subst (λ (i : ℕ). Spans i (s .tokens) (m .value)) at (st .value-within);
             })
-            (m .result .type) (type .says ts (sc .world .tokens) (m .result) d (st .head .type)));
+            (m .result .type) (type .says ts (sc .world .tokens) (m .result .row) d (m .result .type) (st .head .type)));
       }
 
 -- BODIES

@@ -7,7 +7,7 @@ use mathlib.Core.Option.{Option, none, some}
 use lib.ListN.{length}
 use Rattle.base.specs.Choice.{if_then_else_, option}
 use Rattle.base.specs.Bytes.{same}
-use Rattle.parser.specs.Tree.{Ty, Ty.int, Ty.boolean, Ty.intArray, Ty.class, Variable, Method, Class}
+use Rattle.parser.specs.Tree.{Element, Element.int, Element.boolean, Element.class, Ty, Ty.plain, Ty.arrayOf, Variable, Method, Class}
 
 -- a name stands in a list of names
 unfoldable pub occurs : List ℕ → List (List ℕ) → Bool
@@ -58,29 +58,32 @@ endsWithin (suc n) G c = option (classNamed G c) true λ k. option (k .parent) t
 
 -- TYPES
 
-unfoldable pub sameType : Ty → Ty → Bool
-sameType int int = true
-sameType int boolean = false
-sameType int intArray = false
-sameType int (class d) = false
-sameType boolean int = false
-sameType boolean boolean = true
-sameType boolean intArray = false
-sameType boolean (class d) = false
-sameType intArray int = false
-sameType intArray boolean = false
-sameType intArray intArray = true
-sameType intArray (class d) = false
-sameType (class c) int = false
-sameType (class c) boolean = false
-sameType (class c) intArray = false
-sameType (class c) (class d) = same c d
+unfoldable pub sameElement : Element → Element → Bool
+sameElement int int = true
+sameElement int boolean = false
+sameElement int (class d) = false
+sameElement boolean int = false
+sameElement boolean boolean = true
+sameElement boolean (class d) = false
+sameElement (class c) int = false
+sameElement (class c) boolean = false
+sameElement (class c) (class d) = same c d
 
--- a type of the table
-unfoldable pub known : List Class → Ty → Bool
+unfoldable pub sameType : Ty → Ty → Bool
+sameType (plain s) (plain t) = sameElement s t
+sameType (plain s) (arrayOf t) = false
+sameType (arrayOf s) (plain t) = false
+sameType (arrayOf s) (arrayOf t) = sameElement s t
+
+-- what an array of this type holds, and what any other type is itself
+abbrev pub underlying : Ty → Element
+underlying (plain t) = t
+underlying (arrayOf t) = t
+
+-- int, boolean or a class of the table
+unfoldable pub known : List Class → Element → Bool
 known G int = true
 known G boolean = true
-known G intArray = true
 known G (class c) = option (classNamed G c) false λ _. true
 
 unfoldable pub among : List ℕ → List Class → Bool
@@ -88,18 +91,19 @@ among d [] = false
 among d (k ∷ ks) = same (k .name .text) d || among d ks
 
 -- a class fits every class on its `extends` chain
-unfoldable pub onChain : List Class → Ty → Ty → Bool
+unfoldable pub onChain : List Class → Element → Element → Bool
 onChain G int t = false
 onChain G boolean t = false
-onChain G intArray t = false
 onChain G (class c) int = false
 onChain G (class c) boolean = false
-onChain G (class c) intArray = false
 onChain G (class c) (class d) = among d (chain G c)
 
--- a type fits itself
+-- a type fits itself, and an array type only itself
 unfoldable pub fits : List Class → Ty → Ty → Bool
-fits G s t = sameType s t || onChain G s t
+fits G (plain s) (plain t) = sameElement s t || onChain G s t
+fits G (plain s) (arrayOf t) = false
+fits G (arrayOf s) (plain t) = false
+fits G (arrayOf s) (arrayOf t) = sameElement s t
 
 -- FIELDS AND METHODS
 

@@ -10,7 +10,8 @@ use Rattle.base.specs.Outcome.{Outcome, accepted, refused, _>>=_}
 use Rattle.base.specs.Codes.{classRepeated, parentUnknown, chainEndless, fieldRepeated, typeUnknown, methodRepeated, badRedeclaration}
 use Rattle.base.specs.Codes.{variableRepeated, tooManyVariables, variablesMost}
 use Rattle.parser.specs.Tree.{Name, TypeUse, Variable, Method, Class}
-use Rattle.typesystem.specs.ClassTable.{occurs, textOf, classNamed, chain, endsWithin, sameType, known, fits, nearestMethod}
+use Rattle.typesystem.specs.ClassTable.{occurs, textOf, classNamed, chain, endsWithin, sameType, underlying, known, fits}
+use Rattle.typesystem.specs.ClassTable.{nearestMethod}
 
 -- 20: over all classes, main included, the first name that repeats an earlier one
 unfoldable pub distinctClasses : (earlier : List (List ℕ)) → List Class → Outcome (Unit {0})
@@ -36,7 +37,7 @@ endingChains G (k ∷ ks) =
 
 -- 24, at the type
 abbrev pub knownType : List Class → TypeUse → Outcome (Unit {0})
-knownType G t = if known G (t .type) then (λ _. accepted tt) else λ _. refused typeUnknown (t .start)
+knownType G t = if known G (underlying (t .type)) then (λ _. accepted tt) else λ _. refused typeUnknown (t .start)
 
 -- the fields of a class: 24, 23
 unfoldable pub fields : List Class → (earlier : List (List ℕ)) → List Variable → Outcome (Unit {0})

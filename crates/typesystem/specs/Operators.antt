@@ -3,18 +3,19 @@
 use mathlib.Core.List.{List, [], _∷_}
 use mathlib.Core.Option.{Option, none, some}
 use Rattle.base.specs.Choice.{if_then_else_}
-use Rattle.parser.specs.Tree.{Operator, Operator.and, Operator.less, Operator.plus, Operator.minus, Operator.times, Ty, Ty.int, Ty.boolean}
+use Rattle.parser.specs.Tree.{Operator, Operator.and, Operator.less, Operator.plus, Operator.minus, Operator.times}
+use Rattle.parser.specs.Tree.{Element.int, Element.boolean, Ty, Ty.plain}
 use Rattle.typesystem.specs.ClassTable.{sameType}
 
 pub data Line : Type 0 where
   line : (left result : Ty) → Line
 
 abbrev pub lines : Operator → List Line
-lines and = line boolean boolean ∷ []
-lines less = line int boolean ∷ []
-lines plus = line int int ∷ []
-lines minus = line int int ∷ []
-lines times = line int int ∷ []
+lines and = line (plain boolean) (plain boolean) ∷ []
+lines less = line (plain int) (plain boolean) ∷ []
+lines plus = line (plain int) (plain int) ∷ []
+lines minus = line (plain int) (plain int) ∷ []
+lines times = line (plain int) (plain int) ∷ []
 
 unfoldable pub resultIn : List Line → (left : Ty) → Option Ty
 resultIn [] t = none

@@ -9,7 +9,8 @@ use mathlib.Core.Option.{none, some}
 use lib.ListN.{length}
 use Rattle.base.specs.All.{All}
 use Rattle.base.specs.Codes.{variablesMost}
-use Rattle.parser.specs.Tree.{Place, Name, Operator, Part, Expression, Statement, Ty, Ty.int, Ty.boolean, Ty.intArray, Ty.class, Variable}
+use Rattle.parser.specs.Tree.{Place, Name, Operator, Part, Expression, Statement, Variable}
+use Rattle.parser.specs.Tree.{Element, Element.int, Element.boolean, Element.class, ElementUse, Ty, Ty.plain, Ty.arrayOf}
 use Rattle.parser.specs.Tree.{Method, Class, Program}
 use Rattle.parser.specs.Tree.{Sort.arguments, Sort.statement, Sort.statements}
 use Rattle.parser.specs.Tree.{Part.literal, Part.truth, Part.variable, Part.this, Part.newArray, Part.newObject, Part.negation, Part.binary}
@@ -17,7 +18,7 @@ use Rattle.parser.specs.Tree.{Part.element, Part.arrayLength, Part.call, Part.n
 use Rattle.parser.specs.Tree.{Part.block, Part.conditional, Part.loop, Part.print, Part.assign, Part.assignElement, Part.noStatements}
 use Rattle.parser.specs.Tree.{Part.sequence}
 use Rattle.typesystem.specs.ClassTable.{Slot, Found, Context, mainContext, contextOf, classNamed, methodNamed, variableNamed, known}
-use Rattle.typesystem.specs.ClassTable.{occurs, textOf}
+use Rattle.typesystem.specs.ClassTable.{underlying, occurs, textOf}
 use Rattle.typesystem.specs.Operators.{operation}
 
 -- SUBTYPES: 004's ≺, document 01's "fits"
@@ -28,7 +29,7 @@ pub data Extends (G : List Class) : (c d : List ℕ) → Type 0 where
 
 pub data Sub (G : List Class) : Ty → Ty → Type 0 where
   sub-same : {t : Ty} → Sub G t t
-  sub-extends : {c d : List ℕ} → Extends G c d → Sub G (class c) (class d)
+  sub-extends : {c d : List ℕ} → Extends G c d → Sub G (plain (class c)) (plain (class d))
   sub-trans : {s t u : Ty} → Sub G s t → Sub G t u → Sub G s u
 
 -- the chain of a class ends
@@ -67,20 +68,23 @@ pub data HasName (G : List Class) (Γ : Context) : List ℕ → Ty → Type 0 wh
 -- EXPRESSIONS
 mutual
   pub data HasType (G : List Class) (Γ : Context) : Expression → Ty → Type 0 where
-    t-literal : {p : Place} {n : ℕ} → HasType G Γ (literal p n) int
-    t-truth : {p : Place} {b : Bool} → HasType G Γ (truth p b) boolean
+    t-literal : {p : Place} {n : ℕ} → HasType G Γ (literal p n) (plain int)
+    t-truth : {p : Place} {b : Bool} → HasType G Γ (truth p b) (plain boolean)
     t-variable : {p : Place} {x : List ℕ} {t : Ty} → HasName G Γ x t → HasType G Γ (variable p x) t
-    t-this : {p : Place} {c : List ℕ} → Γ .owner ≡ some c → HasType G Γ (this p) (class c)
-    t-new-array : {p : Place} {e : Expression} → HasType G Γ e int → HasType G Γ (newArray p e) intArray
-    t-new-object : {p : Place} {n : Name} {c : List ℕ} → n .text ≡ c → known G (class c) ≡ true → HasType G Γ (newObject p n) (class c)
-    t-negation : {p : Place} {e : Expression} → HasType G Γ e boolean → HasType G Γ (negation p e) boolean
+    t-this : {p : Place} {c : List ℕ} → Γ .owner ≡ some c → HasType G Γ (this p) (plain (class c))
+    t-new-array : {p : Place} {u : ElementUse} {t : Element} {e : Expression} → u .element ≡ t → known G t ≡ true
+        → HasType G Γ e (plain int) → HasType G Γ (newArray p u e) (arrayOf t)
+    t-new-object : {p : Place} {n : Name} {c : List ℕ} → n .text ≡ c → known G (class c) ≡ true
+        → HasType G Γ (newObject p n) (plain (class c))
+    t-negation : {p : Place} {e : Expression} → HasType G Γ e (plain boolean) → HasType G Γ (negation p e) (plain boolean)
     t-binary : {p : Place} {o : Operator} {l r : Expression} {s t : Ty} → HasType G Γ l s → operation o s ≡ some t → HasType G Γ r s
         → HasType G Γ (binary p o l r) t
-    t-element : {p : Place} {a i : Expression} → HasType G Γ a intArray → HasType G Γ i int → HasType G Γ (element p a i) int
-    t-length : {p : Place} {a : Expression} → HasType G Γ a intArray → HasType G Γ (arrayLength p a) int
+    t-element : {p : Place} {a i : Expression} {t : Element} → HasType G Γ a (arrayOf t) → HasType G Γ i (plain int)
+        → HasType G Γ (element p a i) (plain t)
+    t-length : {p : Place} {a : Expression} {t : Element} → HasType G Γ a (arrayOf t) → HasType G Γ (arrayLength p a) (plain int)
     t-call : {p : Place} {e : Expression} {m : Name} {es : Part arguments} {c : List ℕ} {F : Found} {t : Ty}
-        → HasType G Γ e (class c) → HasMethod G c (m .text) F → HaveTypes G Γ es (F .method .parameters) → F .method .result .type ≡ t
-        → HasType G Γ (call p e m es) t
+        → HasType G Γ e (plain (class c)) → HasMethod G c (m .text) F → HaveTypes G Γ es (F .method .parameters)
+        → F .method .result .type ≡ t → HasType G Γ (call p e m es) t
 
   pub data HaveTypes (G : List Class) (Γ : Context) : Part arguments → List Variable → Type 0 where
     t-none : HaveTypes G Γ noArguments []
@@ -91,13 +95,14 @@ mutual
 mutual
   pub data IsTyped (G : List Class) (Γ : Context) : Statement → Type 0 where
     t-block : {p : Place} {ss : Part statements} → AreTyped G Γ ss → IsTyped G Γ (block p ss)
-    t-if : {p : Place} {e : Expression} {s t : Statement} → HasType G Γ e boolean → IsTyped G Γ s → IsTyped G Γ t
+    t-if : {p : Place} {e : Expression} {s t : Statement} → HasType G Γ e (plain boolean) → IsTyped G Γ s → IsTyped G Γ t
         → IsTyped G Γ (conditional p e s t)
-    t-while : {p : Place} {e : Expression} {s : Statement} → HasType G Γ e boolean → IsTyped G Γ s → IsTyped G Γ (loop p e s)
-    t-print : {p : Place} {e : Expression} → HasType G Γ e int → IsTyped G Γ (print p e)
+    t-while : {p : Place} {e : Expression} {s : Statement} → HasType G Γ e (plain boolean) → IsTyped G Γ s → IsTyped G Γ (loop p e s)
+    t-print : {p : Place} {e : Expression} → HasType G Γ e (plain int) → IsTyped G Γ (print p e)
     t-assign : {p : Place} {x : List ℕ} {e : Expression} {s t : Ty} → HasName G Γ x t → HasType G Γ e s → Sub G s t
         → IsTyped G Γ (assign p x e)
-    t-assign-element : {p : Place} {x : List ℕ} {i e : Expression} → HasName G Γ x intArray → HasType G Γ i int → HasType G Γ e int
+    t-assign-element : {p : Place} {x : List ℕ} {i e : Expression} {t : Element} {s : Ty} → HasName G Γ x (arrayOf t)
+        → HasType G Γ i (plain int) → HasType G Γ e s → Sub G s (plain t)
         → IsTyped G Γ (assignElement p x i e)
 
   pub data AreTyped (G : List Class) (Γ : Context) : Part statements → Type 0 where
@@ -112,7 +117,7 @@ pub data Distinct : List (List ℕ) → Type 0 where
   distinct-more : {x : List ℕ} {xs : List (List ℕ)} → occurs x xs ≡ false → Distinct xs → Distinct (x ∷ xs)
 
 abbrev pub Known : List Class → Variable → Type 0
-Known G v = known G (v .type .type) ≡ true
+Known G v = known G (underlying (v .type .type)) ≡ true
 
 abbrev pub typeOf : Variable → Ty
 typeOf v = v .type .type
@@ -124,7 +129,7 @@ pub record Redeclares (G : List Class) (lower upper : Method) : Type 0 where
 
 -- a method of class c
 pub record MethodTyped (G : List Class) (c : List ℕ) (m : Method) : Type 0 where
-  pub result-known : known G (m .result .type) ≡ true
+  pub result-known : known G (underlying (m .result .type)) ≡ true
   pub variables-known : All (Known G) (m .parameters ++ m .locals)
   pub distinct : Distinct (map textOf (m .parameters ++ m .locals))
   pub few : length (m .parameters ++ m .locals) ≤ variablesMost

@@ -37,7 +37,7 @@ use Rattle.writer.specs.contracts.Words.{words, encode}
 use Rattle.writer.specs.laws.Emits.{no-code}
 use Rattle.writer.specs.laws.Lengths.{grows}
 use Rattle.writer.specs.contracts.Posts.{room, PutPost, NextPost, Wrote, AtMost, Written, Whatever, WritePost, innerE, endE, Says}
-use Rattle.writer.specs.contracts.Posts.{ExpressionPost}
+use Rattle.writer.specs.contracts.Posts.{ExpressionPost, CompoundPost}
 use Rattle.writer.specs.contracts.Posts.{LoadPost, FollowedPost, PairPost, ConjunctionPost}
 use Rattle.writer.proofs.RowLaws.{positive, fewer, fewer-arguments, counted}
 use Rattle.writer.proofs.PieceLaws.{put-one, next-to, over, Opens, node-wrote}
@@ -138,6 +138,13 @@ conjunction-wrote {at = at} {a = a} {b = b} e₄ f e₅ m g p =
 
 -- FORMS
 
+-- the form of a compound expression, by the kind of its own token
+by-kind : (tab : List ℕ) (n row : ℕ) {k : ℕ} {F : Form} (k′ : ℕ) → k ≡ k′
+    → formCompound k′ (kindInTable tab n (row + 1)) (kindInTable tab n (row + 2)) ≡ F
+    → F ≡ formCompound k (kindInTable tab n (row + 1)) (kindInTable tab n (row + 2))
+by-kind tab n row k′ is form =
+    sym (ap (λ (j : ℕ). formCompound j (kindInTable tab n (row + 1)) (kindInTable tab n (row + 2))) is ∙ form)
+
 module _ {tab names : List ℕ} {s : Scope} {left row at r : ℕ} {c c′ : List ℕ} where
   -- a form by another name
   formed : {F H : Form} → F ≡ H → r ≤ room → Says tab names s F left row at c c′ r → ExpressionPost tab names s H left row at c c′ r
@@ -207,57 +214,55 @@ module _ {tab names : List ℕ} {s : Scope} {left row at r : ℕ} {c c′ : List
         go : Says tab names s aVariable left row at c c′ r
         go ts G Γ w e (shows-variable {x = y} q sp) h = f .says ts G Γ w y sp h
 
-  module _ {k : ℕ} (after : ℕ) where
-    pub compound-array : k ≡ 14 → after ≡ 11 → FollowedPost tab names s 14 (wordAt tab 3 row) left (wordAt tab 4 row) at c c′ r
-        → ExpressionPost tab names s (formCompound k after) left row at c c′ r
-    unfolding formCompound
-    compound-array is next f =
-        formed (sym (ap (λ (j : ℕ). formCompound j after) is ∙ ap (formCompound 14) next)) (f .within) go
-      where
-        go : Says tab names s aNewArray left row at c c′ r
-        go ts G Γ w e (shows-new-array {p = p} {e = l} q x) h =
-            f .says ts G Γ w (makeArray p) (ap (λ (n : ℕ). words 14 n 0 0) q) l x h
+  module _ {k : ℕ} where
+    module _ (is : k ≡ 14) {x : ℕ} (read : x ≡ kindInTable tab (s .tokens) (row + 2)) where
+      pub compound-array : x ≡ 36 → FollowedPost tab names s 14 (wordAt tab 3 row) left (wordAt tab 4 row) at c c′ r
+          → CompoundPost tab names s k left row at c c′ r
+      unfolding formCompound
+      compound-array told f = formed (by-kind tab (s .tokens) row 14 is (ap (formCompound 14 (kindInTable tab (s .tokens) (row + 1))) (sym read ∙ told))) (f .within) go
+        where
+          go : Says tab names s aNewArray left row at c c′ r
+          go ts G Γ w e (shows-new-array {p = p} {u = u} {e = l} q t v x) h =
+              f .says ts G Γ w (makeArray p (u .element)) (ap (λ (n : ℕ). words 14 n 0 0) q) l x h
 
-    pub compound-object : k ≡ 14 → (after ≡ 11 → ⊥) → ExpressionPost tab names s aNewObject left row at c c′ r
-        → ExpressionPost tab names s (formCompound k after) left row at c c′ r
-    unfolding formCompound
-    compound-object is next f =
-        formed (sym (ap (λ (j : ℕ). formCompound j after) is ∙ rw (ne-eqb after 11 next))) (f .within) (f .says)
+      pub compound-object : (x ≡ 36 → ⊥) → ExpressionPost tab names s aNewObject left row at c c′ r
+          → CompoundPost tab names s k left row at c c′ r
+      unfolding formCompound
+      compound-object other f = formed (by-kind tab (s .tokens) row 14 is (rw (sym read, ne-eqb x 36 other))) (f .within) (f .says)
 
-    pub compound-length : k ≡ 31 → after ≡ 12 → FollowedPost tab names s 13 (wordAt tab 3 row) left (wordAt tab 4 row) at c c′ r
-        → ExpressionPost tab names s (formCompound k after) left row at c c′ r
-    unfolding formCompound
-    compound-length is next f =
-        formed (sym (ap (λ (j : ℕ). formCompound j after) is ∙ ap (formCompound 31) next)) (f .within) go
-      where
-        go : Says tab names s aLength left row at c c′ r
-        go ts G Γ w e (shows-length {p = p} {e = l} q x) h = f .says ts G Γ w (measure p) (ap (λ (n : ℕ). words 13 n 0 0) q) l x h
+    module _ (is : k ≡ 31) {x : ℕ} (read : x ≡ kindInTable tab (s .tokens) (row + 1)) where
+      pub compound-length : x ≡ 12 → FollowedPost tab names s 13 (wordAt tab 3 row) left (wordAt tab 4 row) at c c′ r
+          → CompoundPost tab names s k left row at c c′ r
+      unfolding formCompound
+      compound-length told f = formed (by-kind tab (s .tokens) row 31 is (ap (λ (j : ℕ). formCompound 31 j (kindInTable tab (s .tokens) (row + 2))) (sym read ∙ told))) (f .within) go
+        where
+          go : Says tab names s aLength left row at c c′ r
+          go ts G Γ w e (shows-length {p = p} {e = l} q x) h = f .says ts G Γ w (measure p) (ap (λ (n : ℕ). words 13 n 0 0) q) l x h
 
-    pub compound-call : k ≡ 31 → (after ≡ 12 → ⊥) → ExpressionPost tab names s aCall left row at c c′ r
-        → ExpressionPost tab names s (formCompound k after) left row at c c′ r
-    unfolding formCompound
-    compound-call is next f =
-        formed (sym (ap (λ (j : ℕ). formCompound j after) is ∙ rw (ne-eqb after 12 next))) (f .within) (f .says)
+      pub compound-call : (x ≡ 12 → ⊥) → ExpressionPost tab names s aCall left row at c c′ r
+          → CompoundPost tab names s k left row at c c′ r
+      unfolding formCompound
+      compound-call other f = formed (by-kind tab (s .tokens) row 31 is (rw (sym read, ne-eqb x 12 other))) (f .within) (f .says)
 
     pub compound-not : k ≡ 29 → {first : ℕ} → first ≡ wordAt tab 4 row → FollowedPost tab names s 5 0 left first at c c′ r
-        → ExpressionPost tab names s (formCompound k after) left row at c c′ r
+        → CompoundPost tab names s k left row at c c′ r
     unfolding formCompound
-    compound-not is e₄ f = formed (sym (ap (λ (j : ℕ). formCompound j after) is)) (f .within) go
+    compound-not is e₄ f = formed (by-kind tab (s .tokens) row 29 is refl) (f .within) go
       where
         go : Says tab names s aNegation left row at c c′ r
         go ts G Γ w e (shows-negation {e = l} q x) h = f .says ts G Γ w negate refl l (rw e₄ x) h
 
     pub compound-element : k ≡ 36 → {start : ℕ} → start ≡ wordAt tab 3 row → PairPost tab names s 12 start left row at c c′ r
-        → ExpressionPost tab names s (formCompound k after) left row at c c′ r
+        → CompoundPost tab names s k left row at c c′ r
     unfolding formCompound
-    compound-element is e₃ f = formed (sym (ap (λ (j : ℕ). formCompound j after) is)) (f .within) go
+    compound-element is e₃ f = formed (by-kind tab (s .tokens) row 36 is refl) (f .within) go
       where
         go : Says tab names s anElement left row at c c′ r
         go ts G Γ w e (shows-element {p = p} {a = l} {i = m} q x y) h =
             f .says ts G Γ w (fetch p) (ap (λ (n : ℕ). words 12 n 0 0) (e₃ ∙ q)) l m x y h
 
     pub compound-binary : (k ≡ 14 → ⊥) → (k ≡ 31 → ⊥) → (k ≡ 29 → ⊥) → (k ≡ 36 → ⊥)
-        → ExpressionPost tab names s aBinary left row at c c′ r → ExpressionPost tab names s (formCompound k after) left row at c c′ r
+        → ExpressionPost tab names s aBinary left row at c c′ r → CompoundPost tab names s k left row at c c′ r
     unfolding formCompound
     compound-binary n₁ n₂ n₃ n₄ f =
         formed (rw (ne-eqb k 14 n₁, ne-eqb k 31 n₂, ne-eqb k 29 n₃, ne-eqb k 36 n₄)) (f .within) (f .says)
@@ -316,7 +321,7 @@ opens G Γ (literal p n) = record { code = λ i k. refl; ends = λ i. refl }
 opens G Γ (truth p b) = record { code = λ i k. refl; ends = λ i. refl }
 opens G Γ (variable p x) = record { code = λ i k. refl; ends = λ i. refl }
 opens G Γ (this p) = record { code = λ i k. refl; ends = λ i. refl }
-opens G Γ (newArray p e) = record { code = λ i k. refl; ends = λ i. refl }
+opens G Γ (newArray p u e) = record { code = λ i k. refl; ends = λ i. refl }
 opens G Γ (newObject p c) = record { code = λ i k. refl; ends = λ i. refl }
 opens G Γ (negation p e) = record { code = λ i k. refl; ends = λ i. refl }
 opens G Γ (binary p o l r) = record { code = λ i k. refl; ends = λ i. refl }
@@ -330,7 +335,7 @@ module _ {tab names : List ℕ} {s : Scope} {left row at : ℕ} {c : List ℕ} w
 
   module _ (more : left ≡ 0 → ⊥) {k i : ℕ} {c₁ : List ℕ} (kind : k ≡ kindInTable tab (s .tokens) row)
       (p : PutPost at 0 (wordAt tab 3 row) 0 0 c c₁ i) {r : ℕ} {c₂ : List ℕ} {b : Bool} (test : b ≡ isAtom k) where
-    behind-mark : {F : Form} → formE k (kindInTable tab (s .tokens) (row + 1)) ≡ F
+    behind-mark : {F : Form} → formE k (kindInTable tab (s .tokens) (row + 1)) (kindInTable tab (s .tokens) (row + 2)) ≡ F
         → ExpressionPost tab names s F (left - 1) row i c₁ c₂ r → WritePost tab names s expression left row at c c₂ r
     behind-mark {F} form f =
         record {
@@ -338,7 +343,7 @@ module _ {tab names : List ℕ} {s : Scope} {left row at : ℕ} {c : List ℕ} w
           says = λ ts G Γ w e h l.
               let sh : Shows tab ts (s .tokens) row (AtMost (left - 1)) (AtMost (left - 1)) F e
               = shown (lexemes w) row (AtMost left) (AtMost (left - 1)) (AtMost (left - 1)) (fewer row left more)
-              (ap (λ (j : ℕ). formE j (kindInTable tab (s .tokens) (row + 1))) (sym kind) ∙ form) e h in
+              (ap (λ (j : ℕ). formE j (kindInTable tab (s .tokens) (row + 1)) (kindInTable tab (s .tokens) (row + 2))) (sym kind) ∙ form) e h in
               node-wrote (opens G Γ e) (positive e) (starts sh) p l (f .says ts G Γ w e sh);
         }
 
@@ -347,10 +352,10 @@ module _ {tab names : List ℕ} {s : Scope} {left row at : ℕ} {c : List ℕ} w
     unfolding formE
     expression-atom is f = behind-mark (rw (sym test ∙ is)) f
 
-    pub expression-compound : b ≡ false → {after : ℕ} → after ≡ kindInTable tab (s .tokens) (row + 1)
-        → ExpressionPost tab names s (formCompound k after) (left - 1) row i c₁ c₂ r → WritePost tab names s expression left row at c c₂ r
+    pub expression-compound : b ≡ false → CompoundPost tab names s k (left - 1) row i c₁ c₂ r
+        → WritePost tab names s expression left row at c c₂ r
     unfolding formE
-    expression-compound is next f = behind-mark (rw (sym test ∙ is, sym next)) f
+    expression-compound is f = behind-mark (rw (sym test ∙ is)) f
 
 -- ARGUMENTS
 

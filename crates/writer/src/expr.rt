@@ -19,8 +19,8 @@ ghost use Rattle.base.specs.Codes.{tableLeast};
 ghost use Rattle.parser.specs.Tree.{Sort};
 ghost use Rattle.reader.specs.contracts.WalkPost.{Walkable};
 ghost use Rattle.lookup.specs.contracts.HeldClasses.{wordAt};
-ghost use Rattle.lookup.specs.contracts.Shows.{Form, formAtom, formCompound};
-ghost use Rattle.writer.specs.contracts.Posts.{room, Writable, PutPost, LoadPost, WritePost, ExpressionPost};
+ghost use Rattle.lookup.specs.contracts.Shows.{Form, formAtom};
+ghost use Rattle.writer.specs.contracts.Posts.{room, Writable, PutPost, LoadPost, WritePost, ExpressionPost, CompoundPost};
 ghost use Rattle.writer.specs.contracts.Posts.{FollowedPost, PairPost, ConjunctionPost};
 
 // The mark before a node: the position where it begins.
@@ -124,8 +124,7 @@ pub fn expression(
     if is_atom(k) {
         return atom(table, names, code, s, k, left - 1, row, i);
     }
-    let after = kind(table, s.tokens, row + 1);
-    compound(table, names, code, s, k, after, left - 1, row, i)
+    compound(table, names, code, s, k, left - 1, row, i)
 }
 
 // An expression of more than one token, of which this one is of kind k.
@@ -135,23 +134,21 @@ fn compound(
     code: &mut [u32],
     s: Scope,
     k: u32,
-    after: u32,
     left: usize,
     row: usize,
     at: usize,
 ) -> usize
     requires { ⌜ Writable (now table) (now names) (s .tokens) left row at ⌝ }
-    ensures { λ r. ⌜ ExpressionPost (now (table .entry)) (now (names .entry)) s (formCompound k after) left row at (now (code .entry))
-        (now (code .exit)) r ⌝ }
+    ensures { λ r. ⌜ CompoundPost (now (table .entry)) (now (names .entry)) s k left row at (now (code .entry)) (now (code .exit)) r ⌝ }
 {
     if k == kinds::NEW {
-        if after == kinds::INT {
+        if kind(table, s.tokens, row + 2) == kinds::OPEN_BRACKET {
             return located(table, names, code, s, numbers::MAKE_ARRAY, left, row, at);
         }
         return creation(table, names, code, s, left, row, at);
     }
     if k == kinds::DOT {
-        if after == kinds::LENGTH {
+        if kind(table, s.tokens, row + 1) == kinds::LENGTH {
             return located(table, names, code, s, numbers::MEASURE, left, row, at);
         }
         return call(table, names, code, s, left, row, at);

@@ -13,17 +13,18 @@ use Rattle.base.specs.Codes.{sourceMost, tokensMost, variablesMost}
 use Rattle.base.specs.Outcome.{Outcome, accepted, refused, _>>=_}
 use Rattle.base.specs.laws.Tests.{if-both}
 use Rattle.lexer.specs.Tokens.{Token, Item, gap, unclosed, nothing, token, item, tooLong, zeroFirst, tooLarge, turn, tokensFrom, tokens}
-use Rattle.parser.specs.Tree.{Name, TypeUse, Sort, Part, Expression, Variable, Method, Class, Program, Ty, Ty.int, Ty.boolean, Ty.intArray, Ty.class, Place}
+use Rattle.parser.specs.Tree.{Element, Element.int, Element.boolean, Element.class, Ty, Ty.plain, Ty.arrayOf}
+use Rattle.parser.specs.Tree.{Name, TypeUse, Sort, Part, Expression, Variable, Method, Class, Program, Place, placeE}
 use Rattle.parser.specs.Tree.{Sort.expression, Sort.arguments, Sort.statement, Sort.statements}
 use Rattle.parser.specs.Tree.{Part.literal, Part.truth, Part.variable, Part.this, Part.newArray, Part.newObject, Part.negation, Part.binary, Part.element, Part.arrayLength, Part.call, Part.noArguments, Part.argument}
 use Rattle.parser.specs.Tree.{Part.block, Part.conditional, Part.loop, Part.print, Part.assign, Part.assignElement, Part.noStatements, Part.sequence}
 use Rattle.parser.specs.Parse.{Parsed, ok, bad, out, parse}
 use Rattle.parser.specs.Measure.{programDeep}
 use Rattle.parser.specs.Read.{grammatical, shallow, reading}
-use Rattle.typesystem.specs.ClassTable.{Context, Found, mainContext, contextOf, classNamed, endsWithin, known, fits, chain, nearestMethod, methodOf, meaning, occurs, textOf}
+use Rattle.typesystem.specs.ClassTable.{Context, Found, mainContext, contextOf, classNamed, endsWithin, underlying, known, fits, chain, nearestMethod, methodOf, meaning, occurs, textOf}
 use Rattle.typesystem.specs.Declarations.{distinctClasses, knownParent, knownParents, endingChains, knownType, fields, variables, redeclares, redeclaration, newMethod, heads, declarations}
 use Rattle.typesystem.specs.Operators.{operation}
-use Rattle.typesystem.specs.Judge.{Judgement, arity, must, receiver, nextParameter, invocation, lookUp, mustBeArray, judge}
+use Rattle.typesystem.specs.Judge.{Judgement, arity, must, receiver, nextParameter, invocation, lookUp, ofArray, judge}
 use Rattle.typesystem.specs.Check.{body, bodies, classBodies, allBodies, judged, checking}
 use Rattle.acceptance.specs.Numbers.{ReadRefusal, source-too-long, no-token, comment-not-closed, name-too-long, literal-too-large, too-many-tokens, not-in-grammar, too-deep, leading-zero}
 use Rattle.acceptance.specs.Numbers.{CheckRefusal, of-read, class-repeated, parent-unknown, chain-endless, field-repeated, type-unknown, method-repeated, bad-redeclaration, variable-repeated, too-many-variables, name-unknown, wrong-type, method-unknown, argument-count, this-in-main}
@@ -147,7 +148,7 @@ module _ (G : List Class) where
   of-chains (k ∷ ks) = either (endsWithin (length G) G (k .name .text)) _ _ (of-chains ks) (refuses chain-endless)
 
   of-type : (t : TypeUse) → Refuses CheckRefusal (knownType G t)
-  of-type t = either (known G (t .type)) _ _ accepts (refuses type-unknown)
+  of-type t = either (known G (underlying (t .type))) _ _ accepts (refuses type-unknown)
 
   of-fields : (earlier : List (List ℕ)) (vs : List Variable) → Refuses CheckRefusal (fields G earlier vs)
   unfolding fields
@@ -196,10 +197,15 @@ JudgeRefuses statements o = Refuses CheckRefusal o
 
 of-receiver : (e : Expression) (t : Ty) (k : List ℕ → Outcome Ty) → ((c : List ℕ) → Refuses CheckRefusal (k c))
     → Refuses CheckRefusal (receiver e t k)
-of-receiver e int k f = refuses wrong-type
-of-receiver e boolean k f = refuses wrong-type
-of-receiver e intArray k f = refuses wrong-type
-of-receiver e (class c) k f = f c
+of-receiver e (plain int) k f = refuses wrong-type
+of-receiver e (plain boolean) k f = refuses wrong-type
+of-receiver e (plain (class c)) k f = f c
+of-receiver e (arrayOf t) k f = refuses wrong-type
+
+of-array : {A : Type 0} (p : ℕ) (t : Ty) (k : Element → Outcome A) → ((u : Element) → Refuses CheckRefusal (k u))
+    → Refuses CheckRefusal (ofArray p t k)
+of-array p (plain t) k f = refuses wrong-type
+of-array p (arrayOf t) k f = f t
 
 of-invocation : (m : Name) (n : ℕ) (f : List Variable → Outcome (Unit {0})) (o : Option Found)
     → ((vs : List Variable) → Refuses CheckRefusal (f vs)) → Refuses CheckRefusal (invocation m n f o)
@@ -235,27 +241,27 @@ module _ (G : List Class) (Γ : Context) where
   of-judge (truth p b) = accepts
   of-judge (variable p x) = of-name p x
   of-judge (this p) = found (Γ .owner) _ _ (refuses this-in-main) (λ c. accepts)
-  of-judge (newArray p e) = fitting e int _ (of-judge e) accepts
+  of-judge (newArray p u e) = either (known G (u .element)) _ _ (fitting e (plain int) _ (of-judge e) accepts) (refuses type-unknown)
   of-judge (newObject p c) = either (known G (class (c .text))) _ _ accepts (refuses type-unknown)
-  of-judge (negation p e) = fitting e boolean _ (of-judge e) accepts
+  of-judge (negation p e) = fitting e (plain boolean) _ (of-judge e) accepts
   of-judge (binary p o l r) =
       both (judge G Γ l) _ (of-judge l) (λ s. found (operation o s) _ _ (refuses wrong-type) (λ t. fitting r s _ (of-judge r) accepts))
-  of-judge (element p a i) = fitting a intArray _ (of-judge a) (fitting i int _ (of-judge i) accepts)
-  of-judge (arrayLength p a) = fitting a intArray _ (of-judge a) accepts
+  of-judge (element p a i) =
+      both (judge G Γ a) _ (of-judge a) (λ t. of-array (placeE a .start) t _ (λ s. fitting i (plain int) _ (of-judge i) accepts))
+  of-judge (arrayLength p a) = both (judge G Γ a) _ (of-judge a) (λ t. of-array (placeE a .start) t _ (λ s. accepts))
   of-judge (call p e m es) =
       both (judge G Γ e) _ (of-judge e)
       (λ t. of-receiver e t _ (λ c. of-invocation m (arity es) (judge G Γ es) (methodOf G c (m .text)) (of-judge es)))
   of-judge noArguments = λ vs. accepts
   of-judge (argument e es) = λ vs. of-parameter vs _ (λ v vs. fitting e (v .type .type) (judge G Γ es vs) (of-judge e) (of-judge es vs))
   of-judge (block p ss) = of-judge ss
-  of-judge (conditional p e s t) = fitting e boolean _ (of-judge e) (both (judge G Γ s) _ (of-judge s) (λ _. of-judge t))
-  of-judge (loop p e s) = fitting e boolean _ (of-judge e) (of-judge s)
-  of-judge (print p e) = fitting-last e int (of-judge e)
+  of-judge (conditional p e s t) = fitting e (plain boolean) _ (of-judge e) (both (judge G Γ s) _ (of-judge s) (λ _. of-judge t))
+  of-judge (loop p e s) = fitting e (plain boolean) _ (of-judge e) (of-judge s)
+  of-judge (print p e) = fitting-last e (plain int) (of-judge e)
   of-judge (assign p x e) = both (lookUp G Γ p x) _ (of-name p x) (λ t. fitting-last e t (of-judge e))
   of-judge (assignElement p x i e) =
       both (lookUp G Γ p x) _ (of-name p x)
-      (λ t. both (mustBeArray G Γ p t) _ (either (fits G t intArray) _ _ accepts (refuses wrong-type))
-      (λ _. fitting i int _ (of-judge i) (fitting-last e int (of-judge e))))
+      (λ t. of-array (p .start) t _ (λ s. fitting i (plain int) _ (of-judge i) (fitting-last e (plain s) (of-judge e))))
   of-judge noStatements = accepts
   of-judge (sequence s ss) = both (judge G Γ s) _ (of-judge s) (λ _. of-judge ss)
 

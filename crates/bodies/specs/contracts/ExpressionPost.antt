@@ -9,14 +9,14 @@ use lib.Dec.{eqb}
 use Rattle.base.specs.Outcome.{accepted, _>>=_}
 use Rattle.lexer.specs.Kinds.{kNew, kDot}
 use Rattle.lexer.specs.Tokens.{Token}
-use Rattle.parser.specs.Tree.{Place, Name, Sort.arguments, Part, Part.this, Part.newObject, Expression, Ty, Variable, Class}
+use Rattle.parser.specs.Tree.{Place, Name, Sort.arguments, Part, Part.this, Part.newObject, Expression, placeE, Ty, Ty.plain, Variable, Class}
 use Rattle.parser.specs.contracts.Post.{kindInTable}
 use Rattle.typesystem.specs.ClassTable.{Context, methodOf}
-use Rattle.typesystem.specs.Judge.{judge, must, arity, invocation, lookUp}
+use Rattle.typesystem.specs.Judge.{judge, must, ofArray, arity, invocation, lookUp}
 use Rattle.lookup.specs.declared.answer.Judged.{Judged}
 use Rattle.lookup.specs.contracts.HeldClasses.{wordAt, NameNumber, Codes, ListedAt, ClassTableHeld}
 use Rattle.lookup.specs.contracts.Answers.{asJudged, Judges}
-use Rattle.lookup.specs.contracts.Shows.{PartAt, Form, formAtom, formCompound}
+use Rattle.lookup.specs.contracts.Shows.{PartAt, Form, aNewArray, aLength, formAtom, formCompound}
 use Rattle.bodies.specs.declared.scope.Scope.{Scope}
 use Rattle.bodies.specs.contracts.Scoping.{InScope, PartIn, ShowsIn}
 
@@ -51,10 +51,12 @@ module _ (tab : List ℕ) (s : Scope) where
 
   -- `new` and `.`, each of which begins two forms
   abbrev pub CreationPost : (first end row : ℕ) → Judged → Type 0
-  CreationPost first end row r = NodePost (formCompound kNew (kindInTable tab (s .tokens) (row + 1))) first end row r
+  CreationPost first end row r =
+      NodePost (formCompound kNew (kindInTable tab (s .tokens) (row + 1)) (kindInTable tab (s .tokens) (row + 2))) first end row r
 
   abbrev pub DottedPost : (first end row : ℕ) → Judged → Type 0
-  DottedPost first end row r = NodePost (formCompound kDot (kindInTable tab (s .tokens) (row + 1))) first end row r
+  DottedPost first end row r =
+      NodePost (formCompound kDot (kindInTable tab (s .tokens) (row + 1)) (kindInTable tab (s .tokens) (row + 2))) first end row r
 
   pub record ExpressionPost (first end row : ℕ) (r : Judged) : Type 0 where
     pub says : (ts : List Token) (G : List Class) (Γ : Context) → InScope tab ts G Γ s → (e : Expression) → PartIn tab ts row first end e
@@ -69,6 +71,18 @@ module _ (tab : List ℕ) (s : Scope) where
   pub record SinglePost (first end row want answer : ℕ) (r : Judged) : Type 0 where
     pub says : (ts : List Token) (G : List Class) (Γ : Context) → InScope tab ts G Γ s → (e : Expression) → PartIn tab ts row first end e
         → (t u : Ty) → Codes ts t want → Codes ts u answer → Judges ts (judge G Γ e >>= λ v. must G e t v >>= λ _. accepted u) r
+
+  -- an expression that must be an array, with the type of what it holds
+  pub record ArrayPost (first end row : ℕ) (r : Judged) : Type 0 where
+    pub says : (ts : List Token) (G : List Class) (Γ : Context) → InScope tab ts G Γ s → (e : Expression) → PartIn tab ts row first end e
+        → Judges ts (judge G Γ e >>= λ t. ofArray (placeE e .start) t λ u. accepted (plain u)) r
+
+  -- `new T[e]`, which begins with its own token, and `e.length`, of which no part stands behind it
+  pub record NewArrayPost (end row : ℕ) (r : Judged) : Type 0 where
+    pub says : (first : ℕ) → NodeJudged aNewArray first end row r
+
+  pub record LengthPost (first row : ℕ) (r : Judged) : Type 0 where
+    pub says : (end : ℕ) → NodeJudged aLength first end row r
 
   -- the method and the arguments, where the receiver's class has this name
   pub record InvocationPost (end row c : ℕ) (r : Judged) : Type 0 where

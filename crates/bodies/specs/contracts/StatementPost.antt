@@ -4,11 +4,11 @@ use mathlib.Core.Path.{_≡_}
 use mathlib.Core.List.{List}
 use Rattle.base.specs.Outcome.{_>>=_}
 use Rattle.lexer.specs.Tokens.{Token}
-use Rattle.parser.specs.Tree.{Sort.statements, Part, Expression, Statement, Ty.int, Class}
+use Rattle.parser.specs.Tree.{Sort.statements, Part, Expression, Statement, Element.int, Ty, Ty.plain, Class}
 use Rattle.typesystem.specs.ClassTable.{Context}
 use Rattle.typesystem.specs.Judge.{judge, must}
 use Rattle.lookup.specs.declared.answer.Judged.{Judged}
-use Rattle.lookup.specs.contracts.HeldClasses.{wordAt}
+use Rattle.lookup.specs.contracts.HeldClasses.{wordAt, Codes}
 use Rattle.lookup.specs.contracts.Answers.{asJudged}
 use Rattle.lookup.specs.contracts.Shows.{Form}
 use Rattle.bodies.specs.declared.scope.Scope.{Scope}
@@ -38,8 +38,9 @@ module _ (tab : List ℕ) (s : Scope) where
         → PartIn tab ts (wordAt tab 5 row) (row + 1) end a → PartIn tab ts (wordAt tab 7 row) (row + 1) end b
         → r ≡ asJudged (judge G Γ a >>= λ _. judge G Γ b)
 
-  -- index and value
-  pub record ValuePost (end row : ℕ) (r : Judged) : Type 0 where
+  -- index, and value of an element of this type
+  pub record ValuePost (end row want : ℕ) (r : Judged) : Type 0 where
     pub says : (ts : List Token) (G : List Class) (Γ : Context) → InScope tab ts G Γ s → (i e : Expression)
         → PartIn tab ts (wordAt tab 4 row) (row + 1) end i → PartIn tab ts (wordAt tab 5 row) (row + 1) end e
-        → r ≡ asJudged (judge G Γ i >>= λ u. must G i int u >>= λ _. judge G Γ e >>= λ u. must G e int u)
+        → (t : Ty) → Codes ts t want
+        → r ≡ asJudged (judge G Γ i >>= λ u. must G i (plain int) u >>= λ _. judge G Γ e >>= λ u. must G e t u)

@@ -5,7 +5,7 @@ use mathlib.Core.List.{List, [], _∷_}
 use mathlib.Core.Option.{none}
 use mathlib.Core.Path.{_≡_, refl}
 use lib.IntN.{pos}
-use Rattle.parser.specs.Tree.{Place, Name, Ty.int, Variable, Method, Program, Operator.plus, Operator.minus, Operator.less, Operator.and}
+use Rattle.parser.specs.Tree.{Place, Name, Element.int, Ty.plain, Variable, Method, Program, Operator.plus, Operator.minus, Operator.less, Operator.and}
 use Rattle.parser.specs.Tree.{Part.literal, Part.truth, Part.variable, Part.newObject, Part.binary, Part.call, Part.noArguments, Part.argument, Part.conditional, Part.loop, Part.assign, Part.block, Part.print, Part.noStatements, Part.sequence}
 use Rattle.typesystem.specs.ClassTable as ClassTable
 use Rattle.typesystem.specs.Judge as Judge
@@ -29,7 +29,7 @@ abbrev name : List ℕ → Name
 name x = record { row = 0; start = 0; text = x }
 
 abbrev number : List ℕ → Variable
-number x = record { type = record { row = 0; start = 0; type = int }; name = name x }
+number x = record { type = record { row = 0; start = 0; type = plain int }; name = name x }
 
 -- class A { t; f(n) { s; while (0 < n && true) { s = s + n; t = t + 1; n = n - 1; } return s + t; } }
 abbrev n : List ℕ
@@ -50,7 +50,7 @@ A = 65 ∷ []
 abbrev sum : Method
 sum =
     record {
-      result = record { row = 0; start = 0; type = int };
+      result = record { row = 0; start = 0; type = plain int };
       name = name f;
       parameters = number n ∷ [];
       locals = number s ∷ [];

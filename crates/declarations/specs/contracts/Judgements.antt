@@ -11,10 +11,10 @@ use Rattle.base.specs.Codes.{variableRepeated, tooManyVariables, variablesMost,
 use Rattle.base.specs.All.{All}
 use Rattle.base.specs.Outcome.{Outcome, accepted, refused, _>>=_}
 use Rattle.lexer.specs.Tokens.{Token}
-use Rattle.parser.specs.Tree.{Name, TypeUse, Variable, Method, Class}
+use Rattle.parser.specs.Tree.{Name, Ty, Variable, Method, Class}
 use Rattle.parser.specs.contracts.Layout.{rowVariables, rowClasses}
 use Rattle.reader.specs.contracts.Matches.{TypeMatches}
-use Rattle.typesystem.specs.ClassTable.{classNamed, known, occurs, textOf}
+use Rattle.typesystem.specs.ClassTable.{classNamed, underlying, known, occurs, textOf}
 use Rattle.typesystem.specs.Declarations.{knownType, knownParents, endingChains, fields, variables, sameTypes, redeclares, redeclaration, newMethod, heads, declarations}
 use Rattle.typesystem.specs.TypingRules.{methodName}
 use Rattle.lookup.specs.declared.answer.Judged.{Judged}
@@ -27,7 +27,8 @@ use Rattle.declarations.specs.contracts.Earlier.{onto, VariablesListed, 
 -- VARIABLES
 
 pub record KnownAt (tab : List ℕ) (n row : ℕ) (r : Bool) : Type 0 where
-  pub says : (ts : List Token) (G : List Class) → ClassTableHeld tab n ts G → (t : TypeUse) → t .row ≡ row → TypeMatches ts t (t .type) → r ≡ known G (t .type)
+  pub says : (ts : List Token) (G : List Class) → ClassTableHeld tab n ts G → (i : ℕ) → i ≡ row → (t : Ty) → TypeMatches ts i t
+      → r ≡ known G (underlying t)
 
 pub record FieldsJudged (tab : List ℕ) (n left stamp row : ℕ) (before after : List ℕ) (r : Judged) : Type 0 where
   pub below : Stays stamp before after

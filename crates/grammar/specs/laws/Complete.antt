@@ -12,19 +12,27 @@ use lib.Dec.{eqb}
 use lib.ListN.{length, List·getD-eq-default}
 use Rattle.base.specs.Choice.{if_then_else_, option}
 use Rattle.lexer.specs.Tokens.{Token}
-use Rattle.lexer.specs.Kinds.{kEnd, kLiteral, kClass, kFalse, kInt, kLength, kNew, kPublic, kReturn, kThis, kTrue, kAnd, kLess, kPlus, kMinus, kTimes}
-use Rattle.lexer.specs.Kinds.{kNot, kAssign, kDot, kOpen, kClose, kOpenBracket, kOpenBrace, kCloseBrace, isName}
+use Rattle.lexer.specs.Kinds.{kEnd, kLiteral, kClass, kFalse, kLength, kNew, kPublic, kReturn, kThis, kTrue, kAnd, kLess, kPlus, kMinus}
+use Rattle.lexer.specs.Kinds.{kTimes}
+use Rattle.lexer.specs.Kinds.{kNot, kDot, kOpen, kClose, kOpenBracket, kCloseBracket, kOpenBrace, kCloseBrace, isName}
 use Rattle.parser.specs.Tree.{Name, Operator, Sort, Sort.statements, Part, Expression, TypeUse, Variable, Method, Class, Program}
 use Rattle.parser.specs.Stream.{noMore, kindAt, Level, Level.conjunction, Level.comparison, Level.sum, Level.product, operatorOf}
-use Rattle.parser.specs.Parse.{Parsed, ok, out, bind, Mode, operand, anExpression, beginsStatement, step, parseAs, typeFrom, variableFrom, beginsVariable, variablesFrom}
-use Rattle.parser.specs.Parse.{someParameters, parametersFrom, methodFrom, methodsFrom, parentFrom, classFrom, classesFrom, programFrom, parse}
+use Rattle.parser.specs.Parse.{Parsed, ok, out, bind, Mode, operand, anExpression, beginsStatement, step, parseAs}
+use Rattle.parser.specs.Parse.{typeFrom, beginsType, variableFrom, marked, beginsVariable, variablesFrom}
+use Rattle.parser.specs.Parse.{someParameters, parametersFrom, methodFrom, methodsFrom, parentFrom, classFrom, classesFrom, programFrom}
+use Rattle.parser.specs.Parse.{parse}
 use Rattle.parser.specs.Grammar as Grammar
-use Rattle.parser.specs.Grammar.{Kind, Derives, operate, one-operand, negate, no-negation, make-array, no-array, index, take-length, invoke, no-suffix, a-literal, a-true, a-false, a-name, a-this, make-object, parentheses}
-use Rattle.parser.specs.Grammar.{none-given, some-given, one-argument, more-arguments, a-block, an-if, a-while, a-print, an-assignment, an-element-assignment, no-statement, more-statements}
-use Rattle.parser.specs.Grammar.{DerivesType, int-array, an-int, a-boolean, a-class, DerivesVariable, a-variable, DerivesVariables, no-variable, more-variables}
-use Rattle.parser.specs.Grammar.{DerivesParameters, one-parameter, more-parameters, DerivesFormals, no-formal, some-formals, DerivesMethod, a-method, DerivesMethods, no-method, more-methods}
-use Rattle.parser.specs.Grammar.{DerivesParent, no-parent, a-parent, DerivesClass, a-class-declaration, DerivesClasses, no-class, more-classes, DerivesProgram, a-program}
-use Rattle.grammar.specs.laws.Passing.{kinds-apart, no-keyword, no-basic-type, isOperatorOf, or-left, or-right}
+use Rattle.parser.specs.Grammar.{Kind, Derives, operate, one-operand, negate, no-negation, make-array, no-array, index, take-length, invoke}
+use Rattle.parser.specs.Grammar.{no-suffix, a-literal, a-true, a-false, a-name, a-this, make-object, parentheses}
+use Rattle.parser.specs.Grammar.{none-given, some-given, one-argument, more-arguments, a-block, an-if, a-while, a-print, an-assignment}
+use Rattle.parser.specs.Grammar.{an-element-assignment, no-statement, more-statements}
+use Rattle.parser.specs.Grammar.{DerivesType, an-array, no-mark, DerivesVariable, a-variable, DerivesVariables, no-variable, more-variables}
+use Rattle.parser.specs.Grammar.{DerivesParameters, one-parameter, more-parameters, DerivesFormals, no-formal, some-formals, DerivesMethod}
+use Rattle.parser.specs.Grammar.{a-method, DerivesMethods, no-method, more-methods}
+use Rattle.parser.specs.Grammar.{DerivesParent, no-parent, a-parent, DerivesClass, a-class-declaration, DerivesClasses, no-class}
+use Rattle.parser.specs.Grammar.{more-classes, DerivesProgram, a-program}
+use Rattle.grammar.specs.laws.Passing.{kinds-apart, no-keyword, no-basic-type, element-found, element-begins, isOperatorOf, or-left}
+use Rattle.grammar.specs.laws.Passing.{or-right}
 
 -- the answer is a, up to token j, or the fuel was used up
 pub data Gives {A : Type 0} (a : A) (j : ℕ) : Parsed A → Type 0 where
@@ -43,13 +51,18 @@ startsPrimary k = isName k || eqb k kLiteral || eqb k kTrue || eqb k kFalse || e
 startsUnary : ℕ → Bool
 startsUnary k = startsPrimary k || eqb k kNot
 
--- what a derivation of each class from token i on begins with: a primary not with `new int`, a statement not with what begins a local
+-- `new T[`, or `new` and a type that is no class
+abbrev makesArray : List Token → ℕ → Bool
+makesArray ts i = eqb (kindAt ts i) kNew && beginsType (kindAt ts (i + 1)) (eqb (kindAt ts (i + 2)) kOpenBracket)
+
+-- what a derivation of each class from token i on begins with: a primary not with what makes an array, a statement not with what begins a
+-- local
 abbrev First : List Token → {s : Sort} → Kind s → ℕ → Type 0
 First ts (Kind.operation L) i = startsUnary (kindAt ts i) ≡ true
 First ts Kind.unary i = startsUnary (kindAt ts i) ≡ true
 First ts Kind.postfix i = startsPrimary (kindAt ts i) ≡ true
 First ts Kind.indexable i = startsPrimary (kindAt ts i) ≡ true
-First ts Kind.primary i = (startsPrimary (kindAt ts i) ≡ true) × ((eqb (kindAt ts i) kNew && eqb (kindAt ts (i + 1)) kInt) ≡ false)
+First ts Kind.primary i = (startsPrimary (kindAt ts i) ≡ true) × (makesArray ts i ≡ false)
 First ts Kind.argumentList i = Unit {0}
 First ts Kind.someArguments i = startsUnary (kindAt ts i) ≡ true
 First ts Kind.aStatement i = (beginsStatement (kindAt ts i) ≡ true) × (beginsVariable false ts i ≡ false)
@@ -61,16 +74,17 @@ first-operand ts comparison i h = h
 first-operand ts sum i h = h
 first-operand ts product i h = h
 
--- an assignment begins with a name that no name follows
-first-named : (ts : List Token) (i q : ℕ) → isName (kindAt ts i) ≡ true → kindAt ts (i + 1) ≡ q → isName q ≡ false → First ts Kind.aStatement i
-unfolding beginsStatement beginsVariable isName
-first-named ts i q e e₁ n =
+-- an assignment begins with a name that neither a name nor `[]` follows
+first-named : (ts : List Token) (i : ℕ) → isName (kindAt ts i) ≡ true → (isName (kindAt ts (i + 1)) || marked ts (i + 1)) ≡ false
+    → First ts Kind.aStatement i
+unfolding beginsStatement beginsVariable beginsType isName
+first-named ts i e n =
     let m = no-keyword (kindAt ts i) e in
     let l = no-basic-type (kindAt ts i) e in
-    (rw (m .0, m .1, m .2, m .3, e), rw (l .0, l .1, e, e₁, n))
+    (rw (m .0, m .1, m .2, m .3, e), rw (l .0, l .1, e, n))
 
 first : {ts : List Token} {s : Sort} {c : Kind s} {i j : ℕ} {t : Part s} → Derives ts s c i j t → First ts c i
-unfolding startsPrimary startsUnary beginsStatement beginsVariable isName
+unfolding startsPrimary startsUnary beginsStatement beginsVariable beginsType isName
 first (operate l e r) = first l
 first {ts} (one-operand {L = L} {i = i} d) = first-operand ts L i (first d)
 first (negate e d) = rw e
@@ -86,7 +100,7 @@ first (a-true e) = (rw e, rw e)
 first (a-false e) = (rw e, rw e)
 first {ts} (a-name {i = i} e) = (rw e, rw (kinds-apart isName (kindAt ts i) kNew e refl))
 first (a-this e) = (rw e, rw e)
-first {ts} (make-object {i = i} e e₁ e₂ e₃) = (rw e, rw (e, kinds-apart isName (kindAt ts (i + 1)) kInt e₁ refl))
+first {ts} (make-object {i = i} e e₁ e₂ e₃) = let n = no-basic-type (kindAt ts (i + 1)) e₁ in (rw e, rw (e, n .0, n .1, e₁, e₂))
 first (parentheses e d e₁) = (rw e, rw e)
 first none-given = tt
 first (some-given d) = tt
@@ -96,8 +110,11 @@ first (a-block e d e₁) = (rw e, rw e)
 first (an-if e e₁ d e₂ d₁ e₃ d₂) = (rw e, rw e)
 first (a-while e e₁ d e₂ d₁) = (rw e, rw e)
 first (a-print e e₁ e₂ e₃ e₄ e₅ d e₆ e₇) = (rw e, rw e)
-first {ts} (an-assignment {i = i} e e₁ d e₂) = first-named ts i kAssign e e₁ refl
-first {ts} (an-element-assignment {i = i} e e₁ d e₂ e₃ d₁ e₄) = first-named ts i kOpenBracket e e₁ refl
+first {ts} (an-assignment {i = i} e e₁ d e₂) = first-named ts i e (rw e₁)
+first {ts} (an-element-assignment {i = i} e e₁ d e₂ e₃ d₁ e₄) =
+    let n = kinds-apart startsUnary (kindAt ts (i + 2)) kCloseBracket (first d) refl in
+    let n₂ : eqb (kindAt ts (i + 1 + 1)) kCloseBracket ≡ false = simp towards-numerals n in
+    first-named ts i e (rw (e₁, n₂))
 first no-statement = tt
 first (more-statements d ds) = tt
 
@@ -186,14 +203,16 @@ module _ (ts : List Token) where
   found-whole i j t d e n f = found-operation conjunction i j t d (ap extends e ∙ n) f
 
   found : {s : Sort} {c : Kind s} {i j : ℕ} {t : Part s} → Derives ts s c i j t → Found c i j t
-  unfolding step operatorOf startsPrimary startsUnary beginsStatement isName
+  unfolding step beginsType operatorOf startsPrimary startsUnary beginsStatement isName
   found (operate {L = L} {i = i} {m = m} {j = j} {o = o} {l = l} {r = r} dl e dr) =
       λ h t n k. found dl (operator-halts L (kindAt ts m) e) t n (unroll (Mode.operations L i l) m λ f. rw e (after _ (found-operand L (m + 1) j r (found dr) h f) (k f)))
   found (one-operand {L = L} {i = i} {j = j} {e = x} d) = λ h t n k. unroll (Mode.operation L) i λ f. after _ (found-operand L i j x (found d) h f) (k f)
   found (negate {i = i} e d) = λ h. unroll Mode.unary i λ f. rw e (after _ (found d h f) given)
   found (no-negation {i = i} {j = j} {e = x} d) =
       λ h. unroll Mode.unary i λ f. rw (kinds-apart startsPrimary (kindAt ts i) kNot (first d) refl) (found d (or-left _ _ h) x j (λ b. no-more-suffixes b i x j h) f)
-  found (make-array {i = i} {j = j} {e = x} e e₁ e₂ d e₃) = λ h t n k. unroll Mode.postfix i λ f. rw (e, e₁, e₂) (simp towards-numerals (after _ (found-whole (i + 3) j x (found d) e₃ refl f) (rw e₃ (k false f))))
+  found (make-array {i = i} {j = j} {e = x} e de e₁ d e₂) =
+      λ h t n k. unroll Mode.postfix i λ f. rw (e, e₁, element-begins de, element-found de)
+      (simp towards-numerals (after _ (found-whole (i + 3) j x (found d) e₂ refl f) (rw e₂ (k false f))))
   found (no-array d) = λ h t n k. found d t n (k true)
   found (index {i = i} {m = m} {j = j} {a = a} {e = x} da e d e₁) =
       λ t n k. found da t n (unroll (Mode.suffixes true i a) m λ f. rw e (after _ (found-whole (m + 1) j x (found d) e₁ refl f) (rw e₁ (k f))))
@@ -238,10 +257,8 @@ module _ (ts : List Token) where
 
   found-type : {i j : ℕ} {t : TypeUse} → DerivesType ts i j t → isName (kindAt ts j) ≡ true → typeFrom ts i ≡ ok t j
   unfolding typeFrom isName
-  found-type (int-array e e₁ e₂) n = rw (e, e₁, e₂) (simp towards-numerals)
-  found-type (an-int {i = i} e) n = rw (e, kinds-apart isName (kindAt ts (i + 1)) kOpenBracket n refl)
-  found-type (a-boolean e) n = rw e
-  found-type (a-class {i = i} e) n = let w = no-basic-type (kindAt ts i) e in rw (w .0, w .1, e)
+  found-type (an-array d e e₁) n = rw (element-found d, e, e₁) (simp towards-numerals)
+  found-type (no-mark {i = i} d) n = rw (element-found d, kinds-apart isName (kindAt ts (i + 1)) kOpenBracket n refl)
 
   found-variable : {i j : ℕ} {v : Variable} → DerivesVariable ts i j v → variableFrom ts i ≡ ok v j
   unfolding variableFrom
@@ -250,11 +267,11 @@ module _ (ts : List Token) where
   -- what begins a variable, in a class and in a body
   type-begins : {i j : ℕ} {t : TypeUse} → DerivesType ts i j t → isName (kindAt ts j) ≡ true → (inClass : Bool) → beginsVariable inClass ts i ≡ true
   unfolding beginsVariable isName
-  type-begins (int-array e e₁ e₂) n b = rw e
-  type-begins (an-int e) n b = rw e
-  type-begins (a-boolean e) n b = rw e
-  type-begins (a-class {i = i} e) n true = let w = no-basic-type (kindAt ts i) e in rw (w .0, w .1, e)
-  type-begins (a-class {i = i} e) n false = let w = no-basic-type (kindAt ts i) e in rw (w .0, w .1, e, n)
+  type-begins (an-array d e e₁) n true = element-begins d
+  type-begins (an-array {i = i} d e e₁) n false =
+      let e₂ : kindAt ts (i + 1 + 1) ≡ kCloseBracket = simp towards-numerals e₁ in rw (e, e₂) (element-begins d)
+  type-begins (no-mark d) n true = element-begins d
+  type-begins (no-mark d) n false = rw n (element-begins d)
 
   variable-begins : {i j : ℕ} {v : Variable} → DerivesVariable ts i j v → (inClass : Bool) → beginsVariable inClass ts i ≡ true
   variable-begins (a-variable d e) b = type-begins d e b
@@ -275,11 +292,9 @@ module _ (ts : List Token) where
 
   -- a parameter does not begin with `)`
   type-opens : {i j : ℕ} {t : TypeUse} → DerivesType ts i j t → eqb (kindAt ts i) kClose ≡ false
-  unfolding isName
-  type-opens (int-array e e₁ e₂) = rw e
-  type-opens (an-int e) = rw e
-  type-opens (a-boolean e) = rw e
-  type-opens (a-class {i = i} e) = kinds-apart isName (kindAt ts i) kClose e refl
+  unfolding beginsType isName
+  type-opens (an-array {i = i} d e e₁) = kinds-apart (λ k. beginsType k true) (kindAt ts i) kClose (element-begins d) refl
+  type-opens (no-mark {i = i} d) = kinds-apart (λ k. beginsType k true) (kindAt ts i) kClose (element-begins d) refl
 
   variable-opens : {i j : ℕ} {v : Variable} → DerivesVariable ts i j v → eqb (kindAt ts i) kClose ≡ false
   variable-opens (a-variable d e) = type-opens d
@@ -295,7 +310,7 @@ module _ (ts : List Token) where
 
   -- no local begins where the statements do
   body-begins : {c : Kind statements} {i j : ℕ} {ss : Part statements} → Derives ts statements c i j ss → kindAt ts j ≡ kReturn → beginsVariable false ts i ≡ false
-  unfolding beginsVariable isName
+  unfolding beginsVariable beginsType isName
   body-begins no-statement e = rw e
   body-begins (more-statements d ds) e = first d .1
 
@@ -317,7 +332,7 @@ module _ (ts : List Token) where
 
   -- no field begins where the methods do
   methods-begin : {i j : ℕ} {ms : List Method} → DerivesMethods ts i j ms → kindAt ts j ≡ kCloseBrace → beginsVariable true ts i ≡ false
-  unfolding beginsVariable isName
+  unfolding beginsVariable beginsType isName
   methods-begin no-method e = rw e
   methods-begin (more-methods d ds) e = rw (method-begins d)
 

@@ -14,13 +14,17 @@ use lib.Seq.{getD-take, length-take-le, take-at, getD-at}
 use Rattle.base.specs.Choice.{if_then_else_, option}
 use Rattle.base.specs.All.{All, all-nil, all-cons}
 use Rattle.lexer.specs.Tokens.{Token}
-use Rattle.lexer.specs.Kinds.{kEnd, kName, kBoolean, kLength, kReturn, kAnd, kLess, kPlus, kTimes, kAssign, kSemicolon, kOpen, kClose, kCloseBracket, kOpenBrace, kCloseBrace, isName}
+use Rattle.lexer.specs.Kinds.{kEnd, kName, kBoolean, kLength, kReturn, kAnd, kLess, kPlus, kTimes, kAssign, kSemicolon, kOpen, kClose}
+use Rattle.lexer.specs.Kinds.{kCloseBracket, kOpenBrace, kCloseBrace, isName}
 use Rattle.parser.specs.Stream.{noMore, kindAt, Level, Level.conjunction, Level.comparison, Level.sum, Level.product, operatorOf}
 use Rattle.parser.specs.Tree.{Operator}
-use Rattle.parser.specs.Parse.{beginsStatement}
-use Rattle.grammar.specs.laws.Recogniser.{Symbol, one, aName, anOperator, operation, operations, unary, postfix, afterNew, primary, suffixes, afterDot, argumentList, someArguments, moreArguments}
-use Rattle.grammar.specs.laws.Recogniser.{aStatement, afterName, statementList, aType, afterInt, fields, locals, afterLocal, formals, someFormals, moreFormals, methods, parent, classes}
-use Rattle.grammar.specs.laws.Recogniser.{expression, operandOf, Move, shift, push, refuse, rule, startStack, Halt, done, stopped, indexOf, RunsTo, finish, shifts, pushes, refuses, onward}
+use Rattle.parser.specs.Parse.{beginsType, beginsStatement}
+use Rattle.grammar.specs.laws.Recogniser.{Symbol, one, aName, anElement, anOperator, operation, operations, unary, postfix, afterNew}
+use Rattle.grammar.specs.laws.Recogniser.{afterClass, primary, suffixes, afterDot, argumentList, someArguments, moreArguments}
+use Rattle.grammar.specs.laws.Recogniser.{aStatement, afterName, statementList, aType, afterElement, fields, locals, afterLocal}
+use Rattle.grammar.specs.laws.Recogniser.{afterMark, formals, someFormals, moreFormals, methods, parent, classes}
+use Rattle.grammar.specs.laws.Recogniser.{expression, operandOf, isBasic, Move, shift, push, refuse, rule, startStack, Halt, done}
+use Rattle.grammar.specs.laws.Recogniser.{stopped, indexOf, RunsTo, finish, shifts, pushes, refuses, onward}
 use Rattle.grammar.specs.laws.Passing.{seen}
 
 -- A WORD FOR EACH SYMBOL
@@ -28,6 +32,7 @@ use Rattle.grammar.specs.laws.Passing.{seen}
 abbrev word : Symbol → List ℕ
 word (one q) = q ∷ []
 word aName = kName ∷ []
+word anElement = kBoolean ∷ []
 word (anOperator conjunction) = kAnd ∷ []
 word (anOperator comparison) = kLess ∷ []
 word (anOperator sum) = kPlus ∷ []
@@ -37,6 +42,7 @@ word (operations L) = []
 word unary = kName ∷ []
 word postfix = kName ∷ []
 word afterNew = kName ∷ kOpen ∷ kClose ∷ []
+word afterClass = kOpen ∷ kClose ∷ []
 word primary = kName ∷ []
 word (suffixes b) = []
 word afterDot = kLength ∷ []
@@ -47,10 +53,11 @@ word aStatement = kOpenBrace ∷ kCloseBrace ∷ []
 word afterName = kAssign ∷ kName ∷ kSemicolon ∷ []
 word statementList = []
 word aType = kBoolean ∷ []
-word afterInt = []
+word afterElement = []
 word fields = []
 word locals = []
 word afterLocal = kAssign ∷ kName ∷ kSemicolon ∷ []
+word afterMark = kCloseBracket ∷ kName ∷ kSemicolon ∷ []
 word formals = kClose ∷ []
 word someFormals = kBoolean ∷ kName ∷ kClose ∷ []
 word moreFormals = kClose ∷ []
@@ -77,12 +84,14 @@ ends k = eqb k kCloseBrace || eqb k kReturn
 abbrev follow : Symbol → ℕ → Bool
 follow (one q) k = not (eqb q kEnd)
 follow aName k = true
+follow anElement k = true
 follow (anOperator L) k = true
 follow (operation L) k = closes k
 follow (operations L) k = closes k
 follow unary k = closes k
 follow postfix k = closes k
 follow afterNew k = closes k
+follow afterClass k = closes k
 follow primary k = true
 follow (suffixes b) k = closes k
 follow afterDot k = closes k
@@ -93,10 +102,11 @@ follow aStatement k = true
 follow afterName k = true
 follow statementList k = ends k
 follow aType k = eqb k kName
-follow afterInt k = eqb k kName
+follow afterElement k = eqb k kName
 follow fields k = eqb k kCloseBrace
 follow locals k = ends k
 follow afterLocal k = ends k
+follow afterMark k = ends k
 follow formals k = true
 follow someFormals k = true
 follow moreFormals k = true
@@ -131,6 +141,7 @@ keeps : (x : Symbol) (k : ℕ) {S : List Symbol} → follow x (first (words S)) 
 unfolding rule closes ends
 keeps (one q) k f h = kept-if (eqb k q) kept-shift kept-refuse
 keeps aName k f h = kept-if (isName k) kept-shift kept-refuse
+keeps anElement k f h = kept-if (beginsType k true) kept-shift kept-refuse
 keeps (anOperator L) k {S} f h = go (operatorOf L k)
   where
     go : (o : Option Operator) → Kept S (option o refuse λ o. shift)
@@ -144,7 +155,8 @@ keeps (operations L) k {S} f h = go (operatorOf L k)
     go (some o) = kept-push (refl ▹ (follow-operand L _ ∙ f) ▹ f ▹ h)
 keeps unary k f h = kept-if (eqb k _) (kept-push (refl ▹ f ▹ h)) (kept-push (f ▹ h))
 keeps postfix k f h = kept-if (eqb k _) (kept-push (refl ▹ f ▹ h)) (kept-push (refl ▹ f ▹ h))
-keeps afterNew k f h = kept-if (eqb k _) (kept-push (refl ▹ refl ▹ refl ▹ refl ▹ f ▹ h)) (kept-push (refl ▹ refl ▹ refl ▹ f ▹ h))
+keeps afterNew k f h = kept-if (isBasic k) (kept-push (refl ▹ refl ▹ refl ▹ refl ▹ f ▹ h)) (kept-push (refl ▹ f ▹ h))
+keeps afterClass k f h = kept-if (eqb k _) (kept-push (refl ▹ refl ▹ refl ▹ f ▹ h)) (kept-push (refl ▹ refl ▹ f ▹ h))
 keeps primary k f h =
     kept-if (eqb k _) (kept-push (refl ▹ h)) (kept-if (eqb k _) (kept-push (refl ▹ h)) (kept-if (eqb k _) (kept-push (refl ▹ h)) (kept-if (isName k) (kept-push (refl ▹ h))
     (kept-if (eqb k _) (kept-push (refl ▹ h)) (kept-if (eqb k _) (kept-push (refl ▹ refl ▹ refl ▹ refl ▹ h)) (kept-if (eqb k _) (kept-push (refl ▹ refl ▹ refl ▹ h)) kept-refuse))))))
@@ -160,11 +172,15 @@ keeps aStatement k f h =
     (kept-if (isName k) (kept-push (refl ▹ refl ▹ h)) kept-refuse))))
 keeps afterName k f h = kept-if (eqb k _) (kept-push (refl ▹ refl ▹ refl ▹ refl ▹ refl ▹ refl ▹ h)) (kept-push (refl ▹ refl ▹ refl ▹ h))
 keeps statementList k f h = kept-if (beginsStatement k) (kept-push (refl ▹ f ▹ h)) (kept-push h)
-keeps aType k f h = kept-if (eqb k _) (kept-push (refl ▹ f ▹ h)) (kept-if (eqb k _) (kept-push (refl ▹ h)) (kept-push (refl ▹ h)))
-keeps afterInt k f h = kept-if (eqb k _) (kept-push (refl ▹ refl ▹ h)) (kept-push h)
-keeps fields k f h = kept-if (eqb k _ || eqb k _ || isName k) (kept-push (refl ▹ refl ▹ refl ▹ f ▹ h)) (kept-push h)
-keeps locals k f h = kept-if (eqb k _ || eqb k _) (kept-push (refl ▹ refl ▹ refl ▹ f ▹ h)) (kept-if (isName k) (kept-push (refl ▹ f ▹ h)) (kept-push (f ▹ h)))
-keeps afterLocal k f h = kept-if (isName k) (kept-push (refl ▹ refl ▹ f ▹ h)) (kept-push (refl ▹ f ▹ h))
+keeps aType k f h = kept-push (refl ▹ f ▹ h)
+keeps afterElement k f h = kept-if (eqb k _) (kept-push (refl ▹ refl ▹ h)) (kept-push h)
+keeps fields k f h = kept-if (beginsType k true) (kept-push (refl ▹ refl ▹ refl ▹ f ▹ h)) (kept-push h)
+keeps locals k f h =
+    kept-if (isBasic k) (kept-push (refl ▹ refl ▹ refl ▹ f ▹ h)) (kept-if (isName k) (kept-push (refl ▹ f ▹ h)) (kept-push (f ▹ h)))
+keeps afterLocal k f h =
+    kept-if (isName k) (kept-push (refl ▹ refl ▹ f ▹ h)) (kept-if (eqb k _) (kept-push (refl ▹ f ▹ h)) (kept-push (refl ▹ f ▹ h)))
+keeps afterMark k f h =
+    kept-if (eqb k _) (kept-push (refl ▹ refl ▹ refl ▹ f ▹ h)) (kept-push (refl ▹ refl ▹ refl ▹ refl ▹ refl ▹ f ▹ h))
 keeps formals k f h = kept-if (eqb k _) (kept-push (refl ▹ h)) (kept-push (refl ▹ h))
 keeps someFormals k f h = kept-push (refl ▹ refl ▹ refl ▹ h)
 keeps moreFormals k f h = kept-if (eqb k _) (kept-push (refl ▹ h)) (kept-push (refl ▹ refl ▹ h))
@@ -253,6 +269,10 @@ module _ (us : List Token) where
   unfolding rule isName
   fill-name S e i g sp k = shifts (ap (rule aName) (sp .0)) (k (i + 1) (sp .1))
 
+  fill-element : Filled anElement
+  unfolding rule beginsType
+  fill-element S e i g sp k = shifts (ap (rule anElement) (sp .0)) (k (i + 1) (sp .1))
+
   fill-operator : (L : Level) → Filled (anOperator L)
   unfolding rule operatorOf
   fill-operator conjunction S e i g sp k = shifts (ap (rule (anOperator conjunction)) (sp .0)) (k (i + 1) (sp .1))
@@ -296,6 +316,12 @@ module _ (us : List Token) where
   fill-expression : Filled expression
   fill-expression = fill-operation conjunction fill-comparison
 
+  fill-afterClass : Filled afterClass
+  unfolding rule
+  fill-afterClass =
+      by-rule afterClass (all-cons (fill-one kOpen) (all-cons (fill-one kClose) (all-cons (fill-suffixes true) all-nil))) (λ S. refl)
+      λ S f. refl
+
   -- what ends in `)`
   closed : (x : Symbol) → word x ≡ kClose ∷ [] → rule x kClose ≡ push (one kClose ∷ []) → Filled x
   closed x w r = by-rule x (all-cons (fill-one kClose) all-nil) (λ S. rw w) λ S f. rw w r
@@ -309,18 +335,29 @@ module _ (us : List Token) where
   unfolding rule beginsStatement isName
   fill-statementList = by-rule statementList all-nil (λ S. refl) λ S f. ends-cases (λ k. rule statementList k ≡ push []) (first (words S)) f refl refl
 
-  fill-type : Filled aType
-  unfolding rule
-  fill-type = by-rule aType (all-cons (fill-one kBoolean) all-nil) (λ S. refl) λ S f. refl
+  fill-locals : Filled locals
+  unfolding rule isName
+  fill-locals =
+      by-rule locals (all-cons fill-statementList all-nil) (λ S. refl)
+      λ S f. ends-cases (λ k. rule locals k ≡ push (statementList ∷ [])) (first (words S)) f refl refl
 
   -- a symbol whose word is empty, and which one kind of token follows
   vanishes : (x : Symbol) (q : ℕ) → word x ≡ [] → ((S : List Symbol) → follow x (first (words S)) ≡ true → first (words S) ≡ q) → rule x q ≡ push [] → Filled x
   vanishes x q w h r = by-rule x all-nil (λ S. rw w) λ S f. rw w (ap (rule x) (h S f) ∙ r)
 
+  fill-afterElement : Filled afterElement
+  unfolding rule
+  fill-afterElement = vanishes afterElement kName refl (λ S f. eqb-true (first (words S)) kName f) refl
+
+  fill-type : Filled aType
+  unfolding rule
+  fill-type = by-rule aType (all-cons fill-element (all-cons fill-afterElement all-nil)) (λ S. refl) λ S f. refl
+
   fill : (x : Symbol) → Filled x
-  unfolding rule isName
+  unfolding rule beginsType isName
   fill (one q) = fill-one q
   fill aName = fill-name
+  fill anElement = fill-element
   fill (anOperator L) = fill-operator L
   fill (operation conjunction) = fill-expression
   fill (operation comparison) = fill-comparison
@@ -329,7 +366,8 @@ module _ (us : List Token) where
   fill (operations L) = fill-operations L
   fill unary = fill-unary
   fill postfix = fill-postfix
-  fill afterNew = by-rule afterNew (all-cons fill-name (all-cons (fill-one kOpen) (all-cons (fill-one kClose) (all-cons (fill-suffixes true) all-nil)))) (λ S. refl) λ S f. refl
+  fill afterNew = by-rule afterNew (all-cons fill-name (all-cons fill-afterClass all-nil)) (λ S. refl) λ S f. refl
+  fill afterClass = fill-afterClass
   fill primary = fill-primary
   fill (suffixes b) = fill-suffixes b
   fill afterDot = by-rule afterDot (all-cons (fill-one kLength) (all-cons (fill-suffixes true) all-nil)) (λ S. refl) λ S f. refl
@@ -340,11 +378,14 @@ module _ (us : List Token) where
   fill afterName = fill-afterName
   fill statementList = fill-statementList
   fill aType = fill-type
-  fill afterInt = vanishes afterInt kName refl (λ S f. eqb-true (first (words S)) kName f) refl
+  fill afterElement = fill-afterElement
   fill fields = vanishes fields kCloseBrace refl (λ S f. eqb-true (first (words S)) kCloseBrace f) refl
-  fill locals =
-      by-rule locals (all-cons fill-statementList all-nil) (λ S. refl) λ S f. ends-cases (λ k. rule locals k ≡ push (statementList ∷ [])) (first (words S)) f refl refl
+  fill locals = fill-locals
   fill afterLocal = by-rule afterLocal (all-cons fill-afterName (all-cons fill-statementList all-nil)) (λ S. refl) λ S f. refl
+  fill afterMark =
+      by-rule afterMark
+      (all-cons (fill-one kCloseBracket) (all-cons fill-name (all-cons (fill-one kSemicolon) (all-cons fill-locals all-nil))))
+      (λ S. refl) λ S f. refl
   fill formals = closed formals refl refl
   fill someFormals = by-rule someFormals (all-cons fill-type (all-cons fill-name (all-cons (closed moreFormals refl refl) all-nil))) (λ S. refl) λ S f. refl
   fill moreFormals = closed moreFormals refl refl
@@ -365,9 +406,10 @@ isShift (push xs) = false
 isShift refuse = false
 
 no-shift : (x : Symbol) (k : ℕ) → follow x k ≡ true → isShift (rule x kEnd) ≡ false
-unfolding rule operatorOf isName beginsStatement
+unfolding rule operatorOf isName beginsType beginsStatement
 no-shift (one q) k f = rw (ne-eqb kEnd q λ z. let z₂ : true ≡ false = sym f ∙ ap (λ (q : ℕ). not (eqb q kEnd)) (sym z) in let z₃ : _≡_ {A = ℕ} 0 1 = cc in omega arith)
 no-shift aName k f = refl
+no-shift anElement k f = refl
 no-shift (operation L) k f = refl
 no-shift (anOperator conjunction) k f = refl
 no-shift (anOperator comparison) k f = refl
@@ -380,6 +422,7 @@ no-shift (operations product) k f = refl
 no-shift unary k f = refl
 no-shift postfix k f = refl
 no-shift afterNew k f = refl
+no-shift afterClass k f = refl
 no-shift primary k f = refl
 no-shift (suffixes b) k f = refl
 no-shift afterDot k f = refl
@@ -390,10 +433,11 @@ no-shift aStatement k f = refl
 no-shift afterName k f = refl
 no-shift statementList k f = refl
 no-shift aType k f = refl
-no-shift afterInt k f = refl
+no-shift afterElement k f = refl
 no-shift fields k f = refl
 no-shift locals k f = refl
 no-shift afterLocal k f = refl
+no-shift afterMark k f = refl
 no-shift formals k f = refl
 no-shift someFormals k f = refl
 no-shift moreFormals k f = refl

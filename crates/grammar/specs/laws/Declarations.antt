@@ -2,25 +2,37 @@
 -- they do what the machine does, and the fuel is enough.
 use Prim.Native.Nat.{ℕ, zero, suc, _+_, _*_, _-_, _≤_, _<_}
 use mathlib.Core.Path.{_≡_, refl, sym}
-use mathlib.Core.List.{List, [], _∷_}
+use mathlib.Core.List.{List, [], _∷_, _++_}
 use mathlib.Core.Bool.{Bool, true, false, _&&_, _||_, not}
 use native.Mathlib.Omega.{arith}
 use native.Mathlib.Numerals.{towards-numerals}
+use borrow.Author.Tests.{eqb-true}
 use lib.Dec.{eqb}
 use lib.ListN.{length}
+use Rattle.base.specs.laws.Tests.{and-true}
 use Rattle.lexer.specs.Tokens.{Token}
-use Rattle.lexer.specs.Kinds.{kEnd, kBoolean, kClass, kExtends, kInt, kMain, kPublic, kReturn, kStatic, kString, kVoid}
+use Rattle.lexer.specs.Kinds.{kEnd, kClass, kExtends, kMain, kPublic, kReturn, kStatic, kString, kVoid}
 use Rattle.lexer.specs.Kinds.{kComma, kSemicolon, kOpen, kClose, kOpenBracket, kCloseBracket, kOpenBrace, kCloseBrace, isName}
-use Rattle.parser.specs.Tree.{Sort.statements, Variable, Ty.class}
-use Rattle.parser.specs.Stream.{tokenAt, kindAt, startAt, nameAt, Level.conjunction}
-use Rattle.parser.specs.Parse.{ok, bind, expect, Mode, anExpression, beginsStatement, step, parseAs, typeFrom, variableFrom, beginsVariable, variablesFrom}
-use Rattle.parser.specs.Parse.{someParameters, parametersFrom, methodFrom, methodsFrom, parentFrom, classFrom, classesFrom, programFrom, parse}
-use Rattle.parser.specs.Grammar.{Kind, Derives, more-statements, DerivesType, int-array, an-int, a-boolean, a-class, DerivesVariable, a-variable, DerivesVariables, no-variable, more-variables}
-use Rattle.parser.specs.Grammar.{DerivesParameters, one-parameter, more-parameters, DerivesFormals, no-formal, some-formals, DerivesMethod, a-method, DerivesMethods, no-method, more-methods}
-use Rattle.parser.specs.Grammar.{DerivesParent, no-parent, a-parent, DerivesClass, a-class-declaration, DerivesClasses, no-class, more-classes, DerivesProgram, a-program}
-use Rattle.grammar.specs.laws.Recogniser.{Symbol, rule, one, aName, aType, afterInt, fields, locals, afterLocal, afterName, statementList, formals, someFormals, moreFormals, methods, parent, classes, startStack}
-use Rattle.grammar.specs.laws.Passing.{seen, seen-kind, no-keyword, no-basic-type, or-left, single, tests-kind, tests-again, Passes, PassesOver, pushed, accept, looks, pushed-by, moved, binds, binds-all, binds-again, gives, tests, takes, takes-name, expects, expects-name}
-use Rattle.grammar.specs.laws.Parts.{parts, named-statement}
+use Rattle.parser.specs.Tree.{Sort.statements, Variable}
+use Rattle.parser.specs.Stream.{kindAt, Level.conjunction}
+use Rattle.parser.specs.Parse.{ok, bind, expect, Mode, anExpression, beginsStatement, step, parseAs}
+use Rattle.parser.specs.Parse.{typeFrom, beginsType, variableFrom, marked, beginsVariable, variablesFrom}
+use Rattle.parser.specs.Parse.{someParameters, parametersFrom, methodFrom, methodsFrom, parentFrom, classFrom, classesFrom, programFrom}
+use Rattle.parser.specs.Parse.{parse}
+use Rattle.parser.specs.Grammar.{Kind, Derives, more-statements, a-class, DerivesType, an-array, no-mark, DerivesVariable, a-variable}
+use Rattle.parser.specs.Grammar.{DerivesVariables, no-variable, more-variables}
+use Rattle.parser.specs.Grammar.{DerivesParameters, one-parameter, more-parameters, DerivesFormals, no-formal, some-formals, DerivesMethod}
+use Rattle.parser.specs.Grammar.{a-method, DerivesMethods, no-method, more-methods}
+use Rattle.parser.specs.Grammar.{DerivesParent, no-parent, a-parent, DerivesClass, a-class-declaration, DerivesClasses, no-class}
+use Rattle.parser.specs.Grammar.{more-classes, DerivesProgram, a-program}
+use Rattle.grammar.specs.laws.Recogniser.{Symbol, rule, isBasic, targetEnd, one, aName, aType, afterElement, fields, locals}
+use Rattle.grammar.specs.laws.Recogniser.{afterLocal, afterMark, afterName, statementList, formals, someFormals, moreFormals, methods}
+use Rattle.grammar.specs.laws.Recogniser.{parent, classes, startStack}
+use Rattle.grammar.specs.laws.Passing.{seen, seen-kind, kinds-apart, no-keyword, no-basic-type, element-found}
+use Rattle.grammar.specs.laws.Passing.{or-left, or-right, single, tests-kind, Passes, PassesOver, pushed, accept, looks, pushed-by}
+use Rattle.grammar.specs.laws.Passing.{moved, binds, binds-all, binds-again, gives, tests, takes, takes-name, expects, expects-name}
+use Rattle.grammar.specs.laws.Passing.{expects-element}
+use Rattle.grammar.specs.laws.Parts.{Meant, parts, named-statement, named-target}
 
 -- the symbols of a method, and of a class
 abbrev aMethod : List Symbol
@@ -30,10 +42,6 @@ abbrev aClass : List Symbol
 aClass = one kClass ∷ aName ∷ parent ∷ one kOpenBrace ∷ fields ∷ methods ∷ one kCloseBrace ∷ []
 
 -- tests of two
-and-true : (b : Bool) → (b && true) ≡ b
-and-true true = refl
-and-true false = refl
-
 no-name : (x n c : Bool) → (x || n && c) ≡ true → n ≡ false → x ≡ true
 no-name true n c e e₁ = refl
 no-name false true c e e₁ = sym e₁
@@ -43,13 +51,10 @@ module _ (ts : List Token) where
   read-type : (i : ℕ) → PassesOver ts (aType ∷ []) i (λ t j. DerivesType ts i j t) (typeFrom ts i)
   unfolding typeFrom rule
   read-type i =
-      looks aType i (tests-again kInt (eqb (kindAt ts (i + 1)) kOpenBracket) i _ _ _ _ _
-      (λ e. pushed (takes kInt e (looks afterInt (i + 1) (tests-kind kOpenBracket (i + 1) _ _ _ _
+      looks aType i (pushed (expects-element i _ λ t d. looks afterElement (i + 1) (tests-kind kOpenBracket (i + 1) _ _ _ _
       (λ e₁. pushed (takes kOpenBracket e₁ (moved (i + 2) (omega arith) (expects kCloseBracket (i + 2) _ λ e₂.
-      accept (simp towards-numerals (int-array e e₁ e₂))))))
-      (λ _. pushed (accept (an-int e)))))))
-      (λ _. tests-kind kBoolean i _ _ _ _ (single kBoolean i a-boolean)
-      (λ _. pushed (expects-name i _ λ e. accept (a-class e)))))
+      accept (simp towards-numerals (an-array d e₁ e₂))))))
+      (λ _. pushed (accept (no-mark d))))))
 
   read-variable : (i : ℕ) → PassesOver ts (aType ∷ aName ∷ []) i (λ v j. DerivesVariable ts i j v) (variableFrom ts i)
   unfolding variableFrom
@@ -58,26 +63,19 @@ module _ (ts : List Token) where
   -- FIELDS
 
   read-fields : (f i : ℕ) → 16 * (length ts - i) < f → PassesOver ts (fields ∷ []) i (λ vs j. DerivesVariables ts i j vs) (variablesFrom f true ts i)
-  unfolding variablesFrom beginsVariable rule isName
+  unfolding variablesFrom beginsVariable beginsType rule isName
   read-fields zero i h = absurd (omega arith)
   read-fields (suc f) i h =
-      rw (and-true (isName (kindAt ts i)))
-      (looks fields i (tests (eqb (kindAt ts i) kInt || eqb (kindAt ts i) kBoolean || isName (kindAt ts i)) i _ _ _ _
-      (λ e. let here = seen ts i (λ k. eqb k kInt || eqb k kBoolean || isName k) refl e in
+      looks fields i (tests (beginsType (kindAt ts i) true) i _ _ _ _
+      (λ e. let here = seen ts i (λ k. beginsType k true) refl e in
       pushed (binds-all (aType ∷ aName ∷ []) _ (read-variable i) λ v j le d. expects kSemicolon j _ λ e₂. binds _ (read-fields f (j + 1) (omega arith)) λ vs n le₂ ds.
       accept (more-variables d e₂ ds)))
-      (λ _. pushed (accept no-variable))))
+      (λ _. pushed (accept no-variable)))
 
   -- LOCALS, and the statements after them
 
   abbrev Locals : ℕ → List Variable → ℕ → Type 0
   Locals i vs j = DerivesVariables ts i j vs × (beginsVariable false ts j ≡ false)
-
-  -- a type that is a class, and a name
-  two-names : (i : ℕ) → isName (kindAt ts i) ≡ true → isName (kindAt ts (i + 1)) ≡ true
-      → variableFrom ts i ≡ ok (record { type = record { row = i; start = startAt ts i; type = class (tokenAt ts i .text) }; name = nameAt ts (i + 1) }) (i + 1 + 1)
-  unfolding variableFrom typeFrom isName
-  two-names i e e₁ = let n = no-basic-type (kindAt ts i) e in rw (n .0, n .1, e, e₁)
 
   module _ (f : ℕ) (next : (i : ℕ) → 16 * (length ts - i) < f → Passes ts (locals ∷ []) (locals ∷ []) i (Locals i) (variablesFrom f false ts i)) where
     after-local : (i : ℕ) → 16 * (length ts - i) < suc f → i < length ts → (v : Variable) (j : ℕ) → i ≤ j → DerivesVariable ts i j v
@@ -86,20 +84,42 @@ module _ (ts : List Token) where
 
     typed-local : (i : ℕ) → 16 * (length ts - i) < suc f → beginsVariable false ts i ≡ true → isName (kindAt ts i) ≡ false
         → Passes ts (locals ∷ []) (locals ∷ []) i (Locals i) (variablesFrom (suc f) false ts i)
-    unfolding variablesFrom beginsVariable rule
+    unfolding variablesFrom beginsVariable beginsType rule
     typed-local i h begins e =
-        let x : (eqb (kindAt ts i) kInt || eqb (kindAt ts i) kBoolean) ≡ true = no-name _ _ _ begins e in
+        let x : isBasic (kindAt ts i) ≡ true = no-name _ _ _ begins e in
         rw begins (pushed-by {xs = aType ∷ aName ∷ one kSemicolon ∷ locals ∷ []} (rw x)
-        (binds-all (aType ∷ aName ∷ []) _ (read-variable i) (after-local i h (seen ts i (λ k. eqb k kInt || eqb k kBoolean) refl x))))
+        (binds-all (aType ∷ aName ∷ []) _ (read-variable i) (after-local i h (seen ts i isBasic refl x))))
 
+    -- a local whose type is a class, or an array of one
     named-local : (i : ℕ) → 16 * (length ts - i) < suc f → beginsVariable false ts i ≡ true → isName (kindAt ts i) ≡ true
         → Passes ts (locals ∷ []) (locals ∷ []) i (Locals i) (variablesFrom (suc f) false ts i)
-    unfolding variablesFrom beginsVariable rule isName
+    unfolding variablesFrom variableFrom typeFrom beginsVariable beginsType rule isName
     named-local i h begins e =
         let n = no-basic-type (kindAt ts i) e in
-        let e₁ : isName (kindAt ts (i + 1)) ≡ true = rw (n .0, n .1, e) at begins in
-        rw (begins, two-names i e e₁) (pushed-by {xs = aName ∷ afterLocal ∷ []} (rw (n .0, n .1, e)) (takes-name e (pushed-by {xs = aName ∷ one kSemicolon ∷ locals ∷ []} (rw e₁) (takes-name e₁
-        (after-local i h (seen ts i isName refl e) _ (i + 1 + 1) (omega arith) (a-variable (a-class e) e₁))))))
+        pushed-by {xs = aName ∷ afterLocal ∷ []} (rw (n .0, n .1, e))
+        (takes-name e (go (isName (kindAt ts (i + 1))) refl (rw (n .0, n .1, e) at begins)))
+      where
+        here : i < length ts
+        here = seen ts i isName refl e
+
+        go : (b : Bool) → isName (kindAt ts (i + 1)) ≡ b → (b || marked ts (i + 1)) ≡ true
+            → Passes ts (afterLocal ∷ []) (locals ∷ []) (i + 1) (Locals i) (variablesFrom (suc f) false ts i)
+        go true e₁ m =
+            rw (begins, element-found (a-class e), kinds-apart isName (kindAt ts (i + 1)) kOpenBracket e₁ refl, e₁)
+            (pushed-by {xs = aName ∷ one kSemicolon ∷ locals ∷ []} (rw e₁) (takes-name e₁
+            (after-local i h here _ (i + 1 + 1) (omega arith) (a-variable (no-mark (a-class e)) e₁))))
+        go false n m =
+            let b = and-true (eqb (kindAt ts (i + 1)) kOpenBracket) (eqb (kindAt ts (i + 1 + 1)) kCloseBracket) m .0 in
+            let b₂ = and-true (eqb (kindAt ts (i + 1)) kOpenBracket) (eqb (kindAt ts (i + 1 + 1)) kCloseBracket) m .1 in
+            let e₁ = eqb-true (kindAt ts (i + 1)) kOpenBracket b in
+            let e₂ = eqb-true (kindAt ts (i + 1 + 1)) kCloseBracket b₂ in
+            let e₃ : kindAt ts (i + 2) ≡ kCloseBracket = simp towards-numerals at e₂ in
+            rw (begins, element-found (a-class e), e₁, e₃)
+            (pushed-by {xs = one kOpenBracket ∷ afterMark ∷ []} (rw (n, b)) (takes kOpenBracket e₁
+            (pushed-by {xs = one kCloseBracket ∷ aName ∷ one kSemicolon ∷ locals ∷ []} (rw b₂) (takes kCloseBracket e₂
+            (binds-all (aName ∷ []) _ (moved (i + 2 + 1) (omega arith) (expects-name (i + 2 + 1) _ λ e₄.
+            accept (a-variable (simp towards-numerals (an-array (a-class e) e₁ e₃)) e₄)))
+            λ v j le d. after-local i h here v j (omega arith) d)))))
 
     locals-step : (i : ℕ) → 16 * (length ts - i) < suc f → Passes ts (locals ∷ []) (locals ∷ []) i (Locals i) (variablesFrom (suc f) false ts i)
     unfolding variablesFrom
@@ -114,29 +134,47 @@ module _ (ts : List Token) where
   read-locals zero i h = absurd (omega arith)
   read-locals (suc f) i h = locals-step f (λ i h. read-locals f i h) i h
 
-  -- a body whose first statement begins with a name
-  named-body : (f i : ℕ) → 16 * (length ts - i) + 1 < f → isName (kindAt ts i) ≡ true
-      → PassesOver ts (afterName ∷ statementList ∷ []) (i + 1) (λ ss j. Derives ts statements Kind.statementList i j ss) (parseAs f ts Mode.statementList i)
+  -- a body whose first statement begins with a name, from where the symbols zs are what is left of that statement
+  named-body : (f i n : ℕ) (zs : List Symbol) → 16 * (length ts - i) + 1 < f → isName (kindAt ts i) ≡ true
+      → ((f : ℕ) → 16 * (length ts - i) < f → PassesOver ts zs n (Meant ts Mode.aStatement i) (parseAs f ts Mode.aStatement i))
+      → PassesOver ts (zs ++ (statementList ∷ [])) n (λ ss j. Derives ts statements Kind.statementList i j ss)
+      (parseAs f ts Mode.statementList i)
   unfolding parseAs step beginsStatement isName
-  named-body zero i h e = absurd (omega arith)
-  named-body (suc f) i h e =
+  named-body zero i n zs h e first = absurd (omega arith)
+  named-body (suc f) i n zs h e first =
       let here = seen ts i isName refl e in
-      let n = no-keyword (kindAt ts i) e in
-      rw (n .0, n .1, n .2, n .3, e)
-      (binds _ (named-statement ts f i e (omega arith)) λ s j le d. binds _ (parts ts f Mode.statementList j (omega arith)) λ ss n le₂ ds. accept (more-statements (d .0) ds))
+      let w = no-keyword (kindAt ts i) e in
+      rw (w .0, w .1, w .2, w .3, e)
+      (binds-all zs _ (first f (omega arith)) λ s j le d.
+      binds _ (parts ts f Mode.statementList j (omega (arith, d .1))) λ ss n le₂ ds. accept (more-statements (d .0) ds))
 
   read-body : (f i : ℕ) → 16 * (length ts - i) + 1 < f → beginsVariable false ts i ≡ false
       → PassesOver ts (locals ∷ []) i (λ ss j. Derives ts statements Kind.statementList i j ss) (parseAs f ts Mode.statementList i)
-  unfolding beginsVariable rule isName
+  unfolding beginsVariable beginsType rule isName
   read-body f i h none-here = go (isName (kindAt ts i)) refl
     where
-      untyped : (eqb (kindAt ts i) kInt || eqb (kindAt ts i) kBoolean) ≡ false
+      untyped : isBasic (kindAt ts i) ≡ false
       untyped = or-left _ _ none-here
+
+      named : isName (kindAt ts i) ≡ true → (b : Bool) → eqb (kindAt ts (i + 1)) kOpenBracket ≡ b → isName (kindAt ts (i + 1)) ≡ false
+          → marked ts (i + 1) ≡ false
+          → PassesOver ts (afterLocal ∷ []) (i + 1) (λ ss j. Derives ts statements Kind.statementList i j ss)
+          (parseAs f ts Mode.statementList i)
+      named e true b n m =
+          let e₁ = eqb-true (kindAt ts (i + 1)) kOpenBracket b in
+          let n₂ : eqb (kindAt ts (i + 1 + 1)) kCloseBracket ≡ false = rw b at m in
+          pushed-by {xs = one kOpenBracket ∷ afterMark ∷ []} (rw (n, b)) (takes kOpenBracket e₁
+          (pushed-by {xs = targetEnd ++ (statementList ∷ [])} (rw n₂)
+          (moved (i + 2) (omega arith) (named-body f i (i + 2) targetEnd h e λ f h. named-target ts f i e e₁ h))))
+      named e false b n m =
+          pushed-by {xs = afterName ∷ statementList ∷ []} (rw (n, b))
+          (named-body f i (i + 1) (afterName ∷ []) h e λ f h. named-statement ts f i e h)
 
       go : (n : Bool) → isName (kindAt ts i) ≡ n → PassesOver ts (locals ∷ []) i (λ ss j. Derives ts statements Kind.statementList i j ss) (parseAs f ts Mode.statementList i)
       go true e =
-          let e₁ : isName (kindAt ts (i + 1)) ≡ false = rw (untyped, e) at none-here in
-          pushed-by {xs = aName ∷ afterLocal ∷ []} (rw (untyped, e)) (takes-name e (pushed-by {xs = afterName ∷ statementList ∷ []} (rw e₁) (named-body f i h e)))
+          let follows : (isName (kindAt ts (i + 1)) || marked ts (i + 1)) ≡ false = rw (untyped, e) at none-here in
+          pushed-by {xs = aName ∷ afterLocal ∷ []} (rw (untyped, e))
+          (takes-name e (named e _ refl (or-left (isName (kindAt ts (i + 1))) _ follows) (or-right (isName (kindAt ts (i + 1))) _ follows)))
       go false e = pushed-by {xs = statementList ∷ []} (rw (untyped, e)) (parts ts f Mode.statementList i h)
 
   -- PARAMETERS, with the `)` that ends them

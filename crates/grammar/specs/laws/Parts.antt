@@ -10,20 +10,30 @@ use native.Mathlib.Numerals.{towards-numerals}
 use borrow.Author.Tests.{eqb-true}
 use lib.Dec.{eqb}
 use lib.ListN.{length}
-use Rattle.base.specs.Choice.{option}
+use Rattle.base.specs.Choice.{if_then_else_, option}
+use Rattle.base.specs.laws.Tests.{and-true}
 use Rattle.lexer.specs.Tokens.{Token}
-use Rattle.lexer.specs.Kinds.{kEnd, kOut, kPrintln, kLiteral, kElse, kFalse, kIf, kInt, kLength, kNew, kSystem, kThis, kTrue, kWhile}
-use Rattle.lexer.specs.Kinds.{kNot, kAssign, kDot, kComma, kSemicolon, kOpen, kClose, kOpenBracket, kCloseBracket, kOpenBrace, kCloseBrace, isName}
-use Rattle.parser.specs.Tree.{Operator, Sort, Sort.expression, Sort.arguments, Sort.statement, Sort.statements, Part, Expression}
+use Rattle.lexer.specs.Kinds.{kEnd, kOut, kPrintln, kLiteral, kElse, kFalse, kIf, kLength, kNew, kSystem, kThis, kTrue, kWhile}
+use Rattle.lexer.specs.Kinds.{kNot, kAssign, kDot, kComma, kSemicolon, kOpen, kClose, kOpenBracket, kCloseBracket, kOpenBrace, kCloseBrace}
+use Rattle.lexer.specs.Kinds.{isName}
+use Rattle.parser.specs.Tree.{Operator, Element, Sort, Sort.expression, Sort.arguments, Sort.statement, Sort.statements, Part, Expression}
 use Rattle.parser.specs.Tree.{Part.newArray, Part.newObject, Part.binary, Part.element, Part.arrayLength, Part.call}
-use Rattle.parser.specs.Stream.{kindAt, placeAt, nameAt, Level, Level.conjunction, Level.comparison, Level.sum, Level.product, operatorOf}
-use Rattle.parser.specs.Parse.{ok, bind, expect, expectName, Mode, operand, anExpression, beginsStatement, step, parseAs}
+use Rattle.parser.specs.Stream.{kindAt, placeAt, nameAt, elementAt, Level, Level.conjunction, Level.comparison, Level.sum, Level.product}
+use Rattle.parser.specs.Stream.{operatorOf}
+use Rattle.parser.specs.Parse.{Parsed, ok, bad, bind, expect, Mode, operand, anExpression, beginsType, newArrayFrom, beginsStatement}
+use Rattle.parser.specs.Parse.{step, parseAs}
 use Rattle.parser.specs.contracts.Post.{rank}
 use Rattle.parser.specs.Grammar as Grammar
-use Rattle.parser.specs.Grammar.{Kind, Derives, operate, one-operand, negate, no-negation, make-array, no-array, index, take-length, invoke, no-suffix, a-literal, a-true, a-false, a-name, a-this, make-object, parentheses}
-use Rattle.parser.specs.Grammar.{none-given, some-given, one-argument, more-arguments, a-block, an-if, a-while, a-print, an-assignment, an-element-assignment, no-statement, more-statements}
-use Rattle.grammar.specs.laws.Recogniser.{Symbol, push, rule, operandOf}
-use Rattle.grammar.specs.laws.Passing.{seen, seen-kind, no-keyword, isOperatorOf, single, tests-kind, tests-next, tests-again, pushed-by, binds-all, moved, PassesOver, Moves, pushed, refused, accept, looks, binds, gives, tests, takes, takes-name, takes-operator, expects, expects-name}
+use Rattle.parser.specs.Grammar.{DerivesElement, a-class}
+use Rattle.parser.specs.Grammar.{Kind, Derives, operate, one-operand, negate, no-negation, make-array, no-array, index, take-length, invoke}
+use Rattle.parser.specs.Grammar.{no-suffix, a-literal, a-true, a-false, a-name, a-this, make-object, parentheses}
+use Rattle.parser.specs.Grammar.{none-given, some-given, one-argument, more-arguments, a-block, an-if, a-while, a-print, an-assignment}
+use Rattle.parser.specs.Grammar.{an-element-assignment, no-statement, more-statements}
+use Rattle.grammar.specs.laws.Recogniser.{Symbol, push, rule, refuses, operandOf, arrayEnd, targetEnd, isBasic}
+use Rattle.grammar.specs.laws.Passing.{seen, seen-kind, no-keyword, element-found, isOperatorOf, single}
+use Rattle.grammar.specs.laws.Passing.{tests-kind, tests-next, tests-either, tests-again, pushed-by, binds-all, moved, passes-bad}
+use Rattle.grammar.specs.laws.Passing.{PassesOver, Moves, pushed, refused, accept, looks, binds, gives, tests, takes, takes-name}
+use Rattle.grammar.specs.laws.Passing.{takes-operator, expects, expects-name, expects-element}
 
 -- the machine's symbol for a mode
 abbrev pub symbolOf : {s : Sort} → Mode s → Symbol
@@ -62,15 +72,6 @@ record Below (ts : List Token) (f : ℕ) : Type 0 where
 
 abbrev Step : List Token → (f : ℕ) → {s : Sort} → Mode s → ℕ → Type 0
 Step ts f m i = 16 * (length ts - i) + rank m < suc f → PassesOver ts (symbolOf m ∷ []) i (Meant ts m i) (step ts (λ s m j. parseAs f ts m j) m i)
-
--- a test of two that passes
-and-left : (a b : Bool) → (a && b) ≡ true → a ≡ true
-and-left true b e = refl
-and-left false b e = e
-
-and-right : (a b : Bool) → (a && b) ≡ true → b ≡ true
-and-right true b e = e
-and-right false b e = let z : _≡_ {A = ℕ} 0 1 = cc in absurd (omega arith)
 
 postfix-of : {ts : List Token} (b : Bool) {first i : ℕ} {l : Expression} → Before ts b first i l → Derives ts expression Kind.postfix first i l
 postfix-of true d = no-array d
@@ -128,32 +129,71 @@ module _ (ts : List Token) (f : ℕ) (p : Below ts f) where
       pushed (takes kNot e (binds _ (p .of Mode.unary (i + 1) (omega arith)) λ t j le d. accept (negate e d))))
       (λ n. pushed (gives (p .of Mode.postfix i (omega arith)) λ t j le d. no-negation d)))
 
-  -- `new` and a class
-  instance : (i : ℕ) → kindAt ts i ≡ kNew
-      → PassesOver ts (Symbol.aName ∷ Symbol.one kOpen ∷ Symbol.one kClose ∷ []) (i + 1) (λ e j. Derives ts expression Kind.primary i j e)
-      (expectName ts (i + 1) λ j. expect ts kOpen j λ j. expect ts kClose j λ j. ok (newObject (placeAt ts i i) (nameAt ts (i + 1))) j)
-  instance i e =
-      expects-name (i + 1) _ λ e₁. expects kOpen (i + 1 + 1) _ λ e₂. expects kClose (i + 1 + 1 + 1) _ λ e₃.
+  -- `new C()` and `new T[e]`, after C and T
+  abbrev object : ℕ → Parsed Expression
+  object i = expect ts kOpen (i + 1 + 1) λ j. expect ts kClose j λ j. ok (newObject (placeAt ts i i) (nameAt ts (i + 1))) j
+
+  object-end : (i : ℕ) → kindAt ts i ≡ kNew → isName (kindAt ts (i + 1)) ≡ true
+      → PassesOver ts (Symbol.one kOpen ∷ Symbol.one kClose ∷ []) (i + 1 + 1) (λ e j. Derives ts expression Kind.primary i j e) (object i)
+  object-end i e e₁ =
+      expects kOpen (i + 1 + 1) _ λ e₂. expects kClose (i + 1 + 1 + 1) _ λ e₃.
       accept (simp towards-numerals (make-object e e₁ (simp towards-numerals at e₂) (simp towards-numerals at e₃)))
 
-  new-object : (f i : ℕ) → 0 < f → kindAt ts i ≡ kNew
-      → PassesOver ts (Symbol.aName ∷ Symbol.one kOpen ∷ Symbol.one kClose ∷ []) (i + 1) (λ e j. Derives ts expression Kind.primary i j e) (parseAs f ts Mode.primary i)
+  abbrev array : ℕ → Element → Parsed Expression
+  array i t =
+      expect ts kOpenBracket (i + 2) λ j. bind (parseAs f ts anExpression j) λ x j. expect ts kCloseBracket j λ j.
+      parseAs f ts (Mode.suffixes false i (newArray (placeAt ts i i) (elementAt ts (i + 1) t) x)) j
+
+  array-end : (i : ℕ) (t : Element) → 16 * (length ts - i) < suc f → kindAt ts i ≡ kNew → DerivesElement ts (i + 1) t
+      → PassesOver ts arrayEnd (i + 2) (Meant ts Mode.postfix i) (array i t)
+  array-end i t h e d =
+      let here = seen-kind ts i kNew refl e in
+      expects kOpenBracket (i + 2) _ λ e₁. binds _ (p .of anExpression (i + 2 + 1) (omega arith)) λ x j le d₁.
+      expects kCloseBracket j _ λ e₂.
+      gives (p .of (Mode.suffixes false i (newArray (placeAt ts i i) (elementAt ts (i + 1) t) x)) (j + 1) (omega arith)) λ y n le₂ g.
+      g (make-array e d e₁ (simp towards-numerals at d₁) e₂)
+
+  -- what the parser of primaries answers after `new`
+  new-object : (f i : ℕ) → 0 < f → kindAt ts i ≡ kNew → isName (kindAt ts (i + 1)) ≡ true → parseAs f ts Mode.primary i ≡ object i
   unfolding parseAs step isName
-  new-object zero i h e = absurd (omega arith)
-  new-object (suc f) i h e = rw e (instance i e)
+  new-object zero i h e e₁ = absurd (omega arith)
+  new-object (suc f) i h e e₁ = rw (e, e₁)
+
+  no-object : (f i : ℕ) → 0 < f → kindAt ts i ≡ kNew → isName (kindAt ts (i + 1)) ≡ false → parseAs f ts Mode.primary i ≡ bad (i + 1)
+  unfolding parseAs step isName
+  no-object zero i h e n = absurd (omega arith)
+  no-object (suc f) i h e n = rw (e, n)
+
+  new-class : (i : ℕ) → 16 * (length ts - i) + 1 < suc f → kindAt ts i ≡ kNew
+      → PassesOver ts (Symbol.aName ∷ Symbol.afterClass ∷ []) (i + 1) (Meant ts Mode.postfix i)
+      (if isName (kindAt ts (i + 1)) && eqb (kindAt ts (i + 2)) kOpenBracket
+      then (λ _. newArrayFrom ts (λ s m j. parseAs f ts m j) i) else λ _.
+      bind (parseAs f ts Mode.primary i) λ x j. parseAs f ts (Mode.suffixes true i x) j)
+  unfolding rule
+  new-class i h e = go (isName (kindAt ts (i + 1))) refl
+    where
+      here : i < length ts
+      here = seen-kind ts i kNew refl e
+
+      go : (b : Bool) → isName (kindAt ts (i + 1)) ≡ b
+          → PassesOver ts (Symbol.aName ∷ Symbol.afterClass ∷ []) (i + 1) (Meant ts Mode.postfix i)
+          (if b && eqb (kindAt ts (i + 2)) kOpenBracket then (λ _. newArrayFrom ts (λ s m j. parseAs f ts m j) i) else λ _.
+          bind (parseAs f ts Mode.primary i) λ x j. parseAs f ts (Mode.suffixes true i x) j)
+      go true e₁ =
+          rw (element-found (a-class e₁), new-object f i (omega arith) e e₁)
+          (takes-name e₁ (moved (i + 2) (omega arith) (looks Symbol.afterClass (i + 2) (tests-kind kOpenBracket (i + 2) _ _ _ _
+          (λ _. pushed (array-end i _ (omega arith) e (a-class e₁)))
+          (λ _. pushed (binds-all (Symbol.one kOpen ∷ Symbol.one kClose ∷ []) _ (moved (i + 1 + 1) (omega arith) (object-end i e e₁))
+          λ x j le d. gives (p .of (Mode.suffixes true i x) j (omega arith)) λ t n le₂ g. g (no-suffix d)))))))
+      go false n = rw (no-object f i (omega arith) e n) (passes-bad λ S. refuses {x = Symbol.aName} {i = i + 1} (rw n))
 
   postfix-step : (i : ℕ) → Step ts f Mode.postfix i
-  unfolding step rule
+  unfolding step rule beginsType
   postfix-step i h =
-      looks Symbol.postfix i (tests-next kNew (eqb (kindAt ts (i + 1)) kInt) i _ _ _ _
-      (λ e. let here = seen-kind ts i kNew refl e in
-      pushed (takes kNew e (looks Symbol.afterNew (i + 1) (tests-kind kInt (i + 1) _ _ _ _
-      (λ e₁. pushed (takes kInt e₁ (moved (i + 2) (omega arith) (expects kOpenBracket (i + 2) _ λ e₂.
-      binds _ (p .of anExpression (i + 2 + 1) (omega arith)) λ x j le d. expects kCloseBracket j _ λ e₃.
-      gives (p .of (Mode.suffixes false i (newArray (placeAt ts i i) x)) (j + 1) (omega arith)) λ t n le₂ g.
-      g (make-array e e₁ e₂ (simp towards-numerals at d) e₃)))))
-      (λ n. pushed (binds-all (Symbol.aName ∷ Symbol.one kOpen ∷ Symbol.one kClose ∷ []) _ (new-object f i (omega arith) e) λ x j le d.
-      gives (p .of (Mode.suffixes true i x) j (omega arith)) λ t n le₂ g. g (no-suffix d)))))))
+      looks Symbol.postfix i (tests-next kNew (beginsType (kindAt ts (i + 1)) (eqb (kindAt ts (i + 2)) kOpenBracket)) i _ _ _ _
+      (λ e. pushed (takes kNew e (looks Symbol.afterNew (i + 1) (tests-either (isBasic (kindAt ts (i + 1))) _ (i + 1) _ _ _ _
+      (λ _. pushed (expects-element (i + 1) _ λ t d. moved (i + 2) (omega arith) (array-end i t (omega arith) e d)))
+      (λ _. pushed (new-class i (omega arith) e))))))
       (λ n. pushed (binds _ (p .of Mode.primary i (omega arith)) λ x j le d. gives (p .of (Mode.suffixes true i x) j (omega arith)) λ t n le₂ g. g (no-suffix d))))
 
   suffixes-step : (b : Bool) (first : ℕ) (l : Expression) (i : ℕ) → Step ts f (Mode.suffixes b first l) i
@@ -161,10 +201,10 @@ module _ (ts : List Token) (f : ℕ) (p : Below ts f) where
   suffixes-step b first l i h =
       looks (Symbol.suffixes b) i (tests (eqb (kindAt ts i) kOpenBracket && b) i _ _ _ _
       (λ e. let here = seen ts i (λ k. eqb k kOpenBracket && b) refl e in
-      let e₁ = eqb-true (kindAt ts i) kOpenBracket (and-left (eqb (kindAt ts i) kOpenBracket) b e) in
+      let e₁ = eqb-true (kindAt ts i) kOpenBracket (and-true (eqb (kindAt ts i) kOpenBracket) b e .0) in
       pushed (takes kOpenBracket e₁ (binds _ (p .of anExpression (i + 1) (omega arith)) λ x j le d. expects kCloseBracket j _ λ e₂.
       gives (p .of (Mode.suffixes true first (element (placeAt ts first i) l x)) (j + 1) (omega arith)) λ t n le₂ g before.
-      g (index (subst (λ (b : Bool). Before ts b first i l) (and-right (eqb (kindAt ts i) kOpenBracket) b e) before) e₁ d e₂))))
+      g (index (subst (λ (b : Bool). Before ts b first i l) (and-true (eqb (kindAt ts i) kOpenBracket) b e .1) before) e₁ d e₂))))
       (λ n₁. tests-kind kOpenBracket i _ _ _ _ (λ e. refused)
       (λ n₂. tests-again kDot (eqb (kindAt ts (i + 1)) kLength) i _ _ _ _ _
       (λ e₁. let here = seen-kind ts i kDot refl e₁ in
@@ -187,7 +227,7 @@ module _ (ts : List Token) (f : ℕ) (p : Below ts f) where
       (λ _. tests (isName (kindAt ts i)) i _ _ _ _ (λ e. pushed (takes-name e (accept (a-name e))))
       (λ _. tests-kind kThis i _ _ _ _ (single kThis i a-this)
       (λ _. tests-kind kNew i _ _ _ _
-      (λ e. pushed (takes kNew e (instance i e)))
+      (λ e. pushed (takes kNew e (expects-name (i + 1) _ λ e₁. object-end i e e₁)))
       (λ _. tests-kind kOpen i _ _ _ _
       (λ e. let here = seen-kind ts i kOpen refl e in
       pushed (takes kOpen e (binds _ (p .of anExpression (i + 1) (omega arith)) λ x j le d. expects kClose j _ λ e₂. accept (parentheses e d e₂))))
@@ -209,20 +249,37 @@ module _ (ts : List Token) (f : ℕ) (p : Below ts f) where
       (λ n. pushed (expects kComma j _ λ e. let there = seen-kind ts j kComma refl e in
       binds _ (p .of Mode.someArguments (j + 1) (omega arith)) λ es n le₂ a. accept (a .0, more-arguments d e (a .1), a .2, a .3))))))
 
-  -- an assignment, after its name
+  -- an assignment, after its name, and after its name and `[`
+  named-element : (i : ℕ) → isName (kindAt ts i) ≡ true → kindAt ts (i + 1) ≡ kOpenBracket → 16 * (length ts - i) < suc f
+      → PassesOver ts targetEnd (i + 2) (Meant ts Mode.aStatement i) (step ts (λ s m j. parseAs f ts m j) Mode.aStatement i)
+  unfolding step isName
+  named-element i e e₁ h =
+      let here = seen ts i isName refl e in
+      let n = no-keyword (kindAt ts i) e in
+      rw (n .0, n .1, n .2, n .3, e, e₁)
+      (binds _ (p .of anExpression (i + 2) (omega arith)) λ x j le d. expects kCloseBracket j _ λ e₂. expects kAssign (j + 1) _ λ e₃.
+      binds _ (p .of anExpression (j + 1 + 1) (omega arith)) λ y n le₂ d₂. expects kSemicolon n _ λ e₄.
+      accept (an-element-assignment e e₁ d e₂ e₃ (simp towards-numerals at d₂) e₄, omega arith))
+
   named : (i : ℕ) → isName (kindAt ts i) ≡ true → 16 * (length ts - i) < suc f
       → PassesOver ts (Symbol.afterName ∷ []) (i + 1) (Meant ts Mode.aStatement i) (step ts (λ s m j. parseAs f ts m j) Mode.aStatement i)
   unfolding step rule isName
-  named i e h =
-      let here = seen ts i isName refl e in
-      let n = no-keyword (kindAt ts i) e in
-      rw (n .0, n .1, n .2, n .3, e)
-      (looks Symbol.afterName (i + 1) (tests-kind kOpenBracket (i + 1) _ _ _ _
-      (λ e₁. pushed (takes kOpenBracket e₁ (moved (i + 2) (omega arith) (binds _ (p .of anExpression (i + 2) (omega arith)) λ x j le d.
-      expects kCloseBracket j _ λ e₂. expects kAssign (j + 1) _ λ e₃. binds _ (p .of anExpression (j + 1 + 1) (omega arith)) λ y n le₂ d₂. expects kSemicolon n _ λ e₄.
-      accept (an-element-assignment e e₁ d e₂ e₃ (simp towards-numerals at d₂) e₄, omega arith)))))
-      (λ n. pushed (expects kAssign (i + 1) _ λ e₁. binds _ (p .of anExpression (i + 1 + 1) (omega arith)) λ y j le d. expects kSemicolon j _ λ e₂.
-      accept (an-assignment e e₁ (simp towards-numerals at d) e₂, omega arith)))))
+  named i e h = go (eqb (kindAt ts (i + 1)) kOpenBracket) refl
+    where
+      go : (b : Bool) → eqb (kindAt ts (i + 1)) kOpenBracket ≡ b
+          → PassesOver ts (Symbol.afterName ∷ []) (i + 1) (Meant ts Mode.aStatement i)
+          (step ts (λ s m j. parseAs f ts m j) Mode.aStatement i)
+      go true b =
+          let e₁ = eqb-true (kindAt ts (i + 1)) kOpenBracket b in
+          pushed-by {xs = Symbol.one kOpenBracket ∷ targetEnd} (rw b)
+          (takes kOpenBracket e₁ (moved (i + 2) (omega arith) (named-element i e e₁ h)))
+      go false b =
+          let here = seen ts i isName refl e in
+          let n = no-keyword (kindAt ts i) e in
+          rw (n .0, n .1, n .2, n .3, e, b)
+          (pushed-by {xs = Symbol.one kAssign ∷ Symbol.operation conjunction ∷ Symbol.one kSemicolon ∷ []} (rw b)
+          (expects kAssign (i + 1) _ λ e₁. binds _ (p .of anExpression (i + 1 + 1) (omega arith)) λ y j le d. expects kSemicolon j _ λ e₂.
+          accept (an-assignment e e₁ (simp towards-numerals at d) e₂, omega arith)))
 
   other-statement : (i : ℕ) → isName (kindAt ts i) ≡ false → Step ts f Mode.aStatement i
   unfolding step rule
@@ -292,3 +349,9 @@ pub named-statement : (ts : List Token) (f i : ℕ) → isName (kindAt ts i) ≡
 unfolding parseAs
 named-statement ts zero i e h = absurd (omega arith)
 named-statement ts (suc f) i e h = named ts f (record { of = λ m i h. parts ts f m i h }) i e h
+
+pub named-target : (ts : List Token) (f i : ℕ) → isName (kindAt ts i) ≡ true → kindAt ts (i + 1) ≡ kOpenBracket → 16 * (length ts - i) < f
+    → PassesOver ts targetEnd (i + 2) (Meant ts Mode.aStatement i) (parseAs f ts Mode.aStatement i)
+unfolding parseAs
+named-target ts zero i e e₁ h = absurd (omega arith)
+named-target ts (suc f) i e e₁ h = named-element ts f (record { of = λ m i h. parts ts f m i h }) i e e₁ h

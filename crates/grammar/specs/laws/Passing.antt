@@ -6,7 +6,7 @@ use Prim.Native.Nat.{ℕ, _+_, _≤_, _<_}
 use mathlib.Core.Path.{_≡_, refl, sym, ap, _∙_, subst}
 use mathlib.Core.List.{List, [], _∷_, _++_, append-assoc}
 use mathlib.Core.Bool.{Bool, true, false, _&&_, _||_}
-use mathlib.Core.Option.{some}
+use mathlib.Core.Option.{Option, none, some}
 use native.Mathlib.Omega.{arith}
 use native.Mathlib.Decide.{decLt}
 use borrow.Author.Tests.{eqb-true, eq-eqb, ne-eqb}
@@ -15,10 +15,12 @@ use lib.ListN.{length, List·getD-eq-default}
 use Rattle.base.specs.Choice.{if_then_else_, option}
 use Rattle.lexer.specs.Tokens.{Token}
 use Rattle.lexer.specs.Kinds.{kEnd, kBoolean, kIf, kInt, kSystem, kWhile, kOpenBrace, isName}
-use Rattle.parser.specs.Stream.{noMore, kindAt, Level, operatorOf}
-use Rattle.parser.specs.Tree.{Operator}
-use Rattle.parser.specs.Parse.{Parsed, ok, bad, bind, expect, expectName}
-use Rattle.grammar.specs.laws.Recogniser.{Symbol, one, aName, anOperator, Move, shift, push, refuse, rule, Halt, stopped, RunsTo, shifts, pushes, refuses}
+use Rattle.parser.specs.Stream.{noMore, tokenAt, kindAt, Level, operatorOf}
+use Rattle.parser.specs.Tree.{Operator, Element, Element.int, Element.boolean, Element.class}
+use Rattle.parser.specs.Parse.{Parsed, ok, bad, bind, expect, expectName, elementType, beginsType}
+use Rattle.parser.specs.Grammar.{DerivesElement, an-int, a-boolean, a-class}
+use Rattle.grammar.specs.laws.Recogniser.{Symbol, one, aName, anElement, anOperator, Move, shift, push, refuse, rule, Halt, stopped}
+use Rattle.grammar.specs.laws.Recogniser.{RunsTo, shifts, pushes, refuses}
 
 -- a token that passes a test which none past the end passes is there
 pub seen : (ts : List Token) (i : ℕ) (test : ℕ → Bool) → test kEnd ≡ false → test (kindAt ts i) ≡ true → i < length ts
@@ -46,6 +48,35 @@ no-keyword k e = (kinds-apart isName k kOpenBrace e refl, kinds-apart isName k k
 pub no-basic-type : (k : ℕ) → isName k ≡ true → (eqb k kInt ≡ false) × (eqb k kBoolean ≡ false)
 unfolding isName
 no-basic-type k e = (kinds-apart isName k kInt e refl, kinds-apart isName k kBoolean e refl)
+
+-- an element type is found where the grammar derives one, and there alone
+pub element-found : {ts : List Token} {i : ℕ} {t : Element} → DerivesElement ts i t → elementType ts i ≡ some t
+unfolding elementType isName
+element-found (an-int e) = rw e
+element-found (a-boolean e) = rw e
+element-found {ts} (a-class {i = i} e) = let n = no-basic-type (kindAt ts i) e in rw (n .0, n .1, e)
+
+pub element-begins : {ts : List Token} {i : ℕ} {t : Element} → DerivesElement ts i t → beginsType (kindAt ts i) true ≡ true
+unfolding beginsType isName
+element-begins (an-int e) = rw e
+element-begins (a-boolean e) = rw e
+element-begins {ts} (a-class {i = i} e) = let n = no-basic-type (kindAt ts i) e in rw (n .0, n .1, e)
+
+data ElementHere (ts : List Token) (i : ℕ) : Option Element → Type 0 where
+  an-element : {t : Element} → DerivesElement ts i t → ElementHere ts i (some t)
+  no-element : beginsType (kindAt ts i) true ≡ false → ElementHere ts i none
+
+element-here : (ts : List Token) (i : ℕ) → ElementHere ts i (elementType ts i)
+unfolding elementType beginsType
+element-here ts i = go (eqb (kindAt ts i) kInt) (eqb (kindAt ts i) kBoolean) (isName (kindAt ts i)) refl refl refl
+  where
+    go : (a b c : Bool) → eqb (kindAt ts i) kInt ≡ a → eqb (kindAt ts i) kBoolean ≡ b → isName (kindAt ts i) ≡ c
+        → ElementHere ts i (if a then (λ _. some int) else λ _. if b then (λ _. some boolean) else λ _.
+        if c then (λ _. some (class (tokenAt ts i .text))) else λ _. none)
+    go true b c p q r = an-element (an-int (eqb-true (kindAt ts i) kInt p))
+    go false true c p q r = an-element (a-boolean (eqb-true (kindAt ts i) kBoolean q))
+    go false false true p q r = an-element (a-class r)
+    go false false false p q r = no-element (rw (p, q, r))
 
 abbrev pub isOperatorOf : Level → ℕ → Bool
 isOperatorOf L k = option (operatorOf L k) false λ o. true
@@ -149,7 +180,14 @@ module _ {ts : List Token} {A : Type 0} {Q : A → ℕ → Type 0} {ys : List Sy
       → Moves ts ys i Q (if eqb (kindAt ts i) q then m else n) (if eqb (kindAt ts i) q && c then r else s)
   tests-next q c i m n r s f g = tests-first (eqb (kindAt ts i) q) c i m n r s (λ e. f (eqb-true (kindAt ts i) q e)) g
 
-  -- the same where it makes the first test again
+  -- the parser asks whether either of two tests passes, and the machine leaves the second to its next symbol
+  pub tests-either : (b c : Bool) (i : ℕ) (m n : Unit {0} → Move) (r s : Unit {0} → Parsed A)
+      → (b ≡ true → Moves ts ys i Q (m tt) (r tt)) → (b ≡ false → Moves ts ys i Q (n tt) (if c then r else s))
+      → Moves ts ys i Q (if b then m else n) (if b || c then r else s)
+  tests-either true c i m n r s f g = f refl
+  tests-either false c i m n r s f g = g refl
+
+  -- `tests-next` where the parser makes the first test again
   pub tests-again : (q : ℕ) (c : Bool) (i : ℕ) (m n : Unit {0} → Move) (r s t : Unit {0} → Parsed A)
       → (kindAt ts i ≡ q → Moves ts ys i Q (m tt) (if c then r else s)) → (eqb (kindAt ts i) q ≡ false → Moves ts ys i Q (n tt) (t tt))
       → Moves ts ys i Q (if eqb (kindAt ts i) q then m else n) (if eqb (kindAt ts i) q && c then r else λ _. if eqb (kindAt ts i) q then s else t)
@@ -183,6 +221,17 @@ module _ {ts : List Token} {A : Type 0} {Q : A → ℕ → Type 0} {ys : List Sy
       go : (b : Bool) → isName (kindAt ts i) ≡ b → Passes ts (aName ∷ xs) ys i Q (if b then (λ _. r) else λ _. bad i)
       go true e = takes-name e (f e)
       go false e = passes-bad (λ S. refuses {x = aName} {i = i} (rw e))
+
+  -- an element type that the parser expects
+  pub expects-element : {xs : List Symbol} (i : ℕ) (r : Element → Parsed A)
+      → ((t : Element) → DerivesElement ts i t → Passes ts xs ys (i + 1) Q (r t))
+      → Passes ts (anElement ∷ xs) ys i Q (option (elementType ts i) (bad i) r)
+  unfolding rule
+  expects-element {xs} i r f = go (element-here ts i)
+    where
+      go : {o : Option Element} → ElementHere ts i o → Passes ts (anElement ∷ xs) ys i Q (option o (bad i) r)
+      go (an-element {t = t} d) = shifted (rw (element-begins d)) (f t d)
+      go (no-element n) = passes-bad (λ S. refuses {x = anElement} {i = i} (rw n))
 
 -- a form of one token
 pub single : {ts : List Token} {A : Type 0} {Q : A → ℕ → Type 0} {a : A} (q i : ℕ) → (kindAt ts i ≡ q → Q a (i + 1)) → kindAt ts i ≡ q → Moves ts [] i Q (push (one q ∷ [])) (ok a (i + 1))

@@ -8,25 +8,39 @@ use native.Mathlib.Omega.{arith}
 use lib.Dec.{eqb}
 use Rattle.base.specs.Choice.{if_then_else_, option}
 use Rattle.lexer.specs.Tokens.{Token}
-use Rattle.lexer.specs.Kinds.{kEnd, kOut, kPrintln, kLiteral, kBoolean, kClass, kElse, kExtends, kFalse, kIf, kInt, kLength, kMain, kNew, kPublic, kReturn, kStatic, kString, kSystem, kThis, kTrue, kVoid, kWhile}
-use Rattle.lexer.specs.Kinds.{kNot, kAssign, kDot, kComma, kSemicolon, kOpen, kClose, kOpenBracket, kCloseBracket, kOpenBrace, kCloseBrace, isName}
+use Rattle.lexer.specs.Kinds.{kEnd, kOut, kPrintln, kLiteral, kBoolean, kClass, kElse, kExtends, kFalse, kIf, kInt, kLength, kMain, kNew}
+use Rattle.lexer.specs.Kinds.{kPublic, kReturn, kStatic, kString, kSystem, kThis, kTrue, kVoid, kWhile}
+use Rattle.lexer.specs.Kinds.{kNot, kAssign, kDot, kComma, kSemicolon, kOpen, kClose, kOpenBracket, kCloseBracket, kOpenBrace, kCloseBrace}
+use Rattle.lexer.specs.Kinds.{isName}
 use Rattle.parser.specs.Stream.{kindAt, Level, Level.conjunction, Level.comparison, Level.sum, Level.product, operatorOf}
-use Rattle.parser.specs.Parse.{beginsStatement}
+use Rattle.parser.specs.Parse.{beginsType, beginsStatement}
 
--- `one k` is a token of kind k. The `after` symbols are what is left of a form after its first token; `suffixes b` has whether a `[` may
--- follow; `locals` are the locals of a body and its statements.
+-- `one k` is a token of kind k. The `after` symbols are what is left of a form after its first token, and `afterClass` after `new` and a
+-- class; `suffixes b` has whether a `[` may follow; `locals` are the locals of a body and its statements, `afterMark` what is left of them
+-- after a name and a `[`.
 pub data Symbol : Type 0 where
   one : ℕ → Symbol
-  aName : Symbol
+  aName anElement : Symbol
   anOperator operation operations : Level → Symbol
-  unary postfix afterNew primary : Symbol
+  unary postfix afterNew afterClass primary : Symbol
   suffixes : Bool → Symbol
   afterDot argumentList someArguments moreArguments : Symbol
   aStatement afterName statementList : Symbol
-  aType afterInt fields locals afterLocal formals someFormals moreFormals methods parent classes : Symbol
+  aType afterElement fields locals afterLocal afterMark formals someFormals moreFormals methods parent classes : Symbol
 
 abbrev pub expression : Symbol
 expression = operation conjunction
+
+-- what is left of `new T[e]` after T, and of `x[e]=e;` after its `[`
+abbrev pub arrayEnd : List Symbol
+arrayEnd = one kOpenBracket ∷ expression ∷ one kCloseBracket ∷ suffixes false ∷ []
+
+abbrev pub targetEnd : List Symbol
+targetEnd = expression ∷ one kCloseBracket ∷ one kAssign ∷ expression ∷ one kSemicolon ∷ []
+
+-- the tokens that are a type wherever they stand
+abbrev pub isBasic : ℕ → Bool
+isBasic k = eqb k kInt || eqb k kBoolean
 
 abbrev pub operandOf : Level → Symbol
 operandOf conjunction = operation comparison
@@ -43,14 +57,16 @@ pub data Move : Type 0 where
 unfoldable pub rule : Symbol → (kind : ℕ) → Move
 rule (one q) k = if eqb k q then (λ _. shift) else λ _. refuse
 rule aName k = if isName k then (λ _. shift) else λ _. refuse
+rule anElement k = if beginsType k true then (λ _. shift) else λ _. refuse
 rule (anOperator L) k = option (operatorOf L k) refuse λ o. shift
 rule (operation L) k = push (operandOf L ∷ operations L ∷ [])
 rule (operations L) k = option (operatorOf L k) (push []) λ o. push (anOperator L ∷ operandOf L ∷ operations L ∷ [])
 rule unary k = if eqb k kNot then (λ _. push (one kNot ∷ unary ∷ [])) else λ _. push (postfix ∷ [])
 rule postfix k = if eqb k kNew then (λ _. push (one kNew ∷ afterNew ∷ [])) else λ _. push (primary ∷ suffixes true ∷ [])
 rule afterNew k =
-    if eqb k kInt then (λ _. push (one kInt ∷ one kOpenBracket ∷ expression ∷ one kCloseBracket ∷ suffixes false ∷ [])) else λ _.
-    push (aName ∷ one kOpen ∷ one kClose ∷ suffixes true ∷ [])
+    if isBasic k then (λ _. push (anElement ∷ arrayEnd)) else λ _.
+    push (aName ∷ afterClass ∷ [])
+rule afterClass k = if eqb k kOpenBracket then (λ _. push arrayEnd) else λ _. push (one kOpen ∷ one kClose ∷ suffixes true ∷ [])
 rule primary k =
     if eqb k kLiteral then (λ _. push (one kLiteral ∷ [])) else λ _.
     if eqb k kTrue then (λ _. push (one kTrue ∷ [])) else λ _.
@@ -78,22 +94,25 @@ rule aStatement k =
     if isName k then (λ _. push (aName ∷ afterName ∷ [])) else λ _.
     refuse
 rule afterName k =
-    if eqb k kOpenBracket then (λ _. push (one kOpenBracket ∷ expression ∷ one kCloseBracket ∷ one kAssign ∷ expression ∷ one kSemicolon ∷ [])) else λ _.
+    if eqb k kOpenBracket then (λ _. push (one kOpenBracket ∷ targetEnd)) else λ _.
     push (one kAssign ∷ expression ∷ one kSemicolon ∷ [])
 rule statementList k = if beginsStatement k then (λ _. push (aStatement ∷ statementList ∷ [])) else λ _. push []
-rule aType k =
-    if eqb k kInt then (λ _. push (one kInt ∷ afterInt ∷ [])) else λ _.
-    if eqb k kBoolean then (λ _. push (one kBoolean ∷ [])) else λ _.
-    push (aName ∷ [])
-rule afterInt k = if eqb k kOpenBracket then (λ _. push (one kOpenBracket ∷ one kCloseBracket ∷ [])) else λ _. push []
+rule aType k = push (anElement ∷ afterElement ∷ [])
+rule afterElement k = if eqb k kOpenBracket then (λ _. push (one kOpenBracket ∷ one kCloseBracket ∷ [])) else λ _. push []
 rule fields k =
-    if eqb k kInt || eqb k kBoolean || isName k then (λ _. push (aType ∷ aName ∷ one kSemicolon ∷ fields ∷ [])) else λ _.
+    if beginsType k true then (λ _. push (aType ∷ aName ∷ one kSemicolon ∷ fields ∷ [])) else λ _.
     push []
 rule locals k =
-    if eqb k kInt || eqb k kBoolean then (λ _. push (aType ∷ aName ∷ one kSemicolon ∷ locals ∷ [])) else λ _.
+    if isBasic k then (λ _. push (aType ∷ aName ∷ one kSemicolon ∷ locals ∷ [])) else λ _.
     if isName k then (λ _. push (aName ∷ afterLocal ∷ [])) else λ _.
     push (statementList ∷ [])
-rule afterLocal k = if isName k then (λ _. push (aName ∷ one kSemicolon ∷ locals ∷ [])) else λ _. push (afterName ∷ statementList ∷ [])
+rule afterLocal k =
+    if isName k then (λ _. push (aName ∷ one kSemicolon ∷ locals ∷ [])) else λ _.
+    if eqb k kOpenBracket then (λ _. push (one kOpenBracket ∷ afterMark ∷ [])) else λ _.
+    push (afterName ∷ statementList ∷ [])
+rule afterMark k =
+    if eqb k kCloseBracket then (λ _. push (one kCloseBracket ∷ aName ∷ one kSemicolon ∷ locals ∷ [])) else λ _.
+    push (targetEnd ++ (statementList ∷ []))
 rule formals k = if eqb k kClose then (λ _. push (one kClose ∷ [])) else λ _. push (someFormals ∷ [])
 rule someFormals k = push (aType ∷ aName ∷ moreFormals ∷ [])
 rule moreFormals k = if eqb k kClose then (λ _. push (one kClose ∷ [])) else λ _. push (one kComma ∷ someFormals ∷ [])

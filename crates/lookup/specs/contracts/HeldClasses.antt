@@ -10,7 +10,7 @@ use lib.Dec.{ltb}
 use Rattle.base.specs.contracts.Table.{col}
 use Rattle.lexer.specs.Tokens.{Token}
 use Rattle.lexer.specs.contracts.Rows.{firstNamed, Rows}
-use Rattle.parser.specs.Tree.{Name, Ty, Ty.int, Ty.boolean, Ty.intArray, Ty.class, Variable, Method, Class}
+use Rattle.parser.specs.Tree.{Name, Element, Element.int, Element.boolean, Element.class, Ty, Ty.plain, Ty.arrayOf, Variable, Method, Class}
 use Rattle.parser.specs.Measure.{nodes}
 use Rattle.parser.specs.contracts.Layout.{absent, rowOf, rowVariables, rowMethods, rowParent, rowClasses, headOf}
 use Rattle.reader.specs.contracts.Holds.{Holds}
@@ -43,23 +43,34 @@ pub data MaybeNumber (ts : List Token) : Option (List ℕ) → ℕ → Type 0 wh
   no-name : {c : ℕ} → absent ≤ c → MaybeNumber ts none c
   a-name : {x : List ℕ} {c : ℕ} → NameNumber ts x c → MaybeNumber ts (some x) c
 
--- types by number: a class by its name's, the others above these
+-- element types by number: a class by its name's, the others above these
+abbrev pub elementCode : List Token → Element → ℕ
+elementCode ts int = 2048
+elementCode ts boolean = 2049
+elementCode ts (class c) = firstNamed ts c
+
+-- the mark for array, above all of these
+abbrev pub arrayMark : ℕ
+arrayMark = 4096
+
+-- types by number
 abbrev pub code : List Token → Ty → ℕ
-code ts int = 2048
-code ts boolean = 2049
-code ts intArray = 2050
-code ts (class c) = firstNamed ts c
+code ts (plain t) = elementCode ts t
+code ts (arrayOf t) = elementCode ts t + arrayMark
 
 -- no type
 abbrev pub noType : ℕ
-noType = 2051
+noType = 8192
 
--- the number of a type whose name the tokens have
+-- the number of an element type, and of a type, whose name the tokens have
+pub data ElementCodes (ts : List Token) : Element → ℕ → Type 0 where
+  code-int : {w : ℕ} → w ≡ 2048 → ElementCodes ts int w
+  code-boolean : {w : ℕ} → w ≡ 2049 → ElementCodes ts boolean w
+  code-class : {c : List ℕ} {w : ℕ} → NameNumber ts c w → ElementCodes ts (class c) w
+
 pub data Codes (ts : List Token) : Ty → ℕ → Type 0 where
-  code-int : {w : ℕ} → w ≡ 2048 → Codes ts int w
-  code-boolean : {w : ℕ} → w ≡ 2049 → Codes ts boolean w
-  code-intArray : {w : ℕ} → w ≡ 2050 → Codes ts intArray w
-  code-class : {c : List ℕ} {w : ℕ} → NameNumber ts c w → Codes ts (class c) w
+  code-plain : {t : Element} {w : ℕ} → ElementCodes ts t w → Codes ts (plain t) w
+  code-array : {t : Element} {v w : ℕ} → ElementCodes ts t v → w ≡ v + arrayMark → Codes ts (arrayOf t) w
 
 -- DECLARATIONS
 

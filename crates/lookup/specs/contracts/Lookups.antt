@@ -1,28 +1,36 @@
 -- What the look-ups ensure, whatever the tokens and the classes are that the table holds.
-use Prim.Native.Nat.{ℕ, _≤_, _<_}
+use Prim.Native.Nat.{ℕ, _+_, _-_, _≤_, _<_}
 use mathlib.Core.Path.{_≡_}
 use mathlib.Core.List.{List, [], _∷_}
 use mathlib.Core.Bool.{Bool, false, _||_}
 use mathlib.Core.Option.{Option, none, some}
 use lib.ListN.{length}
-use lib.Dec.{eqb}
+use lib.Dec.{eqb, ltb}
+use Rattle.base.specs.Choice.{if_then_else_}
 use Rattle.base.specs.contracts.Table.{col}
 use Rattle.lexer.specs.Tokens.{Token}
 use Rattle.lexer.specs.contracts.Rows.{firstNamed}
-use Rattle.parser.specs.Tree.{Ty, TypeUse, Variable, Method, Class}
+use Rattle.parser.specs.Tree.{Element, Ty, Variable, Method, Class}
 use Rattle.parser.specs.contracts.Layout.{absent, rowVariables, rowMethods}
-use Rattle.reader.specs.contracts.Matches.{TypeMatches}
-use Rattle.typesystem.specs.ClassTable.{Slot, Found, known, fits, variableNamed, methodNamed, nearestMethod, occurs}
-use Rattle.lookup.specs.contracts.HeldClasses.{Lexemes, NameNumber, MaybeNumber, noType, Codes, VariablesHeld, MethodsHeld, ClassHeld, ClassTableHeld, chainFrom, parentName}
+use Rattle.reader.specs.contracts.Matches.{ElementMatches, TypeMatches}
+use Rattle.typesystem.specs.ClassTable.{Slot, Found, underlying, known, fits, variableNamed, methodNamed, nearestMethod, occurs}
+use Rattle.lookup.specs.contracts.HeldClasses.{Lexemes, NameNumber, MaybeNumber, noType, arrayMark, ElementCodes, Codes, VariablesHeld, MethodsHeld, ClassHeld, ClassTableHeld, chainFrom, parentName}
 
 -- TYPES
 
+pub record ElementTypeOf (tab : List ℕ) (n row : ℕ) (r : ℕ) : Type 0 where
+  pub low : r ≤ noType
+  pub says : (ts : List Token) → Lexemes tab n ts → (t : Element) → ElementMatches ts row t → ElementCodes ts t r
+
 pub record TypeOf (tab : List ℕ) (n row : ℕ) (r : ℕ) : Type 0 where
-  pub low : r < 4294967296
-  pub says : (ts : List Token) → Lexemes tab n ts → (t : TypeUse) → t .row ≡ row → TypeMatches ts t (t .type) → Codes ts (t .type) r
+  pub low : r ≤ noType + arrayMark
+  pub says : (ts : List Token) → Lexemes tab n ts → (i : ℕ) → i ≡ row → (t : Ty) → TypeMatches ts i t → Codes ts t r
+
+pub record ElementOf (w r : ℕ) : Type 0 where
+  pub is : r ≡ (if ltb w arrayMark then (λ _. w) else λ _. w - arrayMark)
 
 pub record Knows (tab : List ℕ) (n w : ℕ) (r : Bool) : Type 0 where
-  pub says : (ts : List Token) (G : List Class) → ClassTableHeld tab n ts G → (t : Ty) → Codes ts t w → r ≡ known G t
+  pub says : (ts : List Token) (G : List Class) → ClassTableHeld tab n ts G → (t : Ty) → Codes ts t w → r ≡ known G (underlying t)
 
 pub record Fits (tab : List ℕ) (n classes v w : ℕ) (r : Bool) : Type 0 where
   pub says : (ts : List Token) (G : List Class) → ClassTableHeld tab n ts G → length G ≡ classes → (s t : Ty) → Codes ts s v → Codes ts t w → r ≡ fits G s t

@@ -6,10 +6,10 @@ use mathlib.Core.List.{List}
 use mathlib.Core.Bool.{Bool, true, false}
 use lib.Dec.{eqb}
 use Rattle.base.specs.Choice.{if_then_else_}
-use Rattle.lexer.specs.Kinds.{kLiteral, kTrue, kFalse, kThis, kNew, kInt, kDot, kLength, kNot}
+use Rattle.lexer.specs.Kinds.{kLiteral, kTrue, kFalse, kThis, kNew, kDot, kLength, kNot}
 use Rattle.lexer.specs.Kinds.{kOpenBracket, kOpenBrace, kIf, kWhile, kSystem}
 use Rattle.lexer.specs.Tokens.{Token}
-use Rattle.parser.specs.Tree.{Place, Name, Operator}
+use Rattle.parser.specs.Tree.{Place, Name, Operator, ElementUse, Ty.arrayOf}
 use Rattle.parser.specs.Tree.{Sort, Sort.expression, Sort.arguments, Sort.statement, Sort.statements, Part, Expression, Statement}
 use Rattle.parser.specs.Tree.{Part.literal, Part.truth, Part.variable, Part.this, Part.newArray, Part.newObject, Part.negation, Part.binary}
 use Rattle.parser.specs.Tree.{Part.element, Part.arrayLength, Part.call, Part.argument}
@@ -17,7 +17,7 @@ use Rattle.parser.specs.Tree.{Part.block, Part.conditional, Part.loop, Part.pri
 use Rattle.parser.specs.contracts.Layout.{rowOf}
 use Rattle.parser.specs.contracts.Post.{kindInTable, isAtom}
 use Rattle.reader.specs.contracts.Holds.{Holds}
-use Rattle.reader.specs.contracts.Matches.{Matches, operatorKind}
+use Rattle.reader.specs.contracts.Matches.{Matches, TypeMatches, operatorKind}
 use Rattle.lookup.specs.contracts.HeldClasses.{NameNumber, wordAt}
 
 -- a part lies in a row, and within a bound
@@ -46,16 +46,21 @@ formAtom k =
     if eqb k kThis then (λ _. aThis) else λ _.
     aVariable
 
-unfoldable pub formCompound : (k next : ℕ) → Form
-formCompound k next =
-    if eqb k kNew then (λ _. if eqb next kInt then (λ _. aNewArray) else λ _. aNewObject) else λ _.
+-- by the kinds of a node's own token and of the two after it
+unfoldable pub formCompound : (k next third : ℕ) → Form
+formCompound k next third =
+    if eqb k kNew then (λ _. if eqb third kOpenBracket then (λ _. aNewArray) else λ _. aNewObject) else λ _.
     if eqb k kDot then (λ _. if eqb next kLength then (λ _. aLength) else λ _. aCall) else λ _.
     if eqb k kNot then (λ _. aNegation) else λ _.
     if eqb k kOpenBracket then (λ _. anElement) else λ _.
     aBinary
 
-unfoldable pub formE : (k next : ℕ) → Form
-formE k next = if isAtom k then (λ _. formAtom k) else λ _. formCompound k next
+unfoldable pub formE : (k next third : ℕ) → Form
+formE k next third = if isAtom k then (λ _. formAtom k) else λ _. formCompound k next third
+
+-- of the expression in a row of a table of n tokens
+abbrev pub formAt : List ℕ → (n row : ℕ) → Form
+formAt tab n row = formE (kindInTable tab n row) (kindInTable tab n (row + 1)) (kindInTable tab n (row + 2))
 
 unfoldable pub formS : (k next : ℕ) → Form
 formS k next =
@@ -76,8 +81,9 @@ module _ (tab : List ℕ) (ts : List Token) (n row : ℕ) (Before Behind : Bound
     shows-variable : {p : Place} {x : List ℕ} → wordAt tab 3 row ≡ p .start → NameNumber ts x (wordAt tab 2 row)
         → Shows aVariable (variable p x)
     shows-this : {p : Place} → wordAt tab 3 row ≡ p .start → Shows aThis (this p)
-    shows-new-array : {p : Place} {e : Expression} → wordAt tab 3 row ≡ p .start → PartAt tab ts (wordAt tab 4 row) (Behind expression) e
-        → Shows aNewArray (newArray p e)
+    shows-new-array : {p : Place} {u : ElementUse} {e : Expression} → wordAt tab 3 row ≡ p .start
+        → TypeMatches ts (row + 1) (arrayOf (u .element)) → wordAt tab 1 (row + 1) ≡ u .start
+        → PartAt tab ts (wordAt tab 4 row) (Behind expression) e → Shows aNewArray (newArray p u e)
     shows-new-object : {p : Place} {c : Name} → wordAt tab 3 row ≡ p .start → NameNumber ts (c .text) (wordAt tab 2 (row + 1))
         → wordAt tab 1 (row + 1) ≡ c .start → Shows aNewObject (newObject p c)
     shows-negation : {p : Place} {e : Expression} → wordAt tab 3 row ≡ p .start → PartAt tab ts (wordAt tab 4 row) (Behind expression) e

@@ -1,6 +1,6 @@
 -- Laws on the class table in the work table: words of rows that are there, names and types by number, and the class to which the index
 -- leads.
-use Prim.Native.Nat.{ℕ, _≤_, _<_}
+use Prim.Native.Nat.{ℕ, _≤_, _<_, _+_}
 use native.Mathlib.Omega.{arith}
 use mathlib.Core.Path.{_≡_, refl, sym, ap, _∙_, subst}
 use mathlib.Core.List.{List, [], _∷_}
@@ -17,17 +17,17 @@ use Rattle.lexer.specs.Kinds.{isName}
 use Rattle.lexer.specs.Tokens.{Token}
 use Rattle.lexer.specs.contracts.Rows.{firstNamed}
 use Rattle.lexer.specs.laws.RowLaws.{first-named, first-least}
-use Rattle.parser.specs.Tree.{Ty, Ty.class, Class, Method}
+use Rattle.parser.specs.Tree.{Element, Element.int, Element.boolean, Element.class, Ty, Ty.plain, Ty.arrayOf, Class, Method}
 use Rattle.parser.specs.Stream.{tokenAt, noMore, kindAt, startAt}
 use Rattle.parser.specs.contracts.Post.{kindInTable}
-use Rattle.reader.specs.contracts.Matches.{NameIs}
+use Rattle.reader.specs.contracts.Matches.{NameIs, ElementMatches}
 use Rattle.reader.specs.laws.ReadingLaws.{tokens-in}
 use Rattle.typesystem.specs.ClassTable.{classNamed, sameType}
 use Rattle.base.specs.laws.Tests.{and-true, same-of, apart-same}
 use Rattle.typing.specs.laws.Tests.{sameType-of, apart-sameType}
 use Rattle.typing.specs.laws.Chains.{class-name, all-classes}
 use Rattle.parser.specs.contracts.Layout.{absent}
-use Rattle.lookup.specs.contracts.HeldClasses.{wordAt, Lexemes, NameNumber, MaybeNumber, no-name, a-name, code, noType, Codes, code-int, code-boolean, code-intArray, code-class, MethodHeld, MethodsHeld, no-methods, more-methods, ClassHeld, ClassesHeld, no-classes, more-classes, rowClass, ClassTableHeld, classOf}
+use Rattle.lookup.specs.contracts.HeldClasses.{wordAt, Lexemes, NameNumber, MaybeNumber, no-name, a-name, elementCode, code, arrayMark, noType, ElementCodes, code-int, code-boolean, code-class, Codes, code-plain, code-array, MethodHeld, MethodsHeld, no-methods, more-methods, ClassHeld, ClassesHeld, no-classes, more-classes, rowClass, ClassTableHeld, classOf}
 
 -- a list that stands in a row, and not past the last, has a member
 pub none-left : {A : Type 0} (first : List A → ℕ) → first [] ≡ absent → (xs : List A) {row left : ℕ} → first xs ≡ row → length xs ≤ left → row < absent → left ≡ 0 → ⊥
@@ -124,25 +124,40 @@ module _ {tab : List ℕ} {n : ℕ} {ts : List Token} {G : List Class} (w : Clas
 
 -- TYPES
 
+-- the token of an element type is there
+pub element-there : (ts : List Token) (i : ℕ) (t : Element) → ElementMatches ts i t → i < length ts
+unfolding ElementMatches
+element-there ts i int m = m .there
+element-there ts i boolean m = m .there
+element-there ts i (class c) m = m .there
+
+-- the number of an element type is below the mark for array
+pub element-below : {ts : List Token} {t : Element} {w : ℕ} → length ts ≤ 2048 → ElementCodes ts t w → w < 2050
+element-below few (code-int e) = omega arith
+element-below few (code-boolean e) = omega arith
+element-below few (code-class s) = omega (arith, s .there)
+
 -- two types have one number just where they are one
 module _ {tab : List ℕ} {n : ℕ} {ts : List Token} (lx : Lexemes tab n ts) where
+  few-tokens : length ts ≤ 2048
+  few-tokens = omega (arith, lx .count, lx .few)
+
+  equal-elements : {s t : Element} {v w : ℕ} → ElementCodes ts s v → ElementCodes ts t w → v ≡ w → s ≡ t
+  equal-elements (code-int p) (code-int q) e = refl
+  equal-elements (code-int p) (code-boolean q) e = absurd (omega arith)
+  equal-elements (code-int p) (code-class q) e = absurd (omega (arith, q .there, few-tokens))
+  equal-elements (code-boolean p) (code-int q) e = absurd (omega arith)
+  equal-elements (code-boolean p) (code-boolean q) e = refl
+  equal-elements (code-boolean p) (code-class q) e = absurd (omega (arith, q .there, few-tokens))
+  equal-elements (code-class p) (code-int q) e = absurd (omega (arith, p .there, few-tokens))
+  equal-elements (code-class p) (code-boolean q) e = absurd (omega (arith, p .there, few-tokens))
+  equal-elements (code-class p) (code-class q) e = ap class (one-name p q e)
+
   pub equal-codes : {s t : Ty} {v w : ℕ} → Codes ts s v → Codes ts t w → v ≡ w → s ≡ t
-  equal-codes (code-int p) (code-int q) e = refl
-  equal-codes (code-int p) (code-boolean q) e = absurd (omega arith)
-  equal-codes (code-int p) (code-intArray q) e = absurd (omega arith)
-  equal-codes (code-int p) (code-class q) e = absurd (omega (arith, q .there, lx .count, lx .few))
-  equal-codes (code-boolean p) (code-int q) e = absurd (omega arith)
-  equal-codes (code-boolean p) (code-boolean q) e = refl
-  equal-codes (code-boolean p) (code-intArray q) e = absurd (omega arith)
-  equal-codes (code-boolean p) (code-class q) e = absurd (omega (arith, q .there, lx .count, lx .few))
-  equal-codes (code-intArray p) (code-int q) e = absurd (omega arith)
-  equal-codes (code-intArray p) (code-boolean q) e = absurd (omega arith)
-  equal-codes (code-intArray p) (code-intArray q) e = refl
-  equal-codes (code-intArray p) (code-class q) e = absurd (omega (arith, q .there, lx .count, lx .few))
-  equal-codes (code-class p) (code-int q) e = absurd (omega (arith, p .there, lx .count, lx .few))
-  equal-codes (code-class p) (code-boolean q) e = absurd (omega (arith, p .there, lx .count, lx .few))
-  equal-codes (code-class p) (code-intArray q) e = absurd (omega (arith, p .there, lx .count, lx .few))
-  equal-codes (code-class p) (code-class q) e = ap class (one-name p q e)
+  equal-codes (code-plain c) (code-plain d) e = ap plain (equal-elements c d e)
+  equal-codes (code-plain c) (code-array d q) e = absurd (omega (arith, element-below few-tokens c))
+  equal-codes (code-array c p) (code-plain d) e = absurd (omega (arith, element-below few-tokens d))
+  equal-codes (code-array c p) (code-array d q) e = ap arrayOf (equal-elements c d (omega arith))
 
   pub same-codes : {s t : Ty} {v w : ℕ} → Codes ts s v → Codes ts t w → v ≡ w → sameType s t ≡ true
   same-codes c d e = sameType-of (equal-codes c d e)
@@ -151,18 +166,19 @@ module _ {tab : List ℕ} {n : ℕ} {ts : List Token} (lx : Lexemes tab n ts) wh
   one-code : {s t : Ty} {v w : ℕ} → Codes ts s v → Codes ts t w → s ≡ t → v ≡ w
   one-code {s} {t} {v} {w} c d e = number c ∙ ap (code ts) e ∙ sym (number d)
     where
+      element : {u : Element} {x : ℕ} → ElementCodes ts u x → x ≡ elementCode ts u
+      element (code-int q) = q
+      element (code-boolean q) = q
+      element (code-class q) = sym (q .first)
+
       number : {u : Ty} {x : ℕ} → Codes ts u x → x ≡ code ts u
-      number (code-int q) = q
-      number (code-boolean q) = q
-      number (code-intArray q) = q
-      number (code-class q) = sym (q .first)
+      number (code-plain c) = element c
+      number (code-array c q) = q ∙ ap (λ (i : ℕ). i + arrayMark) (element c)
 
   pub other-codes : {s t : Ty} {v w : ℕ} → Codes ts s v → Codes ts t w → (v ≡ w → ⊥) → sameType s t ≡ false
   other-codes {s} {t} c d n = apart-sameType s t λ e. n (one-code c d e)
 
 -- the number of a type is below that of none
 pub codes-below : {ts : List Token} {t : Ty} {w : ℕ} → length ts ≤ 2048 → Codes ts t w → w < noType
-codes-below few (code-int e) = omega arith
-codes-below few (code-boolean e) = omega arith
-codes-below few (code-intArray e) = omega arith
-codes-below few (code-class s) = omega (arith, s .there)
+codes-below few (code-plain c) = omega (arith, element-below few c)
+codes-below few (code-array c e) = omega (arith, element-below few c)

@@ -11,6 +11,7 @@ use Rattle.base.specs.laws.Lists.{get-getD}
 use Rattle.base.specs.contracts.Table.{col}
 use Rattle.lexer.specs.Kinds.{isName, kLiteral}
 use Rattle.lexer.specs.Tokens.{Token, decimal}
+use Rattle.parser.specs.Tree.{ElementUse, Ty.arrayOf}
 use Rattle.parser.specs.Tree.{Place, Name, Operator, Operator.and, Operator.less, Operator.plus, Operator.minus, Operator.times}
 use Rattle.parser.specs.Tree.{Sort, Sort.expression, Sort.arguments, Sort.statement, Sort.statements, Part, Expression, Statement, placeE}
 use Rattle.parser.specs.Tree.{Part.literal, Part.truth, Part.variable, Part.this, Part.newArray, Part.newObject, Part.negation, Part.binary}
@@ -21,11 +22,11 @@ use Rattle.parser.specs.contracts.Layout.{absent, rowOf}
 use Rattle.parser.specs.Stream.{noMore, tokenAt, kindAt}
 use Rattle.parser.specs.contracts.Post.{kindInTable, isAtom}
 use Rattle.reader.specs.contracts.Holds.{Holds}
-use Rattle.reader.specs.contracts.Matches.{TokenIs, NameIs, NameMatches, Matches, operatorKind}
+use Rattle.reader.specs.contracts.Matches.{TokenIs, NameIs, NameMatches, TypeMatches, Matches, operatorKind}
 use Rattle.lookup.specs.contracts.HeldClasses.{wordAt, Lexemes, NameNumber}
-use Rattle.lookup.specs.laws.HeldLaws.{word-in, name-kind, kinds, start-word, name-word, row-there}
-use Rattle.lookup.specs.contracts.Shows.{PartAt, Bound, Form, aVariable, aNewObject, aBinary, aCall}
-use Rattle.lookup.specs.contracts.Shows.{formAtom, formCompound, formE, formS}
+use Rattle.lookup.specs.laws.HeldLaws.{element-there, word-in, name-kind, kinds, start-word, name-word, row-there}
+use Rattle.lookup.specs.contracts.Shows.{PartAt, Bound, Form, aVariable, aBinary, aCall}
+use Rattle.lookup.specs.contracts.Shows.{formAtom, formCompound, formE, formAt, formS}
 use Rattle.lookup.specs.contracts.Shows.{Shows, shows-literal, shows-truth, shows-variable, shows-this, shows-new-array}
 use Rattle.lookup.specs.contracts.Shows.{shows-new-object, shows-negation, shows-binary, shows-element, shows-length, shows-call}
 use Rattle.lookup.specs.contracts.Shows.{ShowsS, shows-block, shows-conditional, shows-loop, shows-print, shows-assignment}
@@ -38,7 +39,7 @@ there ts (literal p n) m = m .0 .there
 there ts (truth p b) m = m .there
 there ts (variable p x) m = m .there
 there ts (this p) m = m .there
-there ts (newArray p e) m = m .0 .there
+there ts (newArray p u e) m = m .0 .there
 there ts (newObject p c) m = m .0 .there
 there ts (negation p e) m = m .0 .there
 there ts (binary p o l r) m = m .0 .there
@@ -62,6 +63,9 @@ module _ {tab : List ℕ} {n : ℕ} {ts : List Token} (lx : Lexemes tab n ts) {r
 
   kind-of : {k : ℕ} → kindAt ts r ≡ k → kindInTable tab n row ≡ k
   kind-of e = kinds lx row ∙ ap (kindAt ts) (sym at) ∙ e
+
+  kind-third : {k : ℕ} → kindAt ts (r + 2) ≡ k → kindInTable tab n (row + 2) ≡ k
+  kind-third e = kinds lx (row + 2) ∙ ap (λ (j : ℕ). kindAt ts (j + 2)) (sym at) ∙ e
 
   kind-after : {k : ℕ} → kindAt ts (r + 1) ≡ k → kindInTable tab n (row + 1) ≡ k
   kind-after e = kinds lx (row + 1) ∙ ap (λ (j : ℕ). kindAt ts (j + 1)) (sym at) ∙ e
@@ -93,27 +97,23 @@ module _ {tab : List ℕ} {n : ℕ} {ts : List Token} (lx : Lexemes tab n ts) {r
 
 -- FORMS BY KINDS
 
-form-name : (k next : ℕ) → isName k ≡ true → formE k next ≡ aVariable
+form-name : (k next third : ℕ) → isName k ≡ true → formE k next third ≡ aVariable
 unfolding formE formAtom isAtom
-form-name k next e =
+form-name k next third e =
     let low : k ≤ 3 = name-kind k e in
     rw (ne-eqb k 4 (λ q. omega arith), ne-eqb k 21 (λ q. omega arith), ne-eqb k 9 (λ q. omega arith), ne-eqb k 20 (λ q. omega arith), e)
 
-form-new : (k next : ℕ) → k ≡ 14 → next ≤ 3 → formE k next ≡ aNewObject
+form-dot : (k next third : ℕ) → k ≡ 31 → next ≤ 3 → formE k next third ≡ aCall
 unfolding formE formCompound isAtom isName
-form-new k next e o = ap (λ (j : ℕ). formE j next) e ∙ rw (ne-eqb next 11 (λ q. omega arith))
+form-dot k next third e o = ap (λ (j : ℕ). formE j next third) e ∙ rw (ne-eqb next 12 (λ q. omega arith))
 
-form-dot : (k next : ℕ) → k ≡ 31 → next ≤ 3 → formE k next ≡ aCall
+form-binary : (o : Operator) (next third : ℕ) → formE (operatorKind o) next third ≡ aBinary
 unfolding formE formCompound isAtom isName
-form-dot k next e o = ap (λ (j : ℕ). formE j next) e ∙ rw (ne-eqb next 12 (λ q. omega arith))
-
-form-binary : (o : Operator) (next : ℕ) → formE (operatorKind o) next ≡ aBinary
-unfolding formE formCompound isAtom isName
-form-binary and next = refl
-form-binary less next = refl
-form-binary plus next = refl
-form-binary minus next = refl
-form-binary times next = refl
+form-binary and next third = refl
+form-binary less next third = refl
+form-binary plus next third = refl
+form-binary minus next third = refl
+form-binary times next third = refl
 
 form-target : (k next : ℕ) {F : Form} → isName k ≡ true → formS 1 next ≡ F → formS k next ≡ F
 unfolding formS
@@ -125,7 +125,8 @@ form-target k next e f =
 
 -- what the bound of a whole gives for its parts
 pub record Bounds (row : ℕ) (Within Before Behind : Bound) : Type 0 where
-  pub of-new-array : {p : Place} {e : Expression} → p .row ≡ row → Within expression (newArray p e) → Behind expression e
+  pub of-new-array : {p : Place} {u : ElementUse} {e : Expression} → p .row ≡ row → Within expression (newArray p u e)
+      → Behind expression e
   pub of-negation : {p : Place} {e : Expression} → p .row ≡ row → Within expression (negation p e) → Behind expression e
   pub of-binary : {p : Place} {o : Operator} {l r : Expression} → p .row ≡ row → Within expression (binary p o l r)
       → Before expression l × Behind expression r
@@ -148,13 +149,24 @@ pub record BoundsS (row : ℕ) (Within Behind : Bound) : Type 0 where
 
 -- one kind tells the form, or two do
 module _ (tab : List ℕ) (n row : ℕ) where
-  by : (form : ℕ → ℕ → Form) {F : Form} (k : ℕ) → kindInTable tab n row ≡ k → ((next : ℕ) → form k next ≡ F)
-      → form (kindInTable tab n row) (kindInTable tab n (row + 1)) ≡ F
-  by form k e f = ap (λ (j : ℕ). form j (kindInTable tab n (row + 1))) e ∙ f _
+  by : {F : Form} (k : ℕ) → kindInTable tab n row ≡ k → ((next third : ℕ) → formE k next third ≡ F) → formAt tab n row ≡ F
+  by k e f = ap (λ (j : ℕ). formE j (kindInTable tab n (row + 1)) (kindInTable tab n (row + 2))) e ∙ f _ _
 
-  by-both : {F : Form} (k next : ℕ) → kindInTable tab n row ≡ k → kindInTable tab n (row + 1) ≡ next → formE k next ≡ F
-      → formE (kindInTable tab n row) (kindInTable tab n (row + 1)) ≡ F
-  by-both k next e o f = ap (λ (j : ℕ). formE j (kindInTable tab n (row + 1))) e ∙ ap (formE k) o ∙ f
+  by-next : {F : Form} (k next : ℕ) → kindInTable tab n row ≡ k → kindInTable tab n (row + 1) ≡ next
+      → ((third : ℕ) → formE k next third ≡ F) → formAt tab n row ≡ F
+  by-next k next e o f =
+      ap (λ (j : ℕ). formE j (kindInTable tab n (row + 1)) (kindInTable tab n (row + 2))) e
+      ∙ ap (λ (j : ℕ). formE k j (kindInTable tab n (row + 2))) o ∙ f _
+
+  by-third : {F : Form} (k third : ℕ) → kindInTable tab n row ≡ k → kindInTable tab n (row + 2) ≡ third
+      → ((next : ℕ) → formE k next third ≡ F) → formAt tab n row ≡ F
+  by-third k third e o f =
+      ap (λ (j : ℕ). formE j (kindInTable tab n (row + 1)) (kindInTable tab n (row + 2))) e
+      ∙ ap (formE k (kindInTable tab n (row + 1))) o ∙ f _
+
+  byS : {F : Form} (k : ℕ) → kindInTable tab n row ≡ k → ((next : ℕ) → formS k next ≡ F)
+      → formS (kindInTable tab n row) (kindInTable tab n (row + 1)) ≡ F
+  byS k e f = ap (λ (j : ℕ). formS j (kindInTable tab n (row + 1))) e ∙ f _
 
 module _ {tab : List ℕ} {n : ℕ} {ts : List Token} (lx : Lexemes tab n ts) (row : ℕ) (Within Before Behind : Bound)
     (b : Bounds row Within Before Behind) where
@@ -162,62 +174,65 @@ module _ {tab : List ℕ} {n : ℕ} {ts : List Token} (lx : Lexemes tab n ts) (r
   shows {F} {H} {e} f s = subst (λ (J : Form). Shows tab ts n row Before Behind J e) (sym f) s
 
   see : (e : Expression) → rowOf e ≡ row → Holds tab e → Matches ts e → Within expression e
-      → Shows tab ts n row Before Behind (formE (kindInTable tab n row) (kindInTable tab n (row + 1))) e
-  unfolding Holds Matches formE formAtom formCompound isAtom isName
+      → Shows tab ts n row Before Behind (formAt tab n row) e
+  unfolding Holds Matches TypeMatches formE formAtom formCompound isAtom isName
   see (literal p v) at h m w =
       let low = m .0 .there in
-      shows (by tab n row formE 4 (kind-of lx at low (m .0 .is)) (λ x. refl))
+      shows (by tab n row 4 (kind-of lx at low (m .0 .is)) (λ _ _. refl))
       (shows-literal (word lx at low 3 (h .start)) (value-of lx at low (m .0) (m .1)))
   see (truth p true) at h m w =
-      shows (by tab n row formE 21 (kind-of lx at (m .there) (m .is)) (λ x. refl)) (shows-truth (word lx at (m .there) 3 (h .start)))
+      shows (by tab n row 21 (kind-of lx at (m .there) (m .is)) (λ _ _. refl)) (shows-truth (word lx at (m .there) 3 (h .start)))
   see (truth p false) at h m w =
-      shows (by tab n row formE 9 (kind-of lx at (m .there) (m .is)) (λ x. refl)) (shows-truth (word lx at (m .there) 3 (h .start)))
+      shows (by tab n row 9 (kind-of lx at (m .there) (m .is)) (λ _ _. refl)) (shows-truth (word lx at (m .there) 3 (h .start)))
   see (variable p x) at h m w =
       let low = m .there in
-      shows (form-name (kindInTable tab n row) (kindInTable tab n (row + 1)) (ap isName (kind-of lx at low refl) ∙ m .named))
+      shows (form-name (kindInTable tab n row) (kindInTable tab n (row + 1)) (kindInTable tab n (row + 2)) (ap isName (kind-of lx at low refl) ∙ m .named))
       (shows-variable (word lx at low 3 (h .start)) (spelt lx at low m))
   see (this p) at h m w =
-      shows (by tab n row formE 20 (kind-of lx at (m .there) (m .is)) (λ x. refl)) (shows-this (word lx at (m .there) 3 (h .start)))
-  see (newArray p e) at h m w =
+      shows (by tab n row 20 (kind-of lx at (m .there) (m .is)) (λ _ _. refl)) (shows-this (word lx at (m .there) 3 (h .start)))
+  see (newArray p u e) at h m w =
       let low = m .0 .there in
-      shows (by-both tab n row 14 11 (kind-of lx at low (m .0 .is)) (kind-after lx at low (m .1 .is)) refl)
-      (shows-new-array (word lx at low 3 (h .0 .start)) (part lx at low 4 (h .0 .first) (h .1) (m .2) (b .of-new-array at w)))
+      let behind : u .row ≡ row + 1 = m .1 ∙ ap (λ (j : ℕ). j + 1) at in
+      let third : p .row + 2 ≡ u .row + 1 = omega (arith, m .1) in
+      shows (by-third tab n row 14 36 (kind-of lx at low (m .0 .is)) (kind-third lx at low (ap (kindAt ts) third ∙ m .2 .1 .is)) (λ _. refl))
+      (shows-new-array (word lx at low 3 (h .0 .start)) (subst (λ (j : ℕ). TypeMatches ts j (arrayOf (u .element))) behind (m .2))
+      (ap (wordAt tab 1) (sym behind) ∙ start-word lx (u .row) (element-there ts (u .row) (u .element) (m .2 .0)) ∙ m .3)
+      (part lx at low 4 (h .0 .first) (h .1) (m .4) (b .of-new-array at w)))
   see (newObject p c) at h m w =
       let low = m .0 .there in
-      shows (form-new (kindInTable tab n row) (kindInTable tab n (row + 1)) (kind-of lx at low (m .0 .is))
-      (after-kind lx at c (m .1) (m .2)))
+      shows (by-third tab n row 14 34 (kind-of lx at low (m .0 .is)) (kind-third lx at low (m .3 .is)) (λ _. refl))
       (shows-new-object (word lx at low 3 (h .start)) (after lx at c (m .1) (m .2)) (after-start lx at c (m .1) (m .2)))
   see (negation p e) at h m w =
       let low = m .0 .there in
-      shows (by tab n row formE 29 (kind-of lx at low (m .0 .is)) (λ x. refl))
+      shows (by tab n row 29 (kind-of lx at low (m .0 .is)) (λ _ _. refl))
       (shows-negation (word lx at low 3 (h .0 .start)) (part lx at low 4 (h .0 .first) (h .1) (m .1) (b .of-negation at w)))
   see (binary p o l r) at h m w =
       let low = m .0 .there in
       let k = kind-of lx at low (m .0 .is) in
       let v = b .of-binary at w in
-      shows (by tab n row formE (operatorKind o) k (form-binary o))
+      shows (by tab n row (operatorKind o) k (form-binary o))
       (shows-binary (word lx at low 3 (h .0 .start)) k (part lx at low 4 (h .0 .first) (h .1) (m .1) (v .0))
       (part lx at low 5 (h .0 .second) (h .2) (m .2) (v .1)))
   see (element p a i) at h m w =
       let low = m .0 .there in
       let v = b .of-element at w in
-      shows (by tab n row formE 36 (kind-of lx at low (m .0 .is)) (λ x. refl))
+      shows (by tab n row 36 (kind-of lx at low (m .0 .is)) (λ _ _. refl))
       (shows-element (word lx at low 3 (h .0 .start)) (part lx at low 4 (h .0 .first) (h .1) (m .1) (v .0))
       (part lx at low 5 (h .0 .second) (h .2) (m .2) (v .1)))
   see (arrayLength p e) at h m w =
       let low = m .0 .there in
-      shows (by-both tab n row 31 12 (kind-of lx at low (m .0 .is)) (kind-after lx at low (m .1 .is)) refl)
+      shows (by-next tab n row 31 12 (kind-of lx at low (m .0 .is)) (kind-after lx at low (m .1 .is)) (λ _. refl))
       (shows-length (word lx at low 3 (h .0 .start)) (part lx at low 4 (h .0 .first) (h .1) (m .2) (b .of-length at w)))
   see (call p e f es) at h m w =
       let low = m .0 .there in
       let v = b .of-call at w in
-      shows (form-dot (kindInTable tab n row) (kindInTable tab n (row + 1)) (kind-of lx at low (m .0 .is))
+      shows (form-dot (kindInTable tab n row) (kindInTable tab n (row + 1)) (kindInTable tab n (row + 2)) (kind-of lx at low (m .0 .is))
       (after-kind lx at f (m .1) (m .2)))
       (shows-call (word lx at low 3 (h .0 .start)) (after lx at f (m .1) (m .2)) (after-start lx at f (m .1) (m .2))
       (part lx at low 4 (h .0 .first) (h .1) (m .3) (v .0)) (part lx at low 5 (h .0 .second) (h .2) (m .4) (v .1)))
 
   -- the code has read the kinds, which tell the form F
-  pub shown : {F : Form} → formE (kindInTable tab n row) (kindInTable tab n (row + 1)) ≡ F → (e : Expression)
+  pub shown : {F : Form} → formAt tab n row ≡ F → (e : Expression)
       → PartAt tab ts row (Within expression) e
       → Shows tab ts n row Before Behind F e
   shown f e h = shows (sym f) (see e (h .at) (h .holds) (h .matches) (h .within))
@@ -239,23 +254,23 @@ module _ {tab : List ℕ} {n : ℕ} {ts : List Token} (lx : Lexemes tab n ts) (r
   unfolding Holds Matches formS
   seeS (block p ss) at h m w =
       let low = m .0 .there in
-      showsS (by tab n row formS 38 (kind-of lx at low (m .0 .is)) (λ x. refl))
+      showsS (byS tab n row 38 (kind-of lx at low (m .0 .is)) (λ x. refl))
       (shows-block (word lx at low 3 (h .0 .start)) (part lx at low 4 (h .0 .first) (h .1) (m .1) (b .of-block at w)))
   seeS (conditional p e s t) at h m w =
       let low = m .0 .there in
       let v = b .of-conditional at w in
-      showsS (by tab n row formS 10 (kind-of lx at low (m .0 .is)) (λ x. refl))
+      showsS (byS tab n row 10 (kind-of lx at low (m .0 .is)) (λ x. refl))
       (shows-conditional (word lx at low 3 (h .0 .start)) (part lx at low 4 (h .0 .first) (h .2) (m .1) (v .0))
       (part lx at low 5 (h .0 .second) (h .3) (m .2) (v .1)) (part lx at low 7 (h .1) (h .4) (m .3) (v .2)))
   seeS (loop p e s) at h m w =
       let low = m .0 .there in
       let v = b .of-loop at w in
-      showsS (by tab n row formS 23 (kind-of lx at low (m .0 .is)) (λ x. refl))
+      showsS (byS tab n row 23 (kind-of lx at low (m .0 .is)) (λ x. refl))
       (shows-loop (word lx at low 3 (h .0 .start)) (part lx at low 4 (h .0 .first) (h .1) (m .1) (v .0))
       (part lx at low 5 (h .0 .second) (h .2) (m .2) (v .1)))
   seeS (print p e) at h m w =
       let low = m .0 .there in
-      showsS (by tab n row formS 19 (kind-of lx at low (m .0 .is)) (λ x. refl))
+      showsS (byS tab n row 19 (kind-of lx at low (m .0 .is)) (λ x. refl))
       (shows-print (word lx at low 3 (h .0 .start)) (part lx at low 4 (h .0 .first) (h .1) (m .1) (b .of-print at w)))
   seeS (assign p x e) at h m w =
       let low = m .0 .there in
@@ -281,7 +296,7 @@ starts (shows-literal s n) = s
 starts (shows-truth s) = s
 starts (shows-variable s x) = s
 starts (shows-this s) = s
-starts (shows-new-array s x) = s
+starts (shows-new-array s t q x) = s
 starts (shows-new-object s x y) = s
 starts (shows-negation s x) = s
 starts (shows-binary s k x y) = s

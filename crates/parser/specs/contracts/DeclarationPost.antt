@@ -5,13 +5,14 @@ use mathlib.Core.List.{List}
 use mathlib.Core.Bool.{Bool, _||_, _&&_}
 use mathlib.Core.Option.{Option}
 use lib.Dec.{eqb}
-use Rattle.lexer.specs.Kinds.{isName, kInt, kBoolean, kOpenBrace}
+use Rattle.lexer.specs.Kinds.{isName, kOpenBracket, kCloseBracket, kOpenBrace}
 use Rattle.lexer.specs.Tokens.{Token}
 use Rattle.parser.specs.declared.answer.Answer.{Answer}
 use Rattle.parser.specs.declared.answer.Answer.the-variants.{At, Bad}
 use Rattle.parser.specs.Tree.{Name, Sort.statements, Part, TypeUse, Variable, Method, Class, Program}
 use Rattle.parser.specs.Stream.{nameAt}
-use Rattle.parser.specs.Parse.{Parsed, expect, typeFrom, variableFrom, variablesFrom, someParameters, parametersFrom, methodFrom}
+use Rattle.parser.specs.Parse.{Parsed, expect, beginsType, typeFrom, variableFrom, variablesFrom, someParameters, parametersFrom}
+use Rattle.parser.specs.Parse.{methodFrom}
 use Rattle.parser.specs.Parse.{methodsFrom, parentFrom, classFrom, classesFrom, programFrom, localsFrom, bodyFrom, returnedFrom}
 use Rattle.parser.specs.Parse.{membersFrom, classMethodsFrom}
 use Rattle.parser.specs.contracts.Layout.{given, rowOf, store, storeVariable, storeVariables, rowVariables, storeMethod, rowMethods}
@@ -111,10 +112,14 @@ abbrev pub EndsThere : Answer → Type 0
 EndsThere (At x j) = x + 1 ≡ j
 EndsThere (Bad k) = Unit {0}
 
+-- a name before token i is a type
+unfoldable pub followsType : List ℕ → (inClass : Bool) → (n i : ℕ) → Bool
+followsType tab inClass n i =
+    inClass || isName (kindInTable tab n i) || eqb (kindInTable tab n i) kOpenBracket && eqb (kindInTable tab n (i + 1)) kCloseBracket
+
 -- a variable begins here
 unfoldable pub startsVariable : List ℕ → (inClass : Bool) → (n i : ℕ) → Bool
-startsVariable tab inClass n i =
-    eqb (kindInTable tab n i) kInt || eqb (kindInTable tab n i) kBoolean || isName (kindInTable tab n i) && (inClass || isName (kindInTable tab n (i + 1)))
+startsVariable tab inClass n i = beginsType (kindInTable tab n i) (followsType tab inClass n (i + 1))
 
 -- `{` and fields or locals
 abbrev pub openedFrom : (inClass : Bool) (j : ℕ) → (fuel : ℕ) → List Token → Parsed (List Variable)

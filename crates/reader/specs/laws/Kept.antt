@@ -28,7 +28,7 @@ expression-there ts (literal p n) m = m .0 .there
 expression-there ts (truth p b) m = m .there
 expression-there ts (variable p x) m = m .there
 expression-there ts (this p) m = m .there
-expression-there ts (newArray p e) m = m .0 .there
+expression-there ts (newArray p u e) m = m .0 .there
 expression-there ts (newObject p c) m = m .0 .there
 expression-there ts (negation p e) m = m .0 .there
 expression-there ts (binary p o l r) m = m .0 .there
@@ -67,7 +67,7 @@ module _ {ts : List Token} {tab tab′ : List ℕ} (short : length ts ≤ rows) 
   tree-kept (truth p b) m h = row p (m .there) h
   tree-kept (variable p x) m h = row p (m .there) h
   tree-kept (this p) m h = row p (m .there) h
-  tree-kept (newArray p e) m h = (row p (m .0 .there) (h .0), tree-kept e (m .2) (h .1))
+  tree-kept (newArray p u e) m h = (row p (m .0 .there) (h .0), tree-kept e (m .4) (h .1))
   tree-kept (newObject p c) m h = row p (m .0 .there) h
   tree-kept (negation p e) m h = (row p (m .0 .there) (h .0), tree-kept e (m .1) (h .1))
   tree-kept (binary p o l r) m h = (row p (m .0 .there) (h .0), tree-kept l (m .1) (h .1), tree-kept r (m .2) (h .2))

@@ -11,17 +11,28 @@ use lib.Dec.{eqb}
 use Rattle.base.specs.Choice.{if_then_else_}
 use Rattle.lexer.specs.Kinds.{kEnd, kAnd, kLess, kPlus, kMinus, kTimes, kOpenBracket, isName}
 use Rattle.lexer.specs.Tokens.{Token}
-use Rattle.parser.specs.Tree.{Operator, Operator.and, Operator.less, Operator.plus, Operator.minus, Operator.times, Sort, Part, Variable, Method, Class, Program, Name}
+use Rattle.parser.specs.Tree.{Operator, Operator.and, Operator.less, Operator.plus, Operator.minus, Operator.times, Element, Sort, Part}
+use Rattle.parser.specs.Tree.{Variable, Method, Class, Program, Name}
 use Rattle.parser.specs.Stream.{tokenAt, kindAt, nameAt, Level, Level.conjunction, Level.comparison, Level.sum, Level.product, operatorOf}
-use Rattle.parser.specs.Grammar.{Kind, Derives, DerivesVariable, DerivesVariables, DerivesParameters, DerivesFormals, DerivesMethod, DerivesMethods, DerivesParent, DerivesClass, DerivesClasses, DerivesProgram}
-use Rattle.parser.specs.Grammar.{Derives.operate, Derives.one-operand, Derives.negate, Derives.no-negation, Derives.make-array, Derives.no-array, Derives.index, Derives.take-length, Derives.invoke, Derives.no-suffix}
-use Rattle.parser.specs.Grammar.{Derives.a-literal, Derives.a-true, Derives.a-false, Derives.a-name, Derives.a-this, Derives.make-object, Derives.parentheses, Derives.none-given, Derives.some-given, Derives.one-argument, Derives.more-arguments}
-use Rattle.parser.specs.Grammar.{Derives.a-block, Derives.an-if, Derives.a-while, Derives.a-print, Derives.an-assignment, Derives.an-element-assignment, Derives.no-statement, Derives.more-statements}
-use Rattle.parser.specs.Grammar.{DerivesType.int-array, DerivesType.an-int, DerivesType.a-boolean, DerivesType.a-class, DerivesVariable.a-variable, DerivesVariables.no-variable, DerivesVariables.more-variables}
-use Rattle.parser.specs.Grammar.{DerivesParameters.one-parameter, DerivesParameters.more-parameters, DerivesFormals.no-formal, DerivesFormals.some-formals, DerivesMethod.a-method, DerivesMethods.no-method, DerivesMethods.more-methods}
-use Rattle.parser.specs.Grammar.{DerivesParent.no-parent, DerivesParent.a-parent, DerivesClass.a-class-declaration, DerivesClasses.no-class, DerivesClasses.more-classes, DerivesProgram.a-program}
+use Rattle.parser.specs.Grammar.{Kind, Derives, DerivesVariable, DerivesVariables, DerivesParameters, DerivesFormals, DerivesMethod}
+use Rattle.parser.specs.Grammar.{DerivesMethods, DerivesParent, DerivesClass, DerivesClasses, DerivesProgram}
+use Rattle.parser.specs.Grammar.{Derives.operate, Derives.one-operand, Derives.negate, Derives.no-negation, Derives.make-array}
+use Rattle.parser.specs.Grammar.{Derives.no-array, Derives.index, Derives.take-length, Derives.invoke, Derives.no-suffix}
+use Rattle.parser.specs.Grammar.{Derives.a-literal, Derives.a-true, Derives.a-false, Derives.a-name, Derives.a-this, Derives.make-object}
+use Rattle.parser.specs.Grammar.{Derives.parentheses, Derives.none-given, Derives.some-given, Derives.one-argument, Derives.more-arguments}
+use Rattle.parser.specs.Grammar.{Derives.a-block, Derives.an-if, Derives.a-while, Derives.a-print, Derives.an-assignment}
+use Rattle.parser.specs.Grammar.{Derives.an-element-assignment, Derives.no-statement, Derives.more-statements}
+use Rattle.parser.specs.Grammar.{DerivesElement, DerivesElement.an-int, DerivesElement.a-boolean, DerivesElement.a-class}
+use Rattle.parser.specs.Grammar.{DerivesType.an-array, DerivesType.no-mark, DerivesVariable.a-variable, DerivesVariables.no-variable}
+use Rattle.parser.specs.Grammar.{DerivesVariables.more-variables}
+use Rattle.parser.specs.Grammar.{DerivesParameters.one-parameter, DerivesParameters.more-parameters, DerivesFormals.no-formal}
+use Rattle.parser.specs.Grammar.{DerivesFormals.some-formals, DerivesMethod.a-method, DerivesMethods.no-method, DerivesMethods.more-methods}
+use Rattle.parser.specs.Grammar.{DerivesParent.no-parent, DerivesParent.a-parent, DerivesClass.a-class-declaration, DerivesClasses.no-class}
+use Rattle.parser.specs.Grammar.{DerivesClasses.more-classes, DerivesProgram.a-program}
 use Rattle.grammar.specs.laws.Passing.{seen, seen-kind, kinds-apart}
-use Rattle.reader.specs.contracts.Matches.{TokenIs, NameIs, NameMatches, operatorKind, Matches, TypeMatches, VariableMatches, VariablesMatch, MethodMatches, MethodsMatch, ParentMatches, ClassMatches, ClassesMatch, ProgramMatches}
+use Rattle.reader.specs.contracts.Matches.{TokenIs, NameIs, NameMatches, operatorKind, ElementMatches, TypeMatches, Matches}
+use Rattle.reader.specs.contracts.Matches.{VariableMatches, VariablesMatch, MethodMatches, MethodsMatch, ParentMatches, ClassMatches}
+use Rattle.reader.specs.contracts.Matches.{ClassesMatch, ProgramMatches}
 
 -- the kind of an operator's token
 picked : (k q : ℕ) (a o : Operator) (r : Option Operator) → q ≡ operatorKind a → (r ≡ some o → k ≡ operatorKind o)
@@ -61,13 +72,21 @@ module _ {ts : List Token} where
   name : (i : ℕ) → isName (kindAt ts i) ≡ true → NameMatches ts (nameAt ts i)
   name i e = record { token = named i e; start = refl }
 
+  element-matches : {i : ℕ} {t : Element} → DerivesElement ts i t → ElementMatches ts i t
+  unfolding ElementMatches
+  element-matches (an-int e) = token refl e
+  element-matches (a-boolean e) = token refl e
+  element-matches (a-class {i} n) = named i n
+
   pub tree-matches : {s : Sort} {k : Kind s} {i j : ℕ} {t : Part s} → Derives ts s k i j t → Matches ts t
-  unfolding Matches
+  unfolding Matches TypeMatches
   tree-matches (operate {L} {m = m} {o = o} d e d′) = (token (no-end o) (operator-kind L (kindAt ts m) e), tree-matches d, tree-matches d′)
   tree-matches (one-operand d) = tree-matches d
   tree-matches (negate e d) = (token refl e, tree-matches d)
   tree-matches (no-negation d) = tree-matches d
-  tree-matches (make-array e f _ d _) = (token refl e, token refl f, tree-matches d)
+  tree-matches (make-array {i = i} e t f d _) =
+      let next : i + 1 + 1 ≡ i + 2 = omega arith in
+      (token refl e, refl, (element-matches t, rw next (token refl f)), refl, tree-matches d)
   tree-matches (no-array d) = tree-matches d
   tree-matches (index d e d′ _) = (token refl e, tree-matches d, tree-matches d′)
   tree-matches (take-length d e f) = (token refl e, token refl f, tree-matches d)
@@ -78,7 +97,7 @@ module _ {ts : List Token} where
   tree-matches (a-false e) = token refl e
   tree-matches (a-name {i = i} n) = named i n
   tree-matches (a-this e) = token refl e
-  tree-matches (make-object {i = i} e n _ _) = (token refl e, refl, name (i + 1) n)
+  tree-matches (make-object {i = i} e n o _) = (token refl e, refl, name (i + 1) n, token refl o)
   tree-matches (parentheses _ d _) = tree-matches d
   tree-matches none-given = tt
   tree-matches (some-given d) = tree-matches d
@@ -93,15 +112,18 @@ module _ {ts : List Token} where
   tree-matches no-statement = tt
   tree-matches (more-statements d d′) = (tree-matches d, tree-matches d′)
 
-  -- DECLARATIONS. After a type comes a name, so `int` is not followed by `[`.
+  -- DECLARATIONS. After a type comes a name, so that a type with no mark is not followed by `[`.
 
   variable-matches : {i j : ℕ} {v : Variable} → DerivesVariable ts i j v → VariableMatches ts v
   unfolding TypeMatches isName
-  variable-matches (a-variable (int-array {i} e f _) n) = record { type = (token refl e, token refl f); start = refl; name = name (i + 3) n }
-  variable-matches (a-variable (an-int {i} e) n) =
-      record { type = (token refl e, λ z. eqb-false _ _ (kinds-apart isName (kindAt ts (i + 1)) kOpenBracket n refl) z); start = refl; name = name (i + 1) n }
-  variable-matches (a-variable (a-boolean {i} e) n) = record { type = token refl e; start = refl; name = name (i + 1) n }
-  variable-matches (a-variable (a-class {i} e) n) = record { type = named i e; start = refl; name = name (i + 1) n }
+  variable-matches (a-variable (an-array {i} t f _) n) =
+      record { type = (element-matches t, token refl f); start = refl; name = name (i + 3) n }
+  variable-matches (a-variable (no-mark {i} t) n) =
+      record {
+        type = (element-matches t, λ z. eqb-false _ _ (kinds-apart isName (kindAt ts (i + 1)) kOpenBracket n refl) z);
+        start = refl;
+        name = name (i + 1) n;
+      }
 
   variables-match : {i j : ℕ} {vs : List Variable} → DerivesVariables ts i j vs → VariablesMatch ts vs
   unfolding VariablesMatch

@@ -11,12 +11,18 @@ use lib.ListN.{length, List·getD-eq-default}
 use lib.Dec.{lit<}
 use Rattle.lexer.specs.Kinds.{isName}
 use Rattle.lexer.specs.Tokens.{Token}
-use Rattle.parser.specs.Tree.{Name, Operator, TypeUse, Sort, Sort.expression, Sort.arguments, Sort.statement, Sort.statements, Part, Variable, Method, Class, Program}
+use Rattle.parser.specs.Tree.{Name, Operator, TypeUse, Sort, Sort.expression, Sort.arguments, Sort.statement, Sort.statements, Part}
+use Rattle.parser.specs.Tree.{Variable, Method, Class, Program}
 use Rattle.parser.specs.Stream.{kindAt, startAt, noMore, Level, Level.conjunction, Level.comparison, Level.sum, Level.product, operatorOf}
 use Rattle.parser.specs.contracts.Layout.{rowOf, rowMethods, rowClasses}
-use Rattle.parser.specs.Grammar.{Kind, Derives, operate, one-operand, negate, no-negation, make-array, no-array, index, take-length, invoke, no-suffix, a-literal, a-true, a-false, a-name, a-this, make-object, parentheses, none-given, some-given, one-argument, more-arguments, a-block, an-if, a-while, a-print, an-assignment, an-element-assignment, no-statement, more-statements}
-use Rattle.parser.specs.Grammar.{DerivesType, int-array, an-int, a-boolean, a-class, DerivesVariable, a-variable, DerivesVariables, no-variable, more-variables, DerivesParameters, one-parameter, more-parameters, DerivesFormals, no-formal, some-formals}
-use Rattle.parser.specs.Grammar.{DerivesMethod, a-method, DerivesMethods, no-method, more-methods, DerivesParent, no-parent, a-parent, DerivesClass, a-class-declaration, DerivesClasses, no-class, more-classes, DerivesProgram, a-program}
+use Rattle.parser.specs.Grammar.{Kind, Derives, operate, one-operand, negate, no-negation, make-array, no-array, index, take-length, invoke}
+use Rattle.parser.specs.Grammar.{no-suffix, a-literal, a-true, a-false, a-name, a-this, make-object, parentheses, none-given, some-given}
+use Rattle.parser.specs.Grammar.{one-argument, more-arguments, a-block, an-if, a-while, a-print, an-assignment, an-element-assignment}
+use Rattle.parser.specs.Grammar.{no-statement, more-statements}
+use Rattle.parser.specs.Grammar.{DerivesType, an-array, no-mark, DerivesVariable, a-variable, DerivesVariables, no-variable, more-variables}
+use Rattle.parser.specs.Grammar.{DerivesParameters, one-parameter, more-parameters, DerivesFormals, no-formal, some-formals}
+use Rattle.parser.specs.Grammar.{DerivesMethod, a-method, DerivesMethods, no-method, more-methods, DerivesParent, no-parent, a-parent}
+use Rattle.parser.specs.Grammar.{DerivesClass, a-class-declaration, DerivesClasses, no-class, more-classes, DerivesProgram, a-program}
 use Rattle.reader.specs.contracts.FilledTable.{few-nodes}
 use Rattle.reader.specs.contracts.WalkPost.{Ordered, MethodsOrdered, ClassesOrdered, ProgramOrdered}
 
@@ -213,10 +219,8 @@ module _ (ts : List Token) (few : length ts ≤ 2048) (rising : TokensRise ts) w
 
   -- DECLARATIONS
   type-forward : {i j : ℕ} {t : TypeUse} → DerivesType ts i j t → i < j
-  type-forward (int-array e₁ e₂ e₃) = omega arith
-  type-forward (an-int e) = omega arith
-  type-forward (a-boolean e) = omega arith
-  type-forward (a-class e) = omega arith
+  type-forward (an-array d e₁ e₂) = omega arith
+  type-forward (no-mark d) = omega arith
 
   -- a variable ends with its name
   variable-range : {i j : ℕ} {v : Variable} → DerivesVariable ts i j v → (i < v .name .row) × (v .name .row + 1 ≡ j)

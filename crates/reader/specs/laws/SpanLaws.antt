@@ -26,7 +26,7 @@ inside (literal p n) h = h
 inside (truth p b) h = h
 inside (variable p x) h = h
 inside (this p) h = h
-inside (newArray p e) h = h .0
+inside (newArray p u e) h = h .0
 inside (newObject p c) h = h
 inside (negation p e) h = h .0
 inside (binary p o l r) h = h .0
@@ -53,7 +53,7 @@ wider (literal p n) i j i′ j′ a b h = among a b h
 wider (truth p v) i j i′ j′ a b h = among a b h
 wider (variable p x) i j i′ j′ a b h = among a b h
 wider (this p) i j i′ j′ a b h = among a b h
-wider (newArray p e) i j i′ j′ a b h =
+wider (newArray p u e) i j i′ j′ a b h =
     (among a b (h .0), wider e (p .row + 1) j (p .row + 1) j′ (omega arith) b (h .1))
 wider (newObject p c) i j i′ j′ a b h = among a b h
 wider (negation p e) i j i′ j′ a b h =

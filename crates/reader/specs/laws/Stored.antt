@@ -8,19 +8,30 @@ use native.Mathlib.Omega.{arith}
 use lib.ListN.{length}
 use Rattle.base.specs.contracts.Table.{col}
 use Rattle.lexer.specs.Tokens.{Token}
-use Rattle.parser.specs.Tree.{Place, Name, Sort, Sort.expression, Sort.arguments, Sort.statement, Sort.statements, Part, TypeUse, Variable, Method, Class, Program}
+use Rattle.parser.specs.Tree.{Place, Name, Sort, Sort.expression, Sort.arguments, Sort.statement, Sort.statements, Part, TypeUse, Variable}
+use Rattle.parser.specs.Tree.{Method, Class, Program}
 use Rattle.parser.specs.Stream.{placeAt}
-use Rattle.parser.specs.Grammar.{Kind, Derives, DerivesType, DerivesVariable, DerivesVariables, DerivesParameters, DerivesFormals, DerivesMethod, DerivesMethods, DerivesParent, DerivesClass, DerivesClasses, DerivesProgram}
-use Rattle.parser.specs.Grammar.{Derives.operate, Derives.one-operand, Derives.negate, Derives.no-negation, Derives.make-array, Derives.no-array, Derives.index, Derives.take-length, Derives.invoke, Derives.no-suffix}
-use Rattle.parser.specs.Grammar.{Derives.a-literal, Derives.a-true, Derives.a-false, Derives.a-name, Derives.a-this, Derives.make-object, Derives.parentheses, Derives.none-given, Derives.some-given, Derives.one-argument, Derives.more-arguments}
-use Rattle.parser.specs.Grammar.{Derives.a-block, Derives.an-if, Derives.a-while, Derives.a-print, Derives.an-assignment, Derives.an-element-assignment, Derives.no-statement, Derives.more-statements}
-use Rattle.parser.specs.Grammar.{DerivesType.int-array, DerivesType.an-int, DerivesType.a-boolean, DerivesType.a-class, DerivesVariable.a-variable, DerivesVariables.no-variable, DerivesVariables.more-variables}
-use Rattle.parser.specs.Grammar.{DerivesParameters.one-parameter, DerivesParameters.more-parameters, DerivesFormals.no-formal, DerivesFormals.some-formals, DerivesMethod.a-method, DerivesMethods.no-method, DerivesMethods.more-methods}
-use Rattle.parser.specs.Grammar.{DerivesParent.no-parent, DerivesParent.a-parent, DerivesClass.a-class-declaration, DerivesClasses.no-class, DerivesClasses.more-classes, DerivesProgram.a-program}
-use Rattle.parser.specs.contracts.Layout.{absent, rowOf, node, store, storeVariable, storeVariables, methodRow, storeMethod, storeMethods, rowParent, classRow, storeClass, storeClasses, storeProgram}
-use Rattle.reader.specs.contracts.Holds.{NodeRow, Holds, HoldsVariables, HoldsMethod, HoldsMethods, HoldsClass, HoldsClasses, HoldsProgram}
+use Rattle.parser.specs.Grammar.{Kind, Derives, DerivesType, DerivesVariable, DerivesVariables, DerivesParameters, DerivesFormals}
+use Rattle.parser.specs.Grammar.{DerivesMethod, DerivesMethods, DerivesParent, DerivesClass, DerivesClasses, DerivesProgram}
+use Rattle.parser.specs.Grammar.{Derives.operate, Derives.one-operand, Derives.negate, Derives.no-negation, Derives.make-array}
+use Rattle.parser.specs.Grammar.{Derives.no-array, Derives.index, Derives.take-length, Derives.invoke, Derives.no-suffix}
+use Rattle.parser.specs.Grammar.{Derives.a-literal, Derives.a-true, Derives.a-false, Derives.a-name, Derives.a-this, Derives.make-object}
+use Rattle.parser.specs.Grammar.{Derives.parentheses, Derives.none-given, Derives.some-given, Derives.one-argument, Derives.more-arguments}
+use Rattle.parser.specs.Grammar.{Derives.a-block, Derives.an-if, Derives.a-while, Derives.a-print, Derives.an-assignment}
+use Rattle.parser.specs.Grammar.{Derives.an-element-assignment, Derives.no-statement, Derives.more-statements}
+use Rattle.parser.specs.Grammar.{DerivesType.an-array, DerivesType.no-mark, DerivesVariable.a-variable, DerivesVariables.no-variable}
+use Rattle.parser.specs.Grammar.{DerivesVariables.more-variables}
+use Rattle.parser.specs.Grammar.{DerivesParameters.one-parameter, DerivesParameters.more-parameters, DerivesFormals.no-formal}
+use Rattle.parser.specs.Grammar.{DerivesFormals.some-formals, DerivesMethod.a-method, DerivesMethods.no-method, DerivesMethods.more-methods}
+use Rattle.parser.specs.Grammar.{DerivesParent.no-parent, DerivesParent.a-parent, DerivesClass.a-class-declaration, DerivesClasses.no-class}
+use Rattle.parser.specs.Grammar.{DerivesClasses.more-classes, DerivesProgram.a-program}
+use Rattle.parser.specs.contracts.Layout.{absent, rowOf, node, store, storeVariable, storeVariables, methodRow, storeMethod, storeMethods}
+use Rattle.parser.specs.contracts.Layout.{rowParent, classRow, storeClass, storeClasses, storeProgram}
+use Rattle.reader.specs.contracts.Holds.{NodeRow, Holds, HoldsVariables, HoldsMethod, HoldsMethods, HoldsClass, HoldsClasses}
+use Rattle.reader.specs.contracts.Holds.{HoldsProgram}
 use Rattle.reader.specs.laws.Matching.{after-name}
-use Rattle.reader.specs.laws.Framing.{Inside, Region, nowhere, wholeRow, nextOf, without, Lies, Beside, Own, writes-nothing, reshape, join, another, link}
+use Rattle.reader.specs.laws.Framing.{Inside, Region, nowhere, wholeRow, nextOf, without, Lies, Beside, Own, writes-nothing, reshape}
+use Rattle.reader.specs.laws.Framing.{join, another, link}
 
 -- a node's row, written after its parts, none of which has a word in it; E is what of it is still not read
 with-row : (p : Place) (left right : ℕ) {i j : ℕ} {f : List ℕ → List ℕ} {H : List ℕ → Type 0} (E : Region) → Lies i j (wholeRow (p .row)) f H → (i ≤ p .row) × (p .row < j)
@@ -111,10 +122,8 @@ module _ {ts : List Token} where
   -- DECLARATIONS: a variable, a method and a class have the row of their name
 
   type-order : {i j : ℕ} {t : TypeUse} → DerivesType ts i j t → i ≤ j
-  type-order (int-array _ _ _) = omega arith
-  type-order (an-int _) = omega arith
-  type-order (a-boolean _) = omega arith
-  type-order (a-class _) = omega arith
+  type-order (an-array _ _ _) = omega arith
+  type-order (no-mark _) = omega arith
 
   pub variable-lies : {i j : ℕ} {v : Variable} → DerivesVariable ts i j v
       → Own i j (v .name .row) (λ tab. storeVariable v tab) (λ tab. col tab 3 (v .name .row) ≡ v .type .row)

@@ -10,11 +10,11 @@ use lib.ListN.{length, getElem?, length-set}
 use lib.Dec.{ltb}
 use Rattle.base.specs.Choice.{if_then_else_}
 use Rattle.base.specs.Codes.{nullReference, indexOutOfRange}
-use Rattle.parser.specs.Tree.{Place, Class}
+use Rattle.parser.specs.Tree.{Element, Place, Class}
 use Rattle.typesystem.specs.ClassTable.{Context, Meaning, Meaning.ofRow, Meaning.ofObject, meaning, meaningType}
 use Rattle.typing.specs.laws.Choices.{by-test}
 use Rattle.semantics.specs.Machine.{Value, Value.number, Value.flag, Value.null, Value.arrayAt, Value.objectAt, Cell, Cell.object, Cell.array, Cell.slot, Call, Call.frame, Core, Request, Request.fault, Request.stuck}
-use Rattle.semantics.specs.Machine.{need, require, pop, popMany, asNumber, asFlag, asArray, asObject, asSlot, asObjectCell, asArrayCell, innermost, cellAt, inArray, readMeaning, readName, ofKind, writeMeaning, writeName}
+use Rattle.semantics.specs.Machine.{need, require, pop, popMany, asNumber, asFlag, asArray, asObject, asSlot, asObjectCell, asArrayCell, innermost, cellAt, arrayCell, inBounds, readMeaning, readName, ofKind, writeMeaning, writeName}
 use Rattle.semantics.specs.Limits.{Meters, Ending, Progress, next, stop, Report, sizeOf, report, after}
 
 pub record Closed (Q : Request Core → Type 0) : Type 0 where
@@ -68,17 +68,17 @@ module _ {Q : Request Core → Type 0} (q : Closed Q) where
 
   pub slot-by : (x : Cell) (k : Value → Request Core) → ((v : Value) → Q (k v)) → Q (asSlot x k)
   slot-by (object c) k f = q .at-stuck
-  slot-by (array n) k f = q .at-stuck
+  slot-by (array t n) k f = q .at-stuck
   slot-by (slot v) k f = f v
 
   pub object-cell-by : (x : Cell) (k : List ℕ → Request Core) → ((c : List ℕ) → Q (k c)) → Q (asObjectCell x k)
   object-cell-by (object c) k f = f c
-  object-cell-by (array n) k f = q .at-stuck
+  object-cell-by (array t n) k f = q .at-stuck
   object-cell-by (slot v) k f = q .at-stuck
 
-  pub array-cell-by : (x : Cell) (k : ℕ → Request Core) → ((n : ℕ) → Q (k n)) → Q (asArrayCell x k)
+  array-cell-by : (x : Cell) (k : Element → ℕ → Request Core) → ((t : Element) (n : ℕ) → Q (k t n)) → Q (asArrayCell x k)
   array-cell-by (object c) k f = q .at-stuck
-  array-cell-by (array n) k f = f n
+  array-cell-by (array t n) k f = f t n
   array-cell-by (slot v) k f = q .at-stuck
 
   pub choice-by : (b : Bool) (x y : Unit {0} → Request Core) → Q (x tt) → Q (y tt) → Q (if b then x else y)
@@ -92,9 +92,11 @@ module _ {Q : Request Core → Type 0} (q : Closed Q) where
   pub cell-by : (h : List Cell) (a n : ℕ) (k : Value → Request Core) → ((v : Value) → Q (k v)) → Q (cellAt h a n k)
   cell-by h a n k f = need-by (getElem? h (a + 1 + n)) _ (λ x _. slot-by x k f)
 
-  pub in-array-by : (p : Place) (h : List Cell) (a i : ℕ) (r : Request Core) → Q r → Q (inArray p h a i r)
-  in-array-by p h a i r f =
-      need-by (getElem? h a) _ (λ x _. array-cell-by x _ (λ n. choice-by (ltb i n) _ _ f (q .at-fault indexOutOfRange (p .start))))
+  pub array-at-by : (h : List Cell) (a : ℕ) (k : Element → ℕ → Request Core) → ((t : Element) (n : ℕ) → Q (k t n)) → Q (arrayCell h a k)
+  array-at-by h a k f = need-by (getElem? h a) _ (λ x _. array-cell-by x k f)
+
+  pub in-bounds-by : (p : Place) (i n : ℕ) (r : Request Core) → Q r → Q (inBounds p i n r)
+  in-bounds-by p i n r f = choice-by (ltb i n) _ _ f (q .at-fault indexOutOfRange (p .start))
 
   read-meaning-by : (a : ℕ) (xs : List Value) (h : List Cell) (m : Meaning) (k : Value → Request Core) → ((v : Value) → Q (k v)) → Q (readMeaning a xs h m k)
   read-meaning-by a xs h (ofRow s) k f = need-by (getElem? xs (s .place)) k (λ v _. f v)

@@ -6,7 +6,7 @@ use mathlib.Core.List.{List, [], _∷_}
 use lib.ListN.{length, getElem?}
 use lib.Dec.{ltb, leb}
 use borrow.Author.Tests.{ltb-true}
-use Rattle.parser.specs.Tree.{Expression, Statement, Class, Program}
+use Rattle.parser.specs.Tree.{Ty.plain, Expression, Statement, Class, Program}
 use Rattle.parser.specs.Tree.{Part.literal, Part.truth, Part.variable, Part.this, Part.newArray, Part.newObject, Part.negation, Part.binary, Part.element, Part.arrayLength, Part.call, Part.noArguments, Part.argument}
 use Rattle.parser.specs.Tree.{Part.block, Part.conditional, Part.loop, Part.print, Part.assign, Part.assignElement, Part.noStatements, Part.sequence}
 use Rattle.typesystem.specs.ClassTable.{classNamed, methodOf}
@@ -16,7 +16,7 @@ use Rattle.semantics.specs.Machine.{Task, Task.evaluate, Task.execute, Task.ope
 use Rattle.semantics.specs.Machine.{ofKind, ofKinds, isAnd, apply, begin, beginStatement, second, callMethod, nextArgument, nextStatement, nextOfBody, newArrayOf, newObjectOf, go, plan, start}
 use Rattle.semantics.specs.Limits.{Limits, Meters, begun, Progress, next, stop, guard, sizeOf, runWith, run}
 use Rattle.soundness.specs.laws.ResultLaws.{Over}
-use Rattle.soundness.specs.laws.Continuations.{Closed, need-by, require-by, pop-by, popMany-by, number-by, flag-by, array-by, object-by, object-cell-by, array-cell-by, choice-by, innermost-by, cell-by, in-array-by, read-by, write-by, after-by}
+use Rattle.soundness.specs.laws.Continuations.{Closed, need-by, require-by, pop-by, popMany-by, number-by, flag-by, array-by, object-by, object-cell-by, choice-by, innermost-by, cell-by, array-at-by, in-bounds-by, read-by, write-by, after-by}
 
 -- a call whose parts are done turns into the body of its method, so it weighs more
 abbrev pub weight : Task → ℕ
@@ -29,7 +29,7 @@ weight negate = 1
 weight (index p i) = 1
 weight (fetch p) = 1
 weight (measure p) = 1
-weight (makeArray p) = 1
+weight (makeArray p t) = 1
 weight (makeObject p c) = 1
 weight (invoke p m n es) = 2
 weight (branch s t) = 1
@@ -71,7 +71,7 @@ module _ (w : ℕ) where
   begin-pays G (truth p b) ts vs cs h l = omega arith
   begin-pays G (variable p x) ts vs cs h l = read-by closed G cs h x _ (λ v. omega arith)
   begin-pays G (this p) ts vs cs h l = innermost-by closed cs _ (λ a Γ xs ds _. omega arith)
-  begin-pays G (newArray p e) ts vs cs h l = omega arith
+  begin-pays G (newArray p u e) ts vs cs h l = omega arith
   begin-pays G (newObject p c) ts vs cs h l = omega arith
   begin-pays G (negation p e) ts vs cs h l = omega arith
   begin-pays G (binary p o a b) ts vs cs h l = omega arith
@@ -104,10 +104,10 @@ module _ (w : ℕ) where
   task-pays G (index p i) ts vs cs h l = begin-pays G i (fetch p ∷ ts) vs cs h l
   task-pays G (fetch p) ts vs cs h l =
       pop-by closed vs _ (λ y vs. pop-by closed vs _ (λ x vs. number-by closed y _ (λ i. array-by closed p x _ (λ a.
-      in-array-by closed p h a i _ (cell-by closed h a i _ (λ v. omega arith))))))
+      array-at-by closed h a _ (λ t n. in-bounds-by closed p i n _ (cell-by closed h a i _ (λ v. omega arith)))))))
   task-pays G (measure p) ts vs cs h l =
-      pop-by closed vs _ (λ x vs. array-by closed p x _ (λ a. need-by closed (getElem? h a) _ (λ c _. array-cell-by closed c _ (λ n. omega arith))))
-  task-pays G (makeArray p) ts vs cs h l =
+      pop-by closed vs _ (λ x vs. array-by closed p x _ (λ a. array-at-by closed h a _ (λ t n. omega arith)))
+  task-pays G (makeArray p t) ts vs cs h l =
       pop-by closed vs _ (λ x vs. number-by closed x _ (λ n. choice-by closed (ltb n (2 ^ 31)) _ _ (omega arith) tt))
   task-pays G (makeObject p c) ts vs cs h l = need-by closed (classNamed G c) _ (λ k _. omega arith)
   task-pays G (invoke p m n noArguments) ts vs cs h l =
@@ -125,8 +125,9 @@ module _ (w : ℕ) where
   task-pays G (store x) ts vs cs h l = pop-by closed vs _ (λ v vs. write-by closed G cs h x v _ (λ ds g _ _. omega arith))
   task-pays G (newElement p e) ts vs cs h l = begin-pays G e (storeElement p ∷ ts) vs cs h l
   task-pays G (storeElement p) ts vs cs h l =
-      pop-by closed vs _ (λ v vs. pop-by closed vs _ (λ y vs. pop-by closed vs _ (λ x vs. number-by closed v _ (λ n. number-by closed y _ (λ i.
-      array-by closed p x _ (λ a. in-array-by closed p h a i _ (cell-by closed h a i _ (λ _. omega arith))))))))
+      pop-by closed vs _ (λ v vs. pop-by closed vs _ (λ y vs. pop-by closed vs _ (λ x vs. number-by closed y _ (λ i.
+      array-by closed p x _ (λ a. array-at-by closed h a _ (λ t n. require-by closed (ofKind (plain t) v) _
+      (in-bounds-by closed p i n _ (cell-by closed h a i _ (λ _. omega arith)))))))))
   task-pays G (continue noStatements) ts vs cs h l = omega arith
   task-pays G (continue (sequence s ss)) ts vs cs h l = begin-statement-pays G s (continue ss ∷ ts) vs cs h (omega arith)
   task-pays G (perform noStatements e t) ts vs cs h l = begin-pays G e (leave t ∷ ts) vs cs h l

@@ -7,11 +7,11 @@ use mathlib.Core.Option.{some, Option·some-injective}
 use mathlib.Core.Path.{_≡_, refl, sym, ap, _∙_, subst}
 use lib.ListN.{length, getElem?, set, replicate, length-replicate, getD-replicate}
 use Rattle.base.specs.laws.Lists.{get-getD, all-at, all-replicate, All2, all2-cons, all2-append, all2-length, all2-map, all2-replicate, all2-set, all2-weaken, Side, left, right, side, get-append, get-append-right, get-map, map-get}
-use Rattle.parser.specs.Tree.{Ty, Ty.int, Ty.boolean, Ty.intArray, Ty.class, Variable, Class}
+use Rattle.parser.specs.Tree.{Element, Element.int, Element.boolean, Element.class, Ty, Ty.plain, Ty.arrayOf, Variable, Class}
 use Rattle.typesystem.specs.ClassTable.{Context, classNamed, fieldsOf}
 use Rattle.typesystem.specs.TypingRules.{Sub, sub-same, sub-extends, sub-trans, typeOf}
 use Rattle.typing.specs.laws.Members.{up-here, up-more, up-trans}
-use Rattle.semantics.specs.Machine.{Value, Value.number, Cell, Cell.object, Cell.array, Cell.slot, Call, initial}
+use Rattle.semantics.specs.Machine.{Value, Cell, Cell.object, Cell.array, Cell.slot, Call, initial}
 use Rattle.soundness.specs.laws.StateTyping.{CellType, objectType, arrayType, slotType, ValueTyped, v-number, v-flag, v-no-array, v-no-object, v-array, v-object}
 use Rattle.soundness.specs.laws.StateTyping.{CellTyped, c-object, c-array, c-slot, Laid, HeapTyped, CallTyped, c-frame}
 
@@ -23,10 +23,10 @@ value-sub (sub-extends x) (v-object e c) = v-object e (up-trans c (up-more x up-
 value-sub (sub-trans p q) h = value-sub q (value-sub p h)
 
 pub initial-typed : {G : List Class} {σ : List CellType} (t : Ty) → ValueTyped G σ (initial t) t
-initial-typed int = v-number {n = 0} (omega arith)
-initial-typed boolean = v-flag
-initial-typed intArray = v-no-array
-initial-typed (class c) = v-no-object
+initial-typed (plain int) = v-number {n = 0} (omega arith)
+initial-typed (plain boolean) = v-flag
+initial-typed (plain (class c)) = v-no-object
+initial-typed (arrayOf t) = v-no-array
 
 -- ---- more cells
 
@@ -71,20 +71,20 @@ module _ {G : List Class} {σ ρ : List CellType} (K : CellsKept σ ρ) where
 
 -- ---- a new object or array
 
-object-array : {c : List ℕ} {n : ℕ} → objectType c ≡ arrayType n → ⊥
+object-array : {c : List ℕ} {t : Element} {n : ℕ} → objectType c ≡ arrayType t n → ⊥
 object-array e = let z : _≡_ {A = ℕ} 0 1 = cc in omega arith
 
 object-slot : {c : List ℕ} {t : Ty} → objectType c ≡ slotType t → ⊥
 object-slot e = let z : _≡_ {A = ℕ} 0 1 = cc in omega arith
 
-array-slot : {n : ℕ} {t : Ty} → arrayType n ≡ slotType t → ⊥
+array-slot : {s : Element} {n : ℕ} {t : Ty} → arrayType s n ≡ slotType t → ⊥
 array-slot e = let z : _≡_ {A = ℕ} 0 1 = cc in omega arith
 
 -- a first cell, x, and the slots that it asks for
 record Block (G : List Class) (x : CellType) (β : List CellType) : Type 0 where
   slots : (i : ℕ) {y : CellType} → getElem? β i ≡ some y → (t : Ty) × (y ≡ slotType t)
   fields : (c : List ℕ) (i : ℕ) {v : Variable} → x ≡ objectType c → getElem? (fieldsOf G c) i ≡ some v → getElem? β i ≡ some (slotType (typeOf v))
-  elements : (n i : ℕ) → x ≡ arrayType n → i < n → getElem? β i ≡ some (slotType int)
+  elements : (t : Element) (n i : ℕ) → x ≡ arrayType t n → i < n → getElem? β i ≡ some (slotType (plain t))
 
 at-block : (σ : List CellType) (x : CellType) (β : List CellType) (i : ℕ) → getElem? (σ ++ x ∷ β) (length σ + zero + 1 + i) ≡ getElem? β i
 at-block σ x β i =
@@ -98,16 +98,17 @@ module _ {G : List Class} {x : CellType} {β : List CellType} (B : Block G x β)
   object-laid a c i v (right zero e) q = at-block σ x β i ∙ B .fields c i (Option·some-injective _ _ e) q
   object-laid a c i v (right (suc j) e) q = absurd (object-slot (B .slots j e .1))
 
-  array-laid : (a n i : ℕ) → Side σ (x ∷ β) a (arrayType n) → i < n → getElem? (σ ++ x ∷ β) (a + 1 + i) ≡ some (slotType int)
-  array-laid a n i (left e) q = get-append σ (x ∷ β) (a + 1 + i) (L .arrays a n i e q)
-  array-laid a n i (right zero e) q = at-block σ x β i ∙ B .elements n i (Option·some-injective _ _ e) q
-  array-laid a n i (right (suc j) e) q = absurd (array-slot (B .slots j e .1))
+  array-laid : (a : ℕ) (t : Element) (n i : ℕ) → Side σ (x ∷ β) a (arrayType t n) → i < n
+      → getElem? (σ ++ x ∷ β) (a + 1 + i) ≡ some (slotType (plain t))
+  array-laid a t n i (left e) q = get-append σ (x ∷ β) (a + 1 + i) (L .arrays a t n i e q)
+  array-laid a t n i (right zero e) q = at-block σ x β i ∙ B .elements t n i (Option·some-injective _ _ e) q
+  array-laid a t n i (right (suc j) e) q = absurd (array-slot (B .slots j e .1))
 
   grown-laid : Laid G (σ ++ x ∷ β)
   grown-laid =
       record {
         objects = λ a c i v e q. object-laid a c i v (side σ (x ∷ β) a e) q;
-        arrays = λ a n i e q. array-laid a n i (side σ (x ∷ β) a e) q;
+        arrays = λ a t n i e q. array-laid a t n i (side σ (x ∷ β) a e) q;
       }
 
 grown : {G : List Class} {σ : List CellType} {h : List Cell} {x : CellType} {β : List CellType} {b : List Cell}
@@ -132,7 +133,7 @@ object-block G c =
     record {
       slots = λ i e. let w = map-get (λ (v : Variable). slotType (typeOf v)) (fieldsOf G c) i e in (typeOf (w .0), sym (w .2));
       fields = λ d i e q. get-map (λ (v : Variable). slotType (typeOf v)) (fieldsOf G c) i (ap (λ (b : List ℕ). getElem? (fieldsOf G b) i) (object-inj e) ∙ q);
-      elements = λ n i e q. absurd (object-array e);
+      elements = λ t n i e q. absurd (object-array e);
     }
   where
     object-inj : {c d : List ℕ} → objectType c ≡ objectType d → c ≡ d
@@ -141,19 +142,24 @@ object-block G c =
 replicate-at : {A : Type 0} (n : ℕ) (x : A) (i : ℕ) → i < n → getElem? (replicate n x) i ≡ some x
 replicate-at n x i h = get-getD (replicate n x) i x (simp length-replicate h) ∙ ap some (getD-replicate n i x x h)
 
-abbrev pub elementTypes : ℕ → List CellType
-elementTypes n = replicate n (slotType int)
+abbrev pub elementTypes : Element → ℕ → List CellType
+elementTypes t n = replicate n (slotType (plain t))
 
-array-block : (G : List Class) (n : ℕ) → Block G (arrayType n) (elementTypes n)
-array-block G n =
+array-block : (G : List Class) (t : Element) (n : ℕ) → Block G (arrayType t n) (elementTypes t n)
+array-block G t n =
     record {
-      slots = λ i e. (int, all-at i (all-replicate {P = λ (y : CellType). y ≡ slotType int} n (slotType int) refl) e);
+      slots = λ i e. (plain t, all-at i (all-replicate {P = λ (y : CellType). y ≡ slotType (plain t)} n (slotType (plain t)) refl) e);
       fields = λ d i e q. absurd (object-array (sym e));
-      elements = λ m i e q. replicate-at n (slotType int) i (subst (λ (j : ℕ). i < j) (sym (array-inj e)) q);
+      elements = λ s m i e q.
+          replicate-at n (slotType (plain t)) i (subst (λ (j : ℕ). i < j) (sym (length-inj e)) q)
+          ∙ ap (λ (u : Element). some (slotType (plain u))) (element-inj e);
     }
   where
-    array-inj : {m n : ℕ} → arrayType m ≡ arrayType n → m ≡ n
-    array-inj e = cc
+    length-inj : {s t : Element} {m n : ℕ} → arrayType s m ≡ arrayType t n → m ≡ n
+    length-inj e = cc
+
+    element-inj : {s t : Element} {m n : ℕ} → arrayType s m ≡ arrayType t n → s ≡ t
+    element-inj e = cc
 
 module _ {G : List Class} {σ : List CellType} {h : List Cell} (H : HeapTyped G σ h) where
   pub object-grown : (c : List ℕ) {k : Class} → classNamed G c ≡ some k
@@ -162,8 +168,11 @@ module _ {G : List Class} {σ : List CellType} {h : List Cell} (H : HeapTyped G 
       grown (object-block G c) H
       (all2-cons (c-object e) (all2-map (λ v. slot (initial (typeOf v))) (λ v. slotType (typeOf v)) (λ v. c-slot (initial-typed (typeOf v))) (fieldsOf G c)))
 
-  pub array-grown : (n : ℕ) → n < 2 ^ 31 → HeapTyped G (σ ++ arrayType n ∷ elementTypes n) (h ++ array n ∷ replicate n (slot (number 0)))
-  array-grown n l = grown (array-block G n) H (all2-cons (c-array l) (all2-replicate n (slot (number 0)) (slotType int) (c-slot (v-number {n = 0} (omega arith)))))
+  pub array-grown : (t : Element) (n : ℕ) → n < 2 ^ 31
+      → HeapTyped G (σ ++ arrayType t n ∷ elementTypes t n) (h ++ array t n ∷ replicate n (slot (initial (plain t))))
+  array-grown t n l =
+      grown (array-block G t n) H
+      (all2-cons (c-array l) (all2-replicate n (slot (initial (plain t))) (slotType (plain t)) (c-slot (initial-typed (plain t)))))
 
   -- a store to a slot, of a value of its type
   pub stored : (i : ℕ) {v : Value} {t : Ty} → getElem? σ i ≡ some (slotType t) → ValueTyped G σ v t → HeapTyped G σ (set h i (slot v))

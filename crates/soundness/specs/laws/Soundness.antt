@@ -13,7 +13,7 @@ use borrow.Author.Tests.{ltb-true}
 use Rattle.base.specs.All.{All}
 use Rattle.base.specs.laws.Lists.{All2, all2-nil, all2-cons, all2-append, all2-map, all2-at, all2-set, RelatedAt, get-map}
 use Rattle.base.specs.laws.WordLaws.{add-below, sub-below, mul-below}
-use Rattle.parser.specs.Tree.{Place, Operator, Operator.and, Part, Expression, Statement, Ty, Ty.int, Ty.boolean, Ty.intArray, Ty.class, Variable, Method, Class, Program}
+use Rattle.parser.specs.Tree.{Place, Operator, Operator.and, Part, Expression, Statement, Element, Element.int, Element.boolean, Element.class, Ty, Ty.plain, Ty.arrayOf, Variable, Method, Class, Program}
 use Rattle.parser.specs.Tree.{Sort.arguments}
 use Rattle.typesystem.specs.ClassTable.{Slot, Found, Context, meaning, meaningType, classNamed, variableNamed, fieldsOf}
 use Rattle.typesystem.specs.Judge.{arity}
@@ -29,7 +29,7 @@ use Rattle.typing.specs.laws.Operations.{Operates, conjoins, compares, adds, su
 use Rattle.semantics.specs.Machine.{Value, Value.objectAt, Cell, Cell.slot, Call, Call.frame, Core, initial}
 use Rattle.semantics.specs.Machine.{Request, Request.charge, Request.allocate, Request.enter, Request.output, Request.move, Request.fault, Request.done, Request.stuck}
 use Rattle.semantics.specs.Machine.{Task, Task.operate, Task.fetch, Task.measure, Task.makeArray, Task.makeObject, Task.storeElement, Task.leave}
-use Rattle.semantics.specs.Machine.{need, require, ofKind, ofKinds, pop, popMany, innermost, asSlot, asObjectCell, asArrayCell, inArray, readMeaning, readName, writeMeaning, writeName, isAnd, begin, beginStatement, second, callMethod, nextArgument, nextStatement, nextOfBody, newArrayOf, newObjectOf, opened, go, plan, start}
+use Rattle.semantics.specs.Machine.{need, require, ofKind, ofKinds, pop, popMany, innermost, asSlot, asObjectCell, asArrayCell, arrayCell, inBounds, readMeaning, readName, writeMeaning, writeName, isAnd, begin, beginStatement, second, callMethod, nextArgument, nextStatement, nextOfBody, newArrayOf, newObjectOf, opened, go, plan, start}
 use Rattle.semantics.specs.Limits.{Limits, Meters, begun, Ending, ended, wentWrong, unfinished, Progress, next, stop, guard, sizeOf, runWith, run}
 use Rattle.soundness.specs.Results.{by-null, by-index, by-size, Finish, by-success, by-fault, ByLimit, by-budget, by-heap, by-calls, by-output, EndsWell}
 use Rattle.soundness.specs.laws.ResultLaws.{Over}
@@ -75,11 +75,11 @@ module _ {G : List Class} (T : All (ClassTyped G) G) (L : All (λ k. All MethodF
       by-cell : {x : Cell} → CellTyped G σ x (slotType t) → Asks G (asSlot x k)
       by-cell (c-slot {v = v} q) = f v q
 
-  array-cell-ok : {σ : List CellType} {h : List Cell} {a n : ℕ} (k : ℕ → Request Core) → RelatedAt (CellTyped G σ) h a (arrayType n) → (n < 2 ^ 31 → Asks G (k n))
-      → Asks G (need (getElem? h a) λ x. asArrayCell x k)
-  array-cell-ok {σ} {n} k w f = need-ok (λ x. asArrayCell x k) (w .at) (by-cell (w .holds))
+  array-cell-ok : {σ : List CellType} {h : List Cell} (a : ℕ) {t : Element} {n : ℕ} (k : Element → ℕ → Request Core)
+      → RelatedAt (CellTyped G σ) h a (arrayType t n) → (n < 2 ^ 31 → Asks G (k t n)) → Asks G (arrayCell h a k)
+  array-cell-ok {σ} a {t} {n} k w f = need-ok (λ x. asArrayCell x k) (w .at) (by-cell (w .holds))
     where
-      by-cell : {x : Cell} → CellTyped G σ x (arrayType n) → Asks G (asArrayCell x k)
+      by-cell : {x : Cell} → CellTyped G σ x (arrayType t n) → Asks G (asArrayCell x k)
       by-cell (c-array l) = f l
 
   object-cell-ok : {σ : List CellType} {h : List Cell} {a : ℕ} {c : List ℕ} (k : List ℕ → Request Core) → RelatedAt (CellTyped G σ) h a (objectType c) → Asks G (k c)
@@ -89,10 +89,12 @@ module _ {G : List Class} (T : All (ClassTyped G) G) (L : All (λ k. All MethodF
       by-cell : {x : Cell} → CellTyped G σ x (objectType c) → Asks G (asObjectCell x k)
       by-cell (c-object e) = f
 
-  in-array-ok : {σ : List CellType} {h : List Cell} (p : Place) (a : ℕ) {n : ℕ} (i : ℕ) (r : Request Core) → HeapTyped G σ h → getElem? σ a ≡ some (arrayType n)
-      → (getElem? σ (a + 1 + i) ≡ some (slotType int) → Asks G r) → Asks G (inArray p h a i r)
-  in-array-ok p a {n} i r H e f =
-      array-cell-ok _ (all2-at a (H .cells) e) (λ _. by-test (Asks G) (ltb i n) _ _ (λ q. f (H .laid .arrays a n i e (ltb-true i n q))) (λ _. by-index))
+  -- an element that is there
+  in-bounds-ok : {σ : List CellType} {h : List Cell} (p : Place) (a : ℕ) {t : Element} {n : ℕ} (i : ℕ) (r : Request Core)
+      → HeapTyped G σ h → getElem? σ a ≡ some (arrayType t n)
+      → (getElem? σ (a + 1 + i) ≡ some (slotType (plain t)) → Asks G r) → Asks G (inBounds p i n r)
+  in-bounds-ok p a {t} {n} i r H e f =
+      by-test (Asks G) (ltb i n) _ _ (λ q. f (H .laid .arrays a t n i e (ltb-true i n q))) (λ _. by-index)
 
   -- the arguments off the stack
   pop-typed : {σ : List CellType} (qs : List Ty) {us ws : List Ty} {vs got : List Value} (k : List Value → List Value → Request Core)
@@ -158,7 +160,7 @@ module _ {G : List Class} (T : All (ClassTyped G) G) (L : All (λ k. All MethodF
           (λ _ _. f _ _ (stored H (a + 1 + s .place) i v) (all2-cons (c-frame F) C))))
 
   this-ok : {σ : List CellType} {Γs : List Context} {cs : List Call} {c : List ℕ} (k : ℕ → Request Core) → All2 (CallTyped G σ) cs Γs → now Γs .owner ≡ some c
-      → ((a : ℕ) → ValueTyped G σ (objectAt a) (class c) → Asks G (k a)) → Asks G (innermost cs λ a Γ xs _. k a)
+      → ((a : ℕ) → ValueTyped G σ (objectAt a) (plain (class c)) → Asks G (k a)) → Asks G (innermost cs λ a Γ xs _. k a)
   this-ok k all2-nil o f = absurd (none-some refl o)
   this-ok k (all2-cons (c-frame {a = a} F) C) o f = f a (v-object (F .receiver) (owner-up F o))
 
@@ -180,9 +182,10 @@ module _ {G : List Class} (T : All (ClassTyped G) G) (L : All (λ k. All MethodF
     begins W t-truth l b R = typed H C (all2-cons (value-sub b v-flag) W) R
     begins W (t-variable n) l b R = read-ok _ H C n (λ v x. typed H C (all2-cons (value-sub b x) W) R)
     begins W (t-this o) l b R = this-ok _ C o (λ a x. typed H C (all2-cons (value-sub b x) W) R)
-    begins W (t-new-array x) l b R = typed H C W (r-evaluate x l sub-same (r-make-array b R))
+    begins {t = t} W (t-new-array q k x) l b R =
+        typed H C W (r-evaluate x l sub-same (r-make-array (subst (λ (s : Element). Sub G (arrayOf s) t) (sym q) b) R))
     begins {t = t} W (t-new-object {c = c} q x) l b R =
-        typed H C W (r-make-object (ap (classNamed G) q ∙ known-found G c x .1) (subst (λ (d : List ℕ). Sub G (class d) t) (sym q) b) R)
+        typed H C W (r-make-object (ap (classNamed G) q ∙ known-found G c x .1) (subst (λ (d : List ℕ). Sub G (plain (class d)) t) (sym q) b) R)
     begins W (t-negation x) l b R = typed H C W (r-evaluate x l sub-same (r-negate b R))
     begins W (t-binary {o = o} {s = s} x q y) l b R = typed H C W (r-evaluate x (l .0) sub-same (r-operand (operates o s q) y (l .1) b R))
     begins W (t-element x y) l b R = typed H C W (r-evaluate x (l .0) sub-same (r-index y (l .1) b R))
@@ -198,13 +201,14 @@ module _ {G : List Class} (T : All (ClassTyped G) G) (L : All (λ k. All MethodF
     begins-statement W (t-while x y) l R = typed H C W (r-evaluate x (l .0) sub-same (r-decide x (l .0) y (l .1) R))
     begins-statement W (t-print x) l R = typed H C W (r-evaluate x l sub-same (r-show R))
     begins-statement W (t-assign n x b) l R = typed H C W (r-evaluate x l b (r-store n R))
-    begins-statement W (t-assign-element n x y) l R =
-        read-ok _ H C n (λ v q. typed H C (all2-cons q W) (r-evaluate x (l .0) sub-same (r-new-element y (l .1) R)))
+    begins-statement W (t-assign-element n x y b) l R =
+        read-ok _ H C n (λ v q. typed H C (all2-cons q W) (r-evaluate x (l .0) sub-same (r-new-element y (l .1) b R)))
 
     -- ---- going on with a node
 
     and-ok : {us : List Ty} {ts : List Task} {vs : List Value} {r : Expression} {t : Ty}
-        → All2 (ValueTyped G σ) vs (boolean ∷ us) → HasType G (now Γs) r boolean → WordLiterals r → Sub G boolean t → TasksTyped G Γs (t ∷ us) ts → Asks G (second G and r ts vs cs h)
+        → All2 (ValueTyped G σ) vs (plain boolean ∷ us) → HasType G (now Γs) r (plain boolean) → WordLiterals r → Sub G (plain boolean) t
+        → TasksTyped G Γs (t ∷ us) ts → Asks G (second G and r ts vs cs h)
     unfolding second
     and-ok (all2-cons (v-flag {b = true}) W) x l b R = begins W x l sub-same (r-confirm b R)
     and-ok (all2-cons (v-flag {b = false}) W) x l b R = typed H C (all2-cons (value-sub b v-flag) W) R
@@ -232,40 +236,43 @@ module _ {G : List Class} (T : All (ClassTyped G) G) (L : All (λ k. All MethodF
     operate-ok multiplies n (all2-cons (v-number {n = y} _) (all2-cons (v-number {n = x} _) W)) b R =
         typed H C (all2-cons (value-sub b (v-number (mul-below x y))) W) R
 
-    fetch-ok : {us : List Ty} {ts : List Task} {vs : List Value} {t : Ty} (p : Place)
-        → All2 (ValueTyped G σ) vs (int ∷ intArray ∷ us) → Sub G int t → TasksTyped G Γs (t ∷ us) ts → Asks G (go G (fetch p) ts vs cs h)
+    fetch-ok : {us : List Ty} {ts : List Task} {vs : List Value} {s : Element} {t : Ty} (p : Place)
+        → All2 (ValueTyped G σ) vs (plain int ∷ arrayOf s ∷ us) → Sub G (plain s) t → TasksTyped G Γs (t ∷ us) ts → Asks G (go G (fetch p) ts vs cs h)
     unfolding go
     fetch-ok p (all2-cons (v-number i) (all2-cons v-no-array W)) b R = by-null
     fetch-ok p (all2-cons (v-number {n = i} l) (all2-cons (v-array {a = a} e) W)) b R =
-        in-array-ok p a i _ H e (λ q. slot-ok _ (all2-at (a + 1 + i) (H .cells) q) (λ v y. typed H C (all2-cons (value-sub b y) W) R))
+        array-cell-ok a _ (all2-at a (H .cells) e) (λ _. in-bounds-ok p a i _ H e (λ q.
+        slot-ok _ (all2-at (a + 1 + i) (H .cells) q) (λ v y. typed H C (all2-cons (value-sub b y) W) R)))
 
-    store-element-ok : {us : List Ty} {ts : List Task} {vs : List Value} (p : Place)
-        → All2 (ValueTyped G σ) vs (int ∷ int ∷ intArray ∷ us) → TasksTyped G Γs us ts → Asks G (go G (storeElement p) ts vs cs h)
+    store-element-ok : {us : List Ty} {ts : List Task} {vs : List Value} {t : Element} (p : Place)
+        → All2 (ValueTyped G σ) vs (plain t ∷ plain int ∷ arrayOf t ∷ us) → TasksTyped G Γs us ts → Asks G (go G (storeElement p) ts vs cs h)
     unfolding go
-    store-element-ok p (all2-cons (v-number k) (all2-cons (v-number i) (all2-cons v-no-array W))) R = by-null
-    store-element-ok p (all2-cons (v-number m) (all2-cons (v-number {n = i} l) (all2-cons (v-array {a = a} e) W))) R =
-        in-array-ok p a i _ H e (λ q. slot-ok _ (all2-at (a + 1 + i) (H .cells) q) (λ _ _. typed (stored H (a + 1 + i) q (v-number m)) C W R))
+    store-element-ok p (all2-cons y (all2-cons (v-number i) (all2-cons v-no-array W))) R = by-null
+    store-element-ok p (all2-cons y (all2-cons (v-number {n = i} l) (all2-cons (v-array {a = a} e) W))) R =
+        array-cell-ok a _ (all2-at a (H .cells) e) (λ _. require-ok _ (kind-typed y) (in-bounds-ok p a i _ H e (λ q.
+        slot-ok _ (all2-at (a + 1 + i) (H .cells) q) (λ _ _. typed (stored H (a + 1 + i) q y) C W R))))
 
-    measure-ok : {us : List Ty} {ts : List Task} {vs : List Value} {t : Ty} (p : Place)
-        → All2 (ValueTyped G σ) vs (intArray ∷ us) → Sub G int t → TasksTyped G Γs (t ∷ us) ts → Asks G (go G (measure p) ts vs cs h)
+    measure-ok : {us : List Ty} {ts : List Task} {vs : List Value} {s : Element} {t : Ty} (p : Place)
+        → All2 (ValueTyped G σ) vs (arrayOf s ∷ us) → Sub G (plain int) t → TasksTyped G Γs (t ∷ us) ts → Asks G (go G (measure p) ts vs cs h)
     unfolding go
     measure-ok p (all2-cons v-no-array W) b R = by-null
     measure-ok p (all2-cons (v-array {a = a} {n = n} e) W) b R =
-        array-cell-ok _ (all2-at a (H .cells) e) (λ l. typed H C (all2-cons (value-sub b (v-number {n = n} (omega arith))) W) R)
+        array-cell-ok a _ (all2-at a (H .cells) e) (λ l. typed H C (all2-cons (value-sub b (v-number {n = n} (omega arith))) W) R)
 
-    make-array-ok : {us : List Ty} {ts : List Task} {vs : List Value} {t : Ty} (p : Place)
-        → All2 (ValueTyped G σ) vs (int ∷ us) → Sub G intArray t → TasksTyped G Γs (t ∷ us) ts → Asks G (go G (makeArray p) ts vs cs h)
+    make-array-ok : {us : List Ty} {ts : List Task} {vs : List Value} {t : Ty} (p : Place) (s : Element)
+        → All2 (ValueTyped G σ) vs (plain int ∷ us) → Sub G (arrayOf s) t → TasksTyped G Γs (t ∷ us) ts
+        → Asks G (go G (makeArray p s) ts vs cs h)
     unfolding go newArrayOf
-    make-array-ok p (all2-cons (v-number {n = n} l) W) b R =
-        let K : CellsKept σ (σ ++ arrayType n ∷ elementTypes n) = kept-append σ (arrayType n ∷ elementTypes n) in
+    make-array-ok p s (all2-cons (v-number {n = n} l) W) b R =
+        let K : CellsKept σ (σ ++ arrayType s n ∷ elementTypes s n) = kept-append σ (arrayType s n ∷ elementTypes s n) in
         by-test (Asks G) (ltb n (2 ^ 31)) _ _
         (λ q.
-        typed (array-grown H n (ltb-true n (2 ^ 31) q)) (calls-kept K C)
-        (all2-cons (value-sub b (v-array (new-place (arrayType n) (elementTypes n) H))) (values-kept K W)) R)
+        typed (array-grown H s n (ltb-true n (2 ^ 31) q)) (calls-kept K C)
+        (all2-cons (value-sub b (v-array (new-place (arrayType s n) (elementTypes s n) H))) (values-kept K W)) R)
         (λ q. by-size)
 
     make-object-ok : {us : List Ty} {ts : List Task} {vs : List Value} {t : Ty} {k : Class} (p : Place) (c : List ℕ)
-        → All2 (ValueTyped G σ) vs us → classNamed G c ≡ some k → Sub G (class c) t → TasksTyped G Γs (t ∷ us) ts → Asks G (go G (makeObject p c) ts vs cs h)
+        → All2 (ValueTyped G σ) vs us → classNamed G c ≡ some k → Sub G (plain (class c)) t → TasksTyped G Γs (t ∷ us) ts → Asks G (go G (makeObject p c) ts vs cs h)
     unfolding go newObjectOf
     make-object-ok p c W e b R =
         let K : CellsKept σ (σ ++ objectType c ∷ fieldTypes G c) = kept-append σ (objectType c ∷ fieldTypes G c) in
@@ -292,7 +299,7 @@ module _ {G : List Class} (T : All (ClassTyped G) G) (L : All (λ k. All MethodF
         W (r-perform (D .body) (M .body) (D .value) (M .value) (D .fits) (sub-trans (r .result) b) R))
 
     call-ok : {us : List Ty} {ts : List Task} {given vs : List Value} {x : Value} {t : Ty} (p : Place) {c m : List ℕ} {F : Found}
-        → All2 (ValueTyped G σ) given (map typeOf (F .method .parameters)) → ValueTyped G σ x (class c) → All2 (ValueTyped G σ) vs us
+        → All2 (ValueTyped G σ) given (map typeOf (F .method .parameters)) → ValueTyped G σ x (plain (class c)) → All2 (ValueTyped G σ) vs us
         → HasMethod G c m F → Sub G (F .method .result .type) t → TasksTyped G Γs (t ∷ us) ts → Asks G (callMethod G p m given x ts vs cs h)
     unfolding callMethod
     call-ok p X v-no-object W f b R = by-null
@@ -302,12 +309,12 @@ module _ {G : List Class} (T : All (ClassTyped G) G) (L : All (λ k. All MethodF
         (need-ok _ (has-methodOf (table-acyclic T) (D .has)) (enter-ok p a (D .found) e X W (D .has) (D .redeclares) b R))
 
     receive-ok : {us : List Ty} {ts : List Task} {given vs : List Value} {t : Ty} (p : Place) {c m : List ℕ} {F : Found}
-        → All2 (ValueTyped G σ) given (map typeOf (F .method .parameters)) → All2 (ValueTyped G σ) vs (class c ∷ us)
+        → All2 (ValueTyped G σ) given (map typeOf (F .method .parameters)) → All2 (ValueTyped G σ) vs (plain (class c) ∷ us)
         → HasMethod G c m F → Sub G (F .method .result .type) t → TasksTyped G Γs (t ∷ us) ts → Asks G (pop vs λ x vs. callMethod G p m given x ts vs cs h)
     receive-ok p X (all2-cons x W) f b R = call-ok p X x W f b R
 
     invoke-ok : {us : List Ty} {ts : List Task} {vs : List Value} {es : Part arguments} {ws : List Variable} {t : Ty} (p : Place) {c m : List ℕ} {F : Found} (n : ℕ)
-        (qs : List Ty) → All2 (ValueTyped G σ) vs (qs ++ class c ∷ us) → HasMethod G c m F → HaveTypes G (now Γs) es ws → WordLiterals es
+        (qs : List Ty) → All2 (ValueTyped G σ) vs (qs ++ plain (class c) ∷ us) → HasMethod G c m F → HaveTypes G (now Γs) es ws → WordLiterals es
         → reverseAux qs (map typeOf ws) ≡ map typeOf (F .method .parameters) → n ≡ length qs + arity es → Sub G (F .method .result .type) t → TasksTyped G Γs (t ∷ us) ts
         → Asks G (nextArgument G p m n es ts vs cs h)
     unfolding nextArgument arity
@@ -338,7 +345,7 @@ module _ {G : List Class} (T : All (ClassTyped G) G) (L : All (λ k. All MethodF
   goes H C W (r-index x l b R) = begins H C W x l sub-same (r-fetch b R)
   goes H C W (r-fetch {p = p} b R) = fetch-ok H C p W b R
   goes H C W (r-measure {p = p} b R) = measure-ok H C p W b R
-  goes H C W (r-make-array {p = p} b R) = make-array-ok H C p W b R
+  goes H C W (r-make-array {p = p} {s = s} b R) = make-array-ok H C p s W b R
   goes H C W (r-make-object {p = p} {c = c} e b R) = make-object-ok H C p c W e b R
   goes H C W (r-invoke {p = p} {n = n} qs f q l e i b R) = invoke-ok H C p n qs W f q l e i b R
   goes H C (all2-cons (v-flag {b = true}) W) (r-branch x l y m R) = begins-statement H C W x l R
@@ -348,7 +355,7 @@ module _ {G : List Class} (T : All (ClassTyped G) G) (L : All (λ k. All MethodF
   goes H C W (r-again x l y m R) = begins H C W x l sub-same (r-decide x l y m R)
   goes H C (all2-cons (v-number _) W) (r-show R) = typed H C W R
   goes H C (all2-cons v W) (r-store n R) = write-ok _ H C n v (λ ds g I D. typed I D W R)
-  goes H C W (r-new-element x l R) = begins H C W x l sub-same (r-store-element R)
+  goes H C W (r-new-element x l b R) = begins H C W x l b (r-store-element R)
   goes H C W (r-store-element {p = p} R) = store-element-ok H C p W R
   goes H C W (r-continue t-end l R) = typed H C W R
   goes H C W (r-continue (t-sequence x q) l R) = begins-statement H C W x (l .0) (r-continue q (l .1) R)
@@ -388,7 +395,7 @@ pub start-typed : (p : Program) → ProgramTyped p → LiteralsFit p → StateTy
 start-typed p P L =
     typed {σ = []}
     (record {
-      laid = record { objects = λ a c i v e q. absurd (none-some refl e); arrays = λ a n i e q. absurd (none-some refl e) };
+      laid = record { objects = λ a c i v e q. absurd (none-some refl e); arrays = λ a t n i e q. absurd (none-some refl e) };
       cells = all2-nil;
     })
     all2-nil all2-nil (r-execute (P .main) (L .main) r-end)

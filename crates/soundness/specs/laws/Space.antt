@@ -13,7 +13,7 @@ use borrow.Author.Tests.{ltb-true, ltb-false, leb-true}
 use Rattle.base.specs.Codes.{depthMost, variablesMost}
 use Rattle.base.specs.All.{All, all-nil, all-cons}
 use Rattle.base.specs.laws.Lists.{all2-length}
-use Rattle.parser.specs.Tree.{Place, Sort, Part, Expression, Statement, Ty, Ty.class, Method, Class, Program}
+use Rattle.parser.specs.Tree.{Place, Sort, Part, Expression, Statement, Element.class, Ty, Ty.plain, Method, Class, Program}
 use Rattle.parser.specs.Tree.{Sort.expression, Sort.arguments, Sort.statement, Sort.statements}
 use Rattle.parser.specs.Tree.{Part.literal, Part.truth, Part.variable, Part.this, Part.newArray, Part.newObject, Part.negation, Part.binary, Part.element, Part.arrayLength, Part.call, Part.noArguments, Part.argument}
 use Rattle.parser.specs.Tree.{Part.block, Part.conditional, Part.loop, Part.print, Part.assign, Part.assignElement, Part.noStatements, Part.sequence}
@@ -28,7 +28,7 @@ use Rattle.semantics.specs.Machine.{Value, Cell, Call, Core, Core.core, Request
 use Rattle.semantics.specs.Machine.{Task, Task.evaluate, Task.execute, Task.operand, Task.operate, Task.confirm, Task.negate, Task.index, Task.fetch, Task.measure, Task.makeArray, Task.makeObject, Task.invoke, Task.branch, Task.decide, Task.again, Task.show, Task.store, Task.newElement, Task.storeElement, Task.continue, Task.perform, Task.leave}
 use Rattle.semantics.specs.Machine.{ofKind, ofKinds, isAnd, apply, begin, beginStatement, second, callMethod, nextArgument, nextStatement, nextOfBody, newArrayOf, newObjectOf, go, plan}
 use Rattle.semantics.specs.Limits.{Limits, Meters, Progress, next, stop, guard, heapOf}
-use Rattle.soundness.specs.laws.Continuations.{Closed, need-by, require-by, pop-by, popMany-by, number-by, flag-by, array-by, object-by, object-cell-by, array-cell-by, choice-by, innermost-by, cell-by, in-array-by, read-by, write-by}
+use Rattle.soundness.specs.laws.Continuations.{Closed, need-by, require-by, pop-by, popMany-by, number-by, flag-by, array-by, object-by, object-cell-by, choice-by, innermost-by, cell-by, array-at-by, in-bounds-by, read-by, write-by}
 use Rattle.soundness.specs.laws.StateTyping.{LiteralsFit, StateTyped, typed}
 use Rattle.soundness.specs.laws.StateTyping.{TasksTyped, r-end, r-evaluate, r-execute, r-operand, r-operate, r-confirm, r-negate, r-index, r-fetch, r-measure, r-make-array, r-make-object, r-invoke, r-branch, r-decide, r-again, r-show, r-store, r-new-element, r-store-element, r-continue, r-perform, r-leave}
 use Rattle.soundness.specs.laws.Reachable.{Reach, reach-start, reach-next, reach-typed}
@@ -41,7 +41,7 @@ below (literal p n) = 0
 below (truth p b) = 0
 below (variable p x) = 0
 below (this p) = 0
-below (newArray p e) = 1 + below e
+below (newArray p u e) = 1 + below e
 below (newObject p c) = 0
 below (negation p e) = 1 + below e
 below (binary p o l r) = max (1 + below l) (1 + below r)
@@ -97,7 +97,7 @@ not-deep d (literal p n) e = omega (arith, here-none d p e)
 not-deep d (truth p b) e = omega (arith, here-none d p e)
 not-deep d (variable p x) e = omega (arith, here-none d p e)
 not-deep d (this p) e = omega (arith, here-none d p e)
-not-deep d (newArray p a) e = one-below d p (below a) e (not-deep (d + 1) a)
+not-deep d (newArray p u a) e = one-below d p (below a) e (not-deep (d + 1) a)
 not-deep d (newObject p c) e = omega (arith, here-none d p e)
 not-deep d (negation p a) e = one-below d p (below a) e (not-deep (d + 1) a)
 not-deep d (binary p o a b) e = two-below d p (below a) (below b) e (not-deep (d + 1) a) (not-deep (d + 1) b)
@@ -155,7 +155,7 @@ extra negate = 0
 extra (index p i) = 1 + below i
 extra (fetch p) = 0
 extra (measure p) = 0
-extra (makeArray p) = 0
+extra (makeArray p t) = 0
 extra (makeObject p c) = 0
 extra (invoke p m n es) = below es
 extra (branch s t) = max (1 + below s) (1 + below t)
@@ -180,7 +180,7 @@ calls negate n = n
 calls (index p i) n = n
 calls (fetch p) n = n
 calls (measure p) n = n
-calls (makeArray p) n = n
+calls (makeArray p t) n = n
 calls (makeObject p c) n = n
 calls (invoke p m k es) n = n
 calls (branch s t) n = n
@@ -224,7 +224,7 @@ module _ (n w : ℕ) (G : List Class) where
   begin-fits (truth p b) ts vs cs h l c d f = (c, d, f)
   begin-fits (variable p x) ts vs cs h l c d f = read-by closed G cs h x _ (λ v. (c, d, f))
   begin-fits (this p) ts vs cs h l c d f = innermost-by closed cs _ (λ a Γ xs ds _. (c, d, f))
-  begin-fits (newArray p e) ts vs cs h l c d f = (c, d, (omega arith, (omega arith, f)))
+  begin-fits (newArray p u e) ts vs cs h l c d f = (c, d, (omega arith, (omega arith, f)))
   begin-fits (newObject p k) ts vs cs h l c d f = (c, d, (omega arith, f))
   begin-fits (negation p e) ts vs cs h l c d f = (c, d, (omega arith, (omega arith, f)))
   begin-fits (binary p o a b) ts vs cs h l c d f = (c, d, (omega arith, (omega arith, f)))
@@ -259,10 +259,10 @@ module _ (n w : ℕ) (G : List Class) where
   task-fits B (index p i) ts vs cs h l c d f = begin-fits i (fetch p ∷ ts) vs cs h (omega arith) c d (omega arith, f)
   task-fits B (fetch p) ts vs cs h l c d f =
       pop-by closed vs _ (λ y vs. pop-by closed vs _ (λ x vs. number-by closed y _ (λ i. array-by closed p x _ (λ a.
-      in-array-by closed p h a i _ (cell-by closed h a i _ (λ v. (c, d, f)))))))
+      array-at-by closed h a _ (λ t n. in-bounds-by closed p i n _ (cell-by closed h a i _ (λ v. (c, d, f))))))))
   task-fits B (measure p) ts vs cs h l c d f =
-      pop-by closed vs _ (λ x vs. array-by closed p x _ (λ a. need-by closed (getElem? h a) _ (λ x _. array-cell-by closed x _ (λ k. (c, d, f)))))
-  task-fits B (makeArray p) ts vs cs h l c d f =
+      pop-by closed vs _ (λ x vs. array-by closed p x _ (λ a. array-at-by closed h a _ (λ t n. (c, d, f))))
+  task-fits B (makeArray p t) ts vs cs h l c d f =
       pop-by closed vs _ (λ x vs. number-by closed x _ (λ k. choice-by closed (ltb k (2 ^ 31)) _ _ (c, simp (length-append, length-replicate) (omega arith), f) tt))
   task-fits B (makeObject p k) ts vs cs h l c d f =
       need-by closed (classNamed G k) _ (λ _ _. (c, simp (length-append, length-map) (omega arith), f))
@@ -283,8 +283,9 @@ module _ (n w : ℕ) (G : List Class) where
       pop-by closed vs _ (λ v vs. write-by closed G cs h x v _ (λ ds g i j. (omega arith, omega arith, subst (λ (k : ℕ). Fits k ts) (sym i) f)))
   task-fits B (newElement p e) ts vs cs h l c d f = begin-fits e (storeElement p ∷ ts) vs cs h (omega arith) c d (omega arith, f)
   task-fits B (storeElement p) ts vs cs h l c d f =
-      pop-by closed vs _ (λ v vs. pop-by closed vs _ (λ y vs. pop-by closed vs _ (λ x vs. number-by closed v _ (λ k. number-by closed y _ (λ i.
-      array-by closed p x _ (λ a. in-array-by closed p h a i _ (cell-by closed h a i _ (λ _. (c, simp length-set (omega arith), f)))))))))
+      pop-by closed vs _ (λ v vs. pop-by closed vs _ (λ y vs. pop-by closed vs _ (λ x vs. number-by closed y _ (λ i.
+      array-by closed p x _ (λ a. array-at-by closed h a _ (λ t n. require-by closed (ofKind (plain t) v) _
+      (in-bounds-by closed p i n _ (cell-by closed h a i _ (λ _. (c, simp length-set (omega arith), f))))))))))
   task-fits B (continue noStatements) ts vs cs h l c d f = (c, d, f)
   task-fits B (continue (sequence s ss)) ts vs cs h l c d f = begin-statement-fits s (continue ss ∷ ts) vs cs h (omega arith) c d (omega arith, f)
   task-fits B (perform noStatements e t) ts vs cs h l c d f = begin-fits e (leave t ∷ ts) vs cs h (omega arith) c d (omega arith, f)
@@ -322,7 +323,7 @@ values-fit T (r-make-object e b R) = omega (arith, values-fit T R)
 values-fit T (r-invoke {us = us} {c = c} {F = F} {vs = vs} qs f q l e i b R) =
     let w = method-declares T f .typed .few in
     let j = ap length e in
-    omega (arith, values-fit T R, length-append qs (class c ∷ us), length-reverse qs (map typeOf vs), length-map (F .method .parameters) typeOf, length-append (F .method .parameters) (F .method .locals))
+    omega (arith, values-fit T R, length-append qs (plain (class c) ∷ us), length-reverse qs (map typeOf vs), length-map (F .method .parameters) typeOf, length-append (F .method .parameters) (F .method .locals))
   where
     length-reverse : (ps rs : List Ty) → length (reverseAux ps rs) ≡ length ps + length rs
     length-reverse [] rs = sym (zero-add (length rs))
@@ -332,7 +333,7 @@ values-fit T (r-decide x l y m R) = omega (arith, values-fit T R)
 values-fit T (r-again x l y m R) = omega (arith, values-fit T R)
 values-fit T (r-show R) = omega (arith, values-fit T R)
 values-fit T (r-store n R) = omega (arith, values-fit T R)
-values-fit T (r-new-element x l R) = omega (arith, values-fit T R)
+values-fit T (r-new-element x l b R) = omega (arith, values-fit T R)
 values-fit T (r-store-element R) = omega (arith, values-fit T R)
 values-fit T (r-continue q l R) = omega (arith, values-fit T R)
 values-fit T (r-perform q l x m b c R) = omega (arith, values-fit T R)

@@ -9,7 +9,7 @@ use lib.ListN.{length, getElem?}
 use Rattle.base.specs.All.{All}
 use Rattle.base.specs.laws.Lists.{All2}
 use Rattle.base.specs.Word.{modulus}
-use Rattle.parser.specs.Tree.{Place, Operator, Sort, Part, Expression, Statement, Ty, Ty.int, Ty.boolean, Ty.intArray, Ty.class, Variable, Method, Class, Program}
+use Rattle.parser.specs.Tree.{Place, Operator, Sort, Part, Expression, Statement, Element, Element.int, Element.boolean, Element.class, Ty, Ty.plain, Ty.arrayOf, Variable, Method, Class, Program}
 use Rattle.parser.specs.Tree.{Sort.arguments, Sort.statement, Sort.statements}
 use Rattle.parser.specs.Tree.{Part.literal, Part.truth, Part.variable, Part.this, Part.newArray, Part.newObject, Part.negation, Part.binary, Part.element, Part.arrayLength, Part.call, Part.noArguments, Part.argument}
 use Rattle.parser.specs.Tree.{Part.block, Part.conditional, Part.loop, Part.print, Part.assign, Part.assignElement, Part.noStatements, Part.sequence}
@@ -30,7 +30,7 @@ WordLiterals (literal p n) = n < modulus
 WordLiterals (truth p b) = Unit {0}
 WordLiterals (variable p x) = Unit {0}
 WordLiterals (this p) = Unit {0}
-WordLiterals (newArray p e) = WordLiterals e
+WordLiterals (newArray p u e) = WordLiterals e
 WordLiterals (newObject p c) = Unit {0}
 WordLiterals (negation p e) = WordLiterals e
 WordLiterals (binary p o l r) = WordLiterals l × WordLiterals r
@@ -61,28 +61,29 @@ pub record LiteralsFit (p : Program) : Type 0 where
 
 pub data CellType : Type 0 where
   objectType : List ℕ → CellType
-  arrayType : ℕ → CellType
+  arrayType : Element → (length : ℕ) → CellType
   slotType : Ty → CellType
 
 -- σ has the types of the heap's cells
 pub data ValueTyped (G : List Class) (σ : List CellType) : Value → Ty → Type 0 where
-  v-number : {n : ℕ} → n < modulus → ValueTyped G σ (number n) int
-  v-flag : {b : Bool} → ValueTyped G σ (flag b) boolean
-  v-no-array : ValueTyped G σ null intArray
-  v-no-object : {c : List ℕ} → ValueTyped G σ null (class c)
-  v-array : {a n : ℕ} → getElem? σ a ≡ some (arrayType n) → ValueTyped G σ (arrayAt a) intArray
-  v-object : {a : ℕ} {b c : List ℕ} → getElem? σ a ≡ some (objectType b) → Up G b c → ValueTyped G σ (objectAt a) (class c)
+  v-number : {n : ℕ} → n < modulus → ValueTyped G σ (number n) (plain int)
+  v-flag : {b : Bool} → ValueTyped G σ (flag b) (plain boolean)
+  v-no-array : {t : Element} → ValueTyped G σ null (arrayOf t)
+  v-no-object : {c : List ℕ} → ValueTyped G σ null (plain (class c))
+  v-array : {a n : ℕ} {t : Element} → getElem? σ a ≡ some (arrayType t n) → ValueTyped G σ (arrayAt a) (arrayOf t)
+  v-object : {a : ℕ} {b c : List ℕ} → getElem? σ a ≡ some (objectType b) → Up G b c → ValueTyped G σ (objectAt a) (plain (class c))
 
 pub data CellTyped (G : List Class) (σ : List CellType) : Cell → CellType → Type 0 where
   c-object : {c : List ℕ} {k : Class} → classNamed G c ≡ some k → CellTyped G σ (object c) (objectType c)
-  c-array : {n : ℕ} → n < 2 ^ 31 → CellTyped G σ (array n) (arrayType n)
+  c-array : {t : Element} {n : ℕ} → n < 2 ^ 31 → CellTyped G σ (array t n) (arrayType t n)
   c-slot : {v : Value} {t : Ty} → ValueTyped G σ v t → CellTyped G σ (slot v) (slotType t)
 
 -- an object's cell is followed by a slot for each field, an array's by a slot for each element
 pub record Laid (G : List Class) (σ : List CellType) : Type 0 where
   pub objects : (a : ℕ) (c : List ℕ) (i : ℕ) (v : Variable) → getElem? σ a ≡ some (objectType c) → getElem? (fieldsOf G c) i ≡ some v
       → getElem? σ (a + 1 + i) ≡ some (slotType (typeOf v))
-  pub arrays : (a n i : ℕ) → getElem? σ a ≡ some (arrayType n) → i < n → getElem? σ (a + 1 + i) ≡ some (slotType int)
+  pub arrays : (a : ℕ) (t : Element) (n i : ℕ) → getElem? σ a ≡ some (arrayType t n) → i < n
+      → getElem? σ (a + 1 + i) ≡ some (slotType (plain t))
 
 pub record HeapTyped (G : List Class) (σ : List CellType) (h : List Cell) : Type 0 where
   pub laid : Laid G σ
@@ -122,36 +123,40 @@ pub data TasksTyped (G : List Class) : List Context → List Ty → List Task �
   r-operate : {Γs : List Context} {us : List Ty} {ts : List Task} {o : Operator} {s u t : Ty}
       → Operates o s u → isAnd o ≡ false → Sub G u t → TasksTyped G Γs (t ∷ us) ts → TasksTyped G Γs (s ∷ s ∷ us) (operate o ∷ ts)
   r-confirm : {Γs : List Context} {us : List Ty} {ts : List Task} {t : Ty}
-      → Sub G boolean t → TasksTyped G Γs (t ∷ us) ts → TasksTyped G Γs (boolean ∷ us) (confirm ∷ ts)
+      → Sub G (plain boolean) t → TasksTyped G Γs (t ∷ us) ts → TasksTyped G Γs (plain boolean ∷ us) (confirm ∷ ts)
   r-negate : {Γs : List Context} {us : List Ty} {ts : List Task} {t : Ty}
-      → Sub G boolean t → TasksTyped G Γs (t ∷ us) ts → TasksTyped G Γs (boolean ∷ us) (negate ∷ ts)
-  r-index : {Γs : List Context} {us : List Ty} {ts : List Task} {p : Place} {i : Expression} {t : Ty}
-      → HasType G (now Γs) i int → WordLiterals i → Sub G int t → TasksTyped G Γs (t ∷ us) ts → TasksTyped G Γs (intArray ∷ us) (index p i ∷ ts)
-  r-fetch : {Γs : List Context} {us : List Ty} {ts : List Task} {p : Place} {t : Ty}
-      → Sub G int t → TasksTyped G Γs (t ∷ us) ts → TasksTyped G Γs (int ∷ intArray ∷ us) (fetch p ∷ ts)
-  r-measure : {Γs : List Context} {us : List Ty} {ts : List Task} {p : Place} {t : Ty}
-      → Sub G int t → TasksTyped G Γs (t ∷ us) ts → TasksTyped G Γs (intArray ∷ us) (measure p ∷ ts)
-  r-make-array : {Γs : List Context} {us : List Ty} {ts : List Task} {p : Place} {t : Ty}
-      → Sub G intArray t → TasksTyped G Γs (t ∷ us) ts → TasksTyped G Γs (int ∷ us) (makeArray p ∷ ts)
+      → Sub G (plain boolean) t → TasksTyped G Γs (t ∷ us) ts → TasksTyped G Γs (plain boolean ∷ us) (negate ∷ ts)
+  r-index : {Γs : List Context} {us : List Ty} {ts : List Task} {p : Place} {i : Expression} {s : Element} {t : Ty}
+      → HasType G (now Γs) i (plain int) → WordLiterals i → Sub G (plain s) t → TasksTyped G Γs (t ∷ us) ts
+      → TasksTyped G Γs (arrayOf s ∷ us) (index p i ∷ ts)
+  r-fetch : {Γs : List Context} {us : List Ty} {ts : List Task} {p : Place} {s : Element} {t : Ty}
+      → Sub G (plain s) t → TasksTyped G Γs (t ∷ us) ts → TasksTyped G Γs (plain int ∷ arrayOf s ∷ us) (fetch p ∷ ts)
+  r-measure : {Γs : List Context} {us : List Ty} {ts : List Task} {p : Place} {s : Element} {t : Ty}
+      → Sub G (plain int) t → TasksTyped G Γs (t ∷ us) ts → TasksTyped G Γs (arrayOf s ∷ us) (measure p ∷ ts)
+  r-make-array : {Γs : List Context} {us : List Ty} {ts : List Task} {p : Place} {s : Element} {t : Ty}
+      → Sub G (arrayOf s) t → TasksTyped G Γs (t ∷ us) ts → TasksTyped G Γs (plain int ∷ us) (makeArray p s ∷ ts)
   r-make-object : {Γs : List Context} {us : List Ty} {ts : List Task} {p : Place} {c : List ℕ} {k : Class} {t : Ty}
-      → classNamed G c ≡ some k → Sub G (class c) t → TasksTyped G Γs (t ∷ us) ts → TasksTyped G Γs us (makeObject p c ∷ ts)
+      → classNamed G c ≡ some k → Sub G (plain (class c)) t → TasksTyped G Γs (t ∷ us) ts → TasksTyped G Γs us (makeObject p c ∷ ts)
   -- qs: the types of the arguments that are done, last first
   r-invoke : {Γs : List Context} {us : List Ty} {ts : List Task} {p : Place} {m : List ℕ} {n : ℕ} {es : Part arguments} {c : List ℕ} {F : Found} {vs : List Variable} {t : Ty}
       (qs : List Ty) → HasMethod G c m F → HaveTypes G (now Γs) es vs → WordLiterals es → reverseAux qs (map typeOf vs) ≡ map typeOf (F .method .parameters)
-      → n ≡ length qs + arity es → Sub G (F .method .result .type) t → TasksTyped G Γs (t ∷ us) ts → TasksTyped G Γs (qs ++ class c ∷ us) (invoke p m n es ∷ ts)
+      → n ≡ length qs + arity es → Sub G (F .method .result .type) t → TasksTyped G Γs (t ∷ us) ts → TasksTyped G Γs (qs ++ plain (class c) ∷ us) (invoke p m n es ∷ ts)
   r-branch : {Γs : List Context} {us : List Ty} {ts : List Task} {s t : Statement}
-      → IsTyped G (now Γs) s → WordLiterals s → IsTyped G (now Γs) t → WordLiterals t → TasksTyped G Γs us ts → TasksTyped G Γs (boolean ∷ us) (branch s t ∷ ts)
+      → IsTyped G (now Γs) s → WordLiterals s → IsTyped G (now Γs) t → WordLiterals t → TasksTyped G Γs us ts → TasksTyped G Γs (plain boolean ∷ us) (branch s t ∷ ts)
   r-decide : {Γs : List Context} {us : List Ty} {ts : List Task} {e : Expression} {s : Statement}
-      → HasType G (now Γs) e boolean → WordLiterals e → IsTyped G (now Γs) s → WordLiterals s → TasksTyped G Γs us ts → TasksTyped G Γs (boolean ∷ us) (decide e s ∷ ts)
+      → HasType G (now Γs) e (plain boolean) → WordLiterals e → IsTyped G (now Γs) s → WordLiterals s → TasksTyped G Γs us ts
+      → TasksTyped G Γs (plain boolean ∷ us) (decide e s ∷ ts)
   r-again : {Γs : List Context} {us : List Ty} {ts : List Task} {e : Expression} {s : Statement}
-      → HasType G (now Γs) e boolean → WordLiterals e → IsTyped G (now Γs) s → WordLiterals s → TasksTyped G Γs us ts → TasksTyped G Γs us (again e s ∷ ts)
-  r-show : {Γs : List Context} {us : List Ty} {ts : List Task} {p : Place} → TasksTyped G Γs us ts → TasksTyped G Γs (int ∷ us) (show p ∷ ts)
+      → HasType G (now Γs) e (plain boolean) → WordLiterals e → IsTyped G (now Γs) s → WordLiterals s → TasksTyped G Γs us ts
+      → TasksTyped G Γs us (again e s ∷ ts)
+  r-show : {Γs : List Context} {us : List Ty} {ts : List Task} {p : Place} → TasksTyped G Γs us ts → TasksTyped G Γs (plain int ∷ us) (show p ∷ ts)
   r-store : {Γs : List Context} {us : List Ty} {ts : List Task} {x : List ℕ} {t : Ty}
       → HasName G (now Γs) x t → TasksTyped G Γs us ts → TasksTyped G Γs (t ∷ us) (store x ∷ ts)
-  r-new-element : {Γs : List Context} {us : List Ty} {ts : List Task} {p : Place} {e : Expression}
-      → HasType G (now Γs) e int → WordLiterals e → TasksTyped G Γs us ts → TasksTyped G Γs (int ∷ intArray ∷ us) (newElement p e ∷ ts)
-  r-store-element : {Γs : List Context} {us : List Ty} {ts : List Task} {p : Place}
-      → TasksTyped G Γs us ts → TasksTyped G Γs (int ∷ int ∷ intArray ∷ us) (storeElement p ∷ ts)
+  r-new-element : {Γs : List Context} {us : List Ty} {ts : List Task} {p : Place} {e : Expression} {s : Ty} {t : Element}
+      → HasType G (now Γs) e s → WordLiterals e → Sub G s (plain t) → TasksTyped G Γs us ts
+      → TasksTyped G Γs (plain int ∷ arrayOf t ∷ us) (newElement p e ∷ ts)
+  r-store-element : {Γs : List Context} {us : List Ty} {ts : List Task} {p : Place} {t : Element}
+      → TasksTyped G Γs us ts → TasksTyped G Γs (plain t ∷ plain int ∷ arrayOf t ∷ us) (storeElement p ∷ ts)
   r-continue : {Γs : List Context} {us : List Ty} {ts : List Task} {ss : Part statements}
       → AreTyped G (now Γs) ss → WordLiterals ss → TasksTyped G Γs us ts → TasksTyped G Γs us (continue ss ∷ ts)
   -- r: the type of the method's result

@@ -11,7 +11,7 @@ use lib.ListN.{length}
 use Rattle.base.specs.Choice.{if_then_else_, option}
 use Rattle.base.specs.Bytes.{same}
 use Rattle.base.specs.All.{All}
-use Rattle.parser.specs.Tree.{Name, Ty.class, Class}
+use Rattle.parser.specs.Tree.{Name, Element.class, Class}
 use Rattle.typesystem.specs.ClassTable.{classNamed, chainWithin, chain, endsWithin, known}
 use Rattle.typesystem.specs.TypingRules.{Extends, extends, Ends, ends-here, ends-above, className}
 use Rattle.base.specs.laws.Tests.{same-equal, apart-same}

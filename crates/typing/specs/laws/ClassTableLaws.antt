@@ -8,8 +8,8 @@ use mathlib.Core.Bool.{true}
 use mathlib.Core.Option.{Option, none, some}
 use Rattle.base.specs.All.{All, all-nil}
 use Rattle.base.specs.laws.Lists.{all-at, all-append}
-use Rattle.parser.specs.Tree.{Operator, Expression, Ty, Ty.class, Variable, Method, Class}
-use Rattle.typesystem.specs.ClassTable.{Slot, Found, Context, contextOf, classNamed, methodNamed, chain, known, layout, fieldsOf}
+use Rattle.parser.specs.Tree.{Operator, Expression, Element.class, Ty, Ty.plain, Variable, Method, Class}
+use Rattle.typesystem.specs.ClassTable.{Slot, Found, Context, contextOf, classNamed, methodNamed, chain, underlying, known, layout, fieldsOf}
 use Rattle.typesystem.specs.TypingRules.{Extends, extends, sub-same, sub-trans, HasMethod, own-method, inherited-method, HasField, own-field, inherited-field, HasName, of-variable, of-field, HasType, Known, Redeclares, MethodTyped, ClassTyped, methodName, className}
 use Rattle.typesystem.specs.TypingRules.{t-literal, t-truth, t-variable, t-this, t-new-array, t-new-object, t-negation, t-binary, t-element, t-length, t-call}
 use Rattle.typing.specs.laws.Operations.{Operates, conjoins, compares, adds, subtracts, multiplies, operates}
@@ -140,10 +140,10 @@ pub record ContextKnown (G : List Class) (Γ : Context) : Type 0 where
   pub variables : All (Known G) (Γ .variables)
   pub owner : (c : List ℕ) → Γ .owner ≡ some c → known G (class c) ≡ true
 
-stands-known : (G : List Class) {vs : List Variable} {s : Slot} → All (Known G) vs → StandsAt vs s → known G (s .type) ≡ true
+stands-known : (G : List Class) {vs : List Variable} {s : Slot} → All (Known G) vs → StandsAt vs s → known G (underlying (s .type)) ≡ true
 stands-known G {s = s} h w = rw (← w .has) (all-at (s .place) h (w .at))
 
-result-known : (G : List Class) {o : Operator} {s t : Ty} → Operates o s t → known G t ≡ true
+result-known : (G : List Class) {o : Operator} {s t : Ty} → Operates o s t → known G (underlying t) ≡ true
 unfolding known
 result-known G conjoins = refl
 result-known G compares = refl
@@ -162,26 +162,26 @@ module _ {G : List Class} (T : All (ClassTyped G) G) where
   unfolding fieldsOf
   fields-known c = layout-known (chain-is (table-acyclic T) c)
 
-  pub field-known : {c x : List ℕ} {t : Ty} → HasField G c x t → known G t ≡ true
+  pub field-known : {c x : List ℕ} {t : Ty} → HasField G c x t → known G (underlying t) ≡ true
   field-known {c} {x} (own-field {k = k} e f q) = rw (← q) (stands-known G (all-classes c T e .fields-known) (variable-stands (k .fields) x f))
   field-known (inherited-field e f y h) = field-known h
 
-  pub name-known : {Γ : Context} {x : List ℕ} {t : Ty} → ContextKnown G Γ → HasName G Γ x t → known G t ≡ true
+  pub name-known : {Γ : Context} {x : List ℕ} {t : Ty} → ContextKnown G Γ → HasName G Γ x t → known G (underlying t) ≡ true
   name-known {Γ} {x} C (of-variable e q) = rw (← q) (stands-known G (C .variables) (variable-stands (Γ .variables) x e))
   name-known C (of-field e o h) = field-known h
 
   -- an expression's type is known
-  pub type-known : {Γ : Context} {e : Expression} {t : Ty} → ContextKnown G Γ → HasType G Γ e t → known G t ≡ true
+  pub type-known : {Γ : Context} {e : Expression} {t : Ty} → ContextKnown G Γ → HasType G Γ e t → known G (underlying t) ≡ true
   unfolding known
   type-known C t-literal = refl
   type-known C t-truth = refl
   type-known C (t-variable h) = name-known C h
   type-known C (t-this {c = c} o) = C .owner c o
-  type-known C (t-new-array h) = refl
+  type-known C (t-new-array q k h) = k
   type-known C (t-new-object q k) = k
   type-known C (t-negation h) = refl
   type-known C (t-binary {o = o} {s = s} h q k) = result-known G (operates o s q)
-  type-known C (t-element h k) = refl
+  type-known C (t-element h k) = type-known C h
   type-known C (t-length h) = refl
   type-known C (t-call h m hs q) = rw (← q) (method-declares T m .typed .result-known)
 

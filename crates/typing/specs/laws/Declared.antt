@@ -15,7 +15,7 @@ use Rattle.base.specs.Outcome.{Outcome, accepted, refused, _>>=_}
 use Rattle.base.specs.All.{All, all-nil, all-cons}
 use Rattle.base.specs.laws.Lists.{all-append}
 use Rattle.parser.specs.Tree.{Variable, Method, Class}
-use Rattle.typesystem.specs.ClassTable.{Found, contextOf, chain, sameType, known, fits, nearestMethod, occurs, textOf}
+use Rattle.typesystem.specs.ClassTable.{Found, contextOf, chain, sameType, underlying, known, fits, nearestMethod, occurs, textOf}
 use Rattle.typesystem.specs.Judge.{judge, must}
 use Rattle.typesystem.specs.Declarations.{knownType, fields, variables, sameTypes, redeclares, redeclaration, newMethod, heads}
 use Rattle.typesystem.specs.Check.{body}
@@ -38,7 +38,7 @@ module _ (G : List Class) where
   new-variable earlier v n x h =
       let k = bound (knownType G (v .type)) _ h in
       let o = failed (occurs (textOf v) earlier) _ _ x (k .2) in
-      (passed (known G (v .type .type)) _ _ _ (k .1) .0, o .0, o .1)
+      (passed (known G (underlying (v .type .type))) _ _ _ (k .1) .0, o .0, o .1)
 
   pub fields-sound : (earlier : List (List ℕ)) (vs : List Variable) → fields G earlier vs ≡ accepted tt → All (Known G) vs × Fresh earlier (map textOf vs)
   unfolding fields
@@ -93,7 +93,7 @@ types-complete (v ∷ vs) (w ∷ ws) h =
 
 -- the clauses of a method's rule that its head decides
 pub record HeadTyped (G : List Class) (c : List ℕ) (m : Method) : Type 0 where
-  pub result-known : known G (m .result .type) ≡ true
+  pub result-known : known G (underlying (m .result .type)) ≡ true
   pub parameters-known : All (Known G) (m .parameters)
   pub distinct : Distinct (map textOf (m .parameters))
   pub few : length (m .parameters) ≤ variablesMost
@@ -147,7 +147,7 @@ module _ {G : List Class} (A : Acyclic G) where
       let w = heads-sound k (methodName m ∷ earlier) ms (d .2) in
       let v = variables-sound G [] (m .parameters) (omega arith) (c .1) in (
         all-cons (record {
-          result-known = passed (known G (m .result .type)) _ _ _ (a .1) .0;
+          result-known = passed (known G (underlying (m .result .type))) _ _ _ (a .1) .0;
           parameters-known = v .0;
           distinct = fresh-distinct (v .1) .0;
           few = omega (arith, v .2);

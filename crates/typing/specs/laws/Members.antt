@@ -10,11 +10,11 @@ use lib.ListN.{length, getElem?}
 use Rattle.base.specs.Choice.{option}
 use Rattle.base.specs.Bytes.{same}
 use Rattle.base.specs.laws.Lists.{get-append, get-append-right}
-use Rattle.parser.specs.Tree.{Ty, Ty.int, Ty.boolean, Ty.intArray, Ty.class, Variable, Class}
-use Rattle.typesystem.specs.ClassTable.{Slot, Found, Context, Meaning, Meaning.ofRow, Meaning.ofObject, moved, classNamed, methodNamed, variableNamed, chain, sameType, among, onChain, fits, layout, fieldsOf, nearestField, nearestMethod, methodOf, meaning, meaningType}
+use Rattle.parser.specs.Tree.{Element, Element.int, Element.boolean, Element.class, Ty, Ty.plain, Ty.arrayOf, Variable, Class}
+use Rattle.typesystem.specs.ClassTable.{Slot, Found, Context, Meaning, Meaning.ofRow, Meaning.ofObject, moved, classNamed, methodNamed, variableNamed, chain, sameElement, among, onChain, fits, layout, fieldsOf, nearestField, nearestMethod, methodOf, meaning, meaningType}
 use Rattle.typesystem.specs.TypingRules.{Extends, extends, Sub, sub-same, sub-extends, sub-trans, Ends, HasMethod, own-method, inherited-method, HasField, own-field, inherited-field, HasName, of-variable, of-field, typeOf, className}
 use Rattle.base.specs.laws.Tests.{or-either, same-equal, same-of}
-use Rattle.typing.specs.laws.Tests.{sameType-equal, sameType-refl}
+use Rattle.typing.specs.laws.Tests.{sameElement-equal, sameElement-refl}
 use Rattle.typing.specs.laws.Choices.{taken, held, none-some}
 use Rattle.typing.specs.laws.Chains.{class-name, ends-known, ends-up, Acyclic, Chain, chain-none, chain-top, chain-more, chain-is, chain-head, chain-tail}
 
@@ -32,7 +32,7 @@ up-trans (up-more x p) q = up-more x (up-trans p q)
 -- a subtype is the type itself or a class below a class
 pub data Fit (G : List Class) : Ty → Ty → Type 0 where
   fit-same : {t : Ty} → Fit G t t
-  fit-up : {c d : List ℕ} → Up G c d → Fit G (class c) (class d)
+  fit-up : {c d : List ℕ} → Up G c d → Fit G (plain (class c)) (plain (class d))
 
 fit-trans : {G : List Class} {s t u : Ty} → Fit G s t → Fit G t u → Fit G s u
 fit-trans fit-same q = q
@@ -44,24 +44,24 @@ sub-fit sub-same = fit-same
 sub-fit (sub-extends x) = fit-up (up-more x up-here)
 sub-fit (sub-trans p q) = fit-trans (sub-fit p) (sub-fit q)
 
-pub up-sub : {G : List Class} {c d : List ℕ} → Up G c d → Sub G (class c) (class d)
+pub up-sub : {G : List Class} {c d : List ℕ} → Up G c d → Sub G (plain (class c)) (plain (class d))
 up-sub up-here = sub-same
 up-sub (up-more x p) = sub-trans (sub-extends x) (up-sub p)
 
 -- a type that is no class
-abbrev pub Plain : Ty → Type 0
-Plain int = Unit {0}
-Plain boolean = Unit {0}
-Plain intArray = Unit {0}
-Plain (class c) = ⊥
+abbrev pub Exact : Ty → Type 0
+Exact (plain int) = Unit {0}
+Exact (plain boolean) = Unit {0}
+Exact (plain (class c)) = ⊥
+Exact (arrayOf t) = Unit {0}
 
-fit-plain : {G : List Class} {s t : Ty} → Fit G s t → Plain t → s ≡ t
-fit-plain fit-same p = refl
-fit-plain (fit-up u) p = absurd p
+fit-exact : {G : List Class} {s t : Ty} → Fit G s t → Exact t → s ≡ t
+fit-exact fit-same p = refl
+fit-exact (fit-up u) p = absurd p
 
 -- nothing but itself fits it
-pub sub-plain : {G : List Class} {s t : Ty} → Plain t → Sub G s t → s ≡ t
-sub-plain p h = fit-plain (sub-fit h) p
+pub sub-exact : {G : List Class} {s t : Ty} → Exact t → Sub G s t → s ≡ t
+sub-exact p h = fit-exact (sub-fit h) p
 
 named-up : {G : List Class} {c d : List ℕ} {k : Class} → classNamed G c ≡ some k → same (className k) d ≡ true → Up G c d
 named-up {G} {c} {d} {k} e s = subst (Up G c) (sym (class-name G c e) ∙ same-equal (className k) d s) up-here
@@ -83,30 +83,33 @@ up-among {c} {d} n (up-more (extends e p q) u) t =
     let l = chain-tail t e (extends e p q) in
     rw (l .1, up-among (ends-up n (extends e p q)) u (l .2), or-true)
 
-along-sub : {G : List Class} → Acyclic G → (s t : Ty) → onChain G s t ≡ true → Sub G s t
+along-sub : {G : List Class} → Acyclic G → (s t : Element) → onChain G s t ≡ true → Sub G (plain s) (plain t)
 unfolding onChain
 along-sub A int t h = absurd (false≢true h)
 along-sub A boolean t h = absurd (false≢true h)
-along-sub A intArray t h = absurd (false≢true h)
 along-sub A (class c) int h = absurd (false≢true h)
 along-sub A (class c) boolean h = absurd (false≢true h)
-along-sub A (class c) intArray h = absurd (false≢true h)
 along-sub A (class c) (class d) h = up-sub (among-up d (chain-is A c) h)
 
 pub fits-sub : {G : List Class} → Acyclic G → (s t : Ty) → fits G s t ≡ true → Sub G s t
 unfolding fits
-fits-sub {G} A s t h =
-    elim (or-either (sameType s t) (onChain G s t) h) [ inl e ↦ subst (Sub G s) (sameType-equal s t e) sub-same | inr e ↦ along-sub A s t e ]
+fits-sub {G} A (plain s) (plain t) h =
+    elim (or-either (sameElement s t) (onChain G s t) h)
+    [ inl e ↦ subst (λ u. Sub G (plain s) (plain u)) (sameElement-equal s t e) sub-same | inr e ↦ along-sub A s t e ]
+fits-sub A (plain s) (arrayOf t) h = absurd (false≢true h)
+fits-sub A (arrayOf s) (plain t) h = absurd (false≢true h)
+fits-sub {G} A (arrayOf s) (arrayOf t) h = subst (λ u. Sub G (arrayOf s) (arrayOf u)) (sameElement-equal s t h) sub-same
 
 -- a type fits itself
 pub fits-refl : (G : List Class) (t : Ty) → fits G t t ≡ true
 unfolding fits
-fits-refl G t = rw (sameType-refl t)
+fits-refl G (plain t) = rw (sameElement-refl t)
+fits-refl G (arrayOf t) = sameElement-refl t
 
 fit-fits : {G : List Class} {s t : Ty} → Acyclic G → Fit G s t → fits G s t ≡ true
 unfolding fits onChain
 fit-fits {G} A (fit-same {t = t}) = fits-refl G t
-fit-fits {G} A (fit-up {c = c} up-here) = fits-refl G (class c)
+fit-fits {G} A (fit-up {c = c} up-here) = fits-refl G (plain (class c))
 fit-fits A (fit-up {c = c} (up-more (extends e p q) u)) = rw (up-among (A .ends c e) (up-more (extends e p q) u) (chain-is A c), or-true)
 
 pub sub-fits : {G : List Class} {s t : Ty} → Acyclic G → Sub G s t → fits G s t ≡ true

@@ -10,7 +10,7 @@ use Rattle.base.specs.Outcome.{Outcome, accepted, refused, _>>=_}
 use Rattle.base.specs.All.{All, all-nil, all-cons, FirstNot, first-here, first-later}
 use Rattle.base.specs.laws.Lists.{all-weaken}
 use Rattle.base.specs.Codes.{chainEndless}
-use Rattle.parser.specs.Tree.{Name, Ty.class, Method, Class, Program}
+use Rattle.parser.specs.Tree.{Name, Element.class, Method, Class, Program}
 use Rattle.typesystem.specs.ClassTable.{mainContext, classNamed, endsWithin, known, occurs, textOf}
 use Rattle.typesystem.specs.Judge.{judge}
 use Rattle.typesystem.specs.Declarations.{distinctClasses, knownParent, knownParents, endingChains, fields, heads, declarations}

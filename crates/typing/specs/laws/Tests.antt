@@ -2,34 +2,38 @@
 use mathlib.Core.Path.{_≡_, refl, sym, ap, _∙_}
 use mathlib.Core.Bool.{true, false, false≢true}
 use Rattle.base.specs.laws.Tests.{not-true, same-refl, same-equal}
-use Rattle.parser.specs.Tree.{Ty, Ty.int, Ty.boolean, Ty.intArray, Ty.class}
-use Rattle.typesystem.specs.ClassTable.{sameType}
+use Rattle.parser.specs.Tree.{Element, Element.int, Element.boolean, Element.class, Ty, Ty.plain, Ty.arrayOf}
+use Rattle.typesystem.specs.ClassTable.{sameElement, sameType}
+
+pub sameElement-refl : (t : Element) → sameElement t t ≡ true
+unfolding sameElement
+sameElement-refl int = refl
+sameElement-refl boolean = refl
+sameElement-refl (class c) = same-refl c
+
+pub sameElement-equal : (s t : Element) → sameElement s t ≡ true → s ≡ t
+unfolding sameElement
+sameElement-equal int int e = refl
+sameElement-equal int boolean e = absurd (false≢true e)
+sameElement-equal int (class d) e = absurd (false≢true e)
+sameElement-equal boolean int e = absurd (false≢true e)
+sameElement-equal boolean boolean e = refl
+sameElement-equal boolean (class d) e = absurd (false≢true e)
+sameElement-equal (class c) int e = absurd (false≢true e)
+sameElement-equal (class c) boolean e = absurd (false≢true e)
+sameElement-equal (class c) (class d) e = ap class (same-equal c d e)
 
 pub sameType-refl : (t : Ty) → sameType t t ≡ true
 unfolding sameType
-sameType-refl int = refl
-sameType-refl boolean = refl
-sameType-refl intArray = refl
-sameType-refl (class c) = same-refl c
+sameType-refl (plain t) = sameElement-refl t
+sameType-refl (arrayOf t) = sameElement-refl t
 
 pub sameType-equal : (s t : Ty) → sameType s t ≡ true → s ≡ t
 unfolding sameType
-sameType-equal int int e = refl
-sameType-equal int boolean e = absurd (false≢true e)
-sameType-equal int intArray e = absurd (false≢true e)
-sameType-equal int (class d) e = absurd (false≢true e)
-sameType-equal boolean int e = absurd (false≢true e)
-sameType-equal boolean boolean e = refl
-sameType-equal boolean intArray e = absurd (false≢true e)
-sameType-equal boolean (class d) e = absurd (false≢true e)
-sameType-equal intArray int e = absurd (false≢true e)
-sameType-equal intArray boolean e = absurd (false≢true e)
-sameType-equal intArray intArray e = refl
-sameType-equal intArray (class d) e = absurd (false≢true e)
-sameType-equal (class c) int e = absurd (false≢true e)
-sameType-equal (class c) boolean e = absurd (false≢true e)
-sameType-equal (class c) intArray e = absurd (false≢true e)
-sameType-equal (class c) (class d) e = ap class (same-equal c d e)
+sameType-equal (plain s) (plain t) e = ap plain (sameElement-equal s t e)
+sameType-equal (plain s) (arrayOf t) e = absurd (false≢true e)
+sameType-equal (arrayOf s) (plain t) e = absurd (false≢true e)
+sameType-equal (arrayOf s) (arrayOf t) e = ap arrayOf (sameElement-equal s t e)
 
 pub sameType-of : {s t : Ty} → s ≡ t → sameType s t ≡ true
 sameType-of {s} e = rw (← e) (sameType-refl s)

@@ -1,5 +1,5 @@
 -- What the writer's functions ensure, whatever the tree is that the table holds, in whatever context.
-use Prim.Native.Nat.{ℕ, suc, _≤_, _<_}
+use Prim.Native.Nat.{ℕ, suc, _+_, _≤_, _<_}
 use mathlib.Core.Path.{_≡_}
 use mathlib.Core.List.{List, _∷_}
 use lib.ListN.{length}
@@ -15,11 +15,12 @@ use Rattle.parser.specs.Tree.{Part.literal, Part.truth, Part.variable, Part.thi
 use Rattle.parser.specs.Tree.{Part.element, Part.arrayLength, Part.call}
 use Rattle.parser.specs.Tree.{Part.block, Part.conditional, Part.loop, Part.print, Part.assign, Part.assignElement}
 use Rattle.parser.specs.Measure.{nodes}
+use Rattle.parser.specs.contracts.Post.{kindInTable}
 use Rattle.reader.specs.contracts.WalkPost.{Walkable}
 use Rattle.typesystem.specs.ClassTable.{Context, meaning}
 use Rattle.typesystem.specs.Judge.{arity}
 use Rattle.lookup.specs.contracts.HeldClasses.{wordAt, NameNumber}
-use Rattle.lookup.specs.contracts.Shows.{PartAt, Form, aConditional, aLoop, Shows, ShowsS}
+use Rattle.lookup.specs.contracts.Shows.{PartAt, Form, aConditional, aLoop, formCompound, Shows, ShowsS}
 use Rattle.semantics.specs.Machine.{number, flag, isAnd}
 use Rattle.writer.specs.declared.scope.Scope.{Scope}
 use Rattle.codegen.specs.contracts.Code as Code
@@ -66,7 +67,7 @@ module _ (G : List Class) (Γ : Context) where
   innerE (truth p b) i k = push (flag b) ∷ k
   innerE (variable p x) i k = load (meaning G Γ x) ∷ k
   innerE (this p) i k = self ∷ k
-  innerE (newArray p e) i k = emit G Γ e i (makeArray p ∷ k)
+  innerE (newArray p u e) i k = emit G Γ e i (makeArray p (u .element) ∷ k)
   innerE (newObject p c) i k = makeObject p (c .text) (cellsOf G (c .text)) ∷ k
   innerE (negation p e) i k = emit G Γ e i (negate ∷ k)
   innerE (binary p o l r) i k = emit G Γ l i (emitBinary (isAnd o) o (end l i) (end r) (emit G Γ r) k)
@@ -92,7 +93,7 @@ endE (literal p n) i = suc i
 endE (truth p b) i = suc i
 endE (variable p x) i = suc i
 endE (this p) i = suc i
-endE (newArray p e) i = suc (end e i)
+endE (newArray p u e) i = suc (end e i)
 endE (newObject p c) i = suc i
 endE (negation p e) i = suc (end e i)
 endE (binary p o l r) i = endBinary (isAnd o) (end l i) (end r)
@@ -141,6 +142,11 @@ module _ (tab names : List ℕ) (s : Scope) where
   pub record ExpressionPost (F : Form) (left row at : ℕ) (c c′ : List ℕ) (r : ℕ) : Type 0 where
     pub within : r ≤ room
     pub says : Says F left row at c c′ r
+
+  -- an expression of more than one token, of which its own is of kind k
+  abbrev pub CompoundPost : (k left row at : ℕ) (c c′ : List ℕ) (r : ℕ) → Type 0
+  CompoundPost k left row at c c′ r =
+      ExpressionPost (formCompound k (kindInTable tab (s .tokens) (row + 1)) (kindInTable tab (s .tokens) (row + 2))) left row at c c′ r
 
   abbrev pub SaysS : (F : Form) (left row at : ℕ) (c c′ : List ℕ) (r : ℕ) → Type 0
   SaysS F left row at c c′ r =

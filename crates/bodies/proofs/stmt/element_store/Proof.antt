@@ -2,7 +2,7 @@
 use borrow.Author.Needs.{needs}
 use Rattle.bodies.proofs.stmt.element_store.Statement.{statement}
 use Rattle.bodies.proofs.stmt.element_store.Tie as tie
-use Rattle.bodies.proofs.StatementLaws.{element-refused, element-value, element-wrong}
+use Rattle.bodies.proofs.StatementLaws.{element-wrong, element-value, element-refused}
 
 name-requires : tie.Need-name-requires
 name-requires c κs = search needs
@@ -10,23 +10,20 @@ name-requires c κs = search needs
 enum-known-x : tie.Need-enum-known-x
 enum-known-x c = search needs
 
-fits-requires : tie.Need-fits-requires
-fits-requires c κs = search needs
+word-requires : tie.Need-word-requires
+word-requires c κs = search needs
+
+returns : tie.Need-returns
+returns c = search element-wrong
 
 index-and-value-requires : tie.Need-index-and-value-requires
 index-and-value-requires c κs = search needs
-
-returns : tie.Need-returns
-returns c = search element-value
-
-word-requires : tie.Need-word-requires
-word-requires c κs = search needs
 
 enum-known-x-2 : tie.Need-enum-known-x-2
 enum-known-x-2 c = search needs
 
 returns-2 : tie.Need-returns-2
-returns-2 c = search element-wrong
+returns-2 c = search element-value
 
 returns-3 : tie.Need-returns-3
 returns-3 c = search element-refused
@@ -37,10 +34,9 @@ element-store-spec =
     (tie.spec
     name-requires
     enum-known-x
-    fits-requires
-    index-and-value-requires
-    returns
     word-requires
+    returns
+    index-and-value-requires
     enum-known-x-2
     returns-2
     returns-3)

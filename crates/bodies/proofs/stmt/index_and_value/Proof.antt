@@ -2,7 +2,7 @@
 use borrow.Author.Needs.{needs}
 use Rattle.bodies.proofs.stmt.index_and_value.Statement.{statement}
 use Rattle.bodies.proofs.stmt.index_and_value.Tie as tie
-use Rattle.bodies.proofs.StatementLaws.{value-first, value-second}
+use Rattle.bodies.proofs.StatementLaws.{value-second, value-first}
 
 word-requires : tie.Need-word-requires
 word-requires c κs = search needs

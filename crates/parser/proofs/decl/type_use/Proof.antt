@@ -1,11 +1,14 @@
 -- `type_use` meets its contract: each return is a law of `Variables`.
-use Rattle.parser.proofs.Variables.{type-array, type-open, type-int, type-boolean, type-class, type-none}
+use Rattle.parser.proofs.Variables.{type-array, type-open, type-plain, type-none}
 use borrow.Author.Needs.{needs}
 use Rattle.parser.proofs.decl.type_use.Statement.{statement}
 use Rattle.parser.proofs.decl.type_use.Tie as tie
 
 kind-requires : tie.Need-kind-requires
 kind-requires c κs = search needs
+
+begins-type-requires : tie.Need-begins-type-requires
+begins-type-requires c κs = search needs
 
 add-kind : tie.Need-add-kind
 add-kind c = search needs
@@ -35,31 +38,17 @@ add-t7 : tie.Need-add-t7
 add-t7 c = search needs
 
 returns-3 : tie.Need-returns-3
-returns-3 c = search type-int
-
-add-t13 : tie.Need-add-t13
-add-t13 c = search needs
+returns-3 c = search type-plain
 
 returns-4 : tie.Need-returns-4
-returns-4 c = search type-boolean
-
-is-name-requires : tie.Need-is-name-requires
-is-name-requires c κs = search needs
-
-add-t15 : tie.Need-add-t15
-add-t15 c = search needs
-
-returns-5 : tie.Need-returns-5
-returns-5 c = search type-class
-
-returns-6 : tie.Need-returns-6
-returns-6 c = search type-none
+returns-4 c = search type-none
 
 pub type-use-spec : {M : Type 1} → statement M
 type-use-spec =
     tie.close
     (tie.spec
     kind-requires
+    begins-type-requires
     add-kind
     kind-requires-2
     add-kind-2
@@ -70,9 +59,4 @@ type-use-spec =
     returns-2
     add-t7
     returns-3
-    add-t13
-    returns-4
-    is-name-requires
-    add-t15
-    returns-5
-    returns-6)
+    returns-4)

@@ -1,5 +1,5 @@
--- `starts_array` meets its contract: where the first test fails the second does not count.
-use Rattle.parser.proofs.Postfix.{new-int, no-new}
+-- `starts_array` meets its contract: where the first test fails the others do not count.
+use Rattle.parser.proofs.Postfix.{after-new, no-new}
 use borrow.Author.Needs.{needs}
 use Rattle.parser.proofs.expr.starts_array.Statement.{statement}
 use Rattle.parser.proofs.expr.starts_array.Tie as tie
@@ -13,11 +13,30 @@ add-kind c = search needs
 kind-requires-2 : tie.Need-kind-requires-2
 kind-requires-2 c κs = search needs
 
+add-kind-2 : tie.Need-add-kind-2
+add-kind-2 c = search needs
+
+kind-requires-3 : tie.Need-kind-requires-3
+kind-requires-3 c κs = search needs
+
+begins-type-requires : tie.Need-begins-type-requires
+begins-type-requires c κs = search needs
+
 returns : tie.Need-returns
-returns c = new-int (c .before .before .before .before .args .table .now) (c .before .before .before .before .args .n) (c .before .before .before .before .args .i) _ (c .before .before .kind .ensures) _ (c .before .if1 .taken) (c .kind2 .ensures)
+returns c = search after-new
 
 returns-2 : tie.Need-returns-2
-returns-2 c = no-new (c .before .before .before .args .table .now) (c .before .before .before .args .n) (c .before .before .before .args .i) _ (c .before .kind .ensures) (c .if1 .left)
+returns-2 c = search no-new
 
 pub starts-array-spec : {M : Type 1} → statement M
-starts-array-spec = tie.close (tie.spec kind-requires add-kind kind-requires-2 returns returns-2)
+starts-array-spec =
+    tie.close
+    (tie.spec
+    kind-requires
+    add-kind
+    kind-requires-2
+    add-kind-2
+    kind-requires-3
+    begins-type-requires
+    returns
+    returns-2)

@@ -1,10 +1,5 @@
 -- The cycle of calls on expressions. The measure is 5 for each node that may still come, and the rank of the function. Each return is a
 -- law of `ExpressionLaws`.
-use Rattle.writer.proofs.ExpressionLaws.{expression-none, expression-atom, expression-compound, compound-array, compound-object}
-use Rattle.writer.proofs.ExpressionLaws.{compound-length, compound-call, compound-not, compound-element, compound-binary}
-use Rattle.writer.proofs.ExpressionLaws.{binary-and, binary-operation, followed-wrote, located-wrote, pair-wrote, conjunction-wrote}
-use Rattle.writer.proofs.ExpressionLaws.{call-wrote, arguments-none, arguments-end, arguments-more}
-use borrow.Author.Needs.{needs}
 use Prim.Native.Nat.{ℕ, _<_}
 use borrow.Fn.Kinds.{In}
 use borrow.Fn.PlainCycle.{Measures, is, falls, and}
@@ -46,10 +41,39 @@ use Rattle.writer.proofs.expr.creation.Reads as creation-reads
 use Rattle.writer.proofs.expr.mark.Reads as mark-reads
 use Rattle.writer.proofs.expr.+arguments+binary+call+compound+conjunction+expression+followed+located+pair.{statement}
 use Rattle.writer.proofs.expr.+arguments+binary+call+compound+conjunction+expression+followed+located+pair.Tie.{close}
+use Rattle.writer.proofs.ExpressionLaws.{expression-none, expression-atom, expression-compound, compound-array, compound-object}
+use Rattle.writer.proofs.ExpressionLaws.{compound-length, compound-call, compound-not, compound-element, compound-binary}
+use Rattle.writer.proofs.ExpressionLaws.{binary-and, binary-operation, followed-wrote, located-wrote, pair-wrote, conjunction-wrote}
+use Rattle.writer.proofs.ExpressionLaws.{call-wrote, arguments-none, arguments-end, arguments-more}
+use borrow.Author.Needs.{needs}
 use Prim.Native.Nat.{_+_, _*_}
 
 abbrev μ-arguments : Measures 3 arguments-kinds.ps ℕ
 μ-arguments κs a = 5 * a .1 .1 .1 .1 .0 + 1
+
+abbrev μ-binary : Measures 3 binary-kinds.ps ℕ
+μ-binary κs a = 5 * a .1 .1 .1 .1 .0 + 3
+
+abbrev μ-call : Measures 3 call-kinds.ps ℕ
+μ-call κs a = 5 * a .1 .1 .1 .1 .0 + 2
+
+abbrev μ-compound : Measures 3 compound-kinds.ps ℕ
+μ-compound κs a = 5 * a .1 .1 .1 .1 .1 .0 + 4
+
+abbrev μ-conjunction : Measures 3 conjunction-kinds.ps ℕ
+μ-conjunction κs a = 5 * a .1 .1 .1 .1 .0 + 1
+
+abbrev μ-expression : Measures 3 expression-kinds.ps ℕ
+μ-expression κs a = 5 * a .1 .1 .1 .1 .0 + 0
+
+abbrev μ-followed : Measures 3 followed-kinds.ps ℕ
+μ-followed κs a = 5 * a .1 .1 .1 .1 .1 .1 .0 + 1
+
+abbrev μ-located : Measures 3 located-kinds.ps ℕ
+μ-located κs a = 5 * a .1 .1 .1 .1 .1 .0 + 2
+
+abbrev μ-pair : Measures 3 pair-kinds.ps ℕ
+μ-pair κs a = 5 * a .1 .1 .1 .1 .1 .1 .0 + 2
 
 abbrev arguments-at : ℕ → In 3 arguments-kinds.ps
 arguments-at t = and 3 arguments-kinds.ps (is 3 arguments-kinds.ps μ-arguments t) arguments.Pre
@@ -57,17 +81,11 @@ arguments-at t = and 3 arguments-kinds.ps (is 3 arguments-kinds.ps μ-arguments 
 abbrev arguments-below : ℕ → In 3 arguments-kinds.ps
 arguments-below t = and 3 arguments-kinds.ps (falls 3 arguments-kinds.ps _<_ μ-arguments t) arguments.Pre
 
-abbrev μ-binary : Measures 3 binary-kinds.ps ℕ
-μ-binary κs a = 5 * a .1 .1 .1 .1 .0 + 3
-
 abbrev binary-at : ℕ → In 3 binary-kinds.ps
 binary-at t = and 3 binary-kinds.ps (is 3 binary-kinds.ps μ-binary t) binary.Pre
 
 abbrev binary-below : ℕ → In 3 binary-kinds.ps
 binary-below t = and 3 binary-kinds.ps (falls 3 binary-kinds.ps _<_ μ-binary t) binary.Pre
-
-abbrev μ-call : Measures 3 call-kinds.ps ℕ
-μ-call κs a = 5 * a .1 .1 .1 .1 .0 + 2
 
 abbrev call-at : ℕ → In 3 call-kinds.ps
 call-at t = and 3 call-kinds.ps (is 3 call-kinds.ps μ-call t) call.Pre
@@ -75,17 +93,11 @@ call-at t = and 3 call-kinds.ps (is 3 call-kinds.ps μ-call t) call.Pre
 abbrev call-below : ℕ → In 3 call-kinds.ps
 call-below t = and 3 call-kinds.ps (falls 3 call-kinds.ps _<_ μ-call t) call.Pre
 
-abbrev μ-compound : Measures 3 compound-kinds.ps ℕ
-μ-compound κs a = 5 * a .1 .1 .1 .1 .1 .1 .0 + 4
-
 abbrev compound-at : ℕ → In 3 compound-kinds.ps
 compound-at t = and 3 compound-kinds.ps (is 3 compound-kinds.ps μ-compound t) compound.Pre
 
 abbrev compound-below : ℕ → In 3 compound-kinds.ps
 compound-below t = and 3 compound-kinds.ps (falls 3 compound-kinds.ps _<_ μ-compound t) compound.Pre
-
-abbrev μ-conjunction : Measures 3 conjunction-kinds.ps ℕ
-μ-conjunction κs a = 5 * a .1 .1 .1 .1 .0 + 1
 
 abbrev conjunction-at : ℕ → In 3 conjunction-kinds.ps
 conjunction-at t = and 3 conjunction-kinds.ps (is 3 conjunction-kinds.ps μ-conjunction t) conjunction.Pre
@@ -93,17 +105,11 @@ conjunction-at t = and 3 conjunction-kinds.ps (is 3 conjunction-kinds.ps μ-conj
 abbrev conjunction-below : ℕ → In 3 conjunction-kinds.ps
 conjunction-below t = and 3 conjunction-kinds.ps (falls 3 conjunction-kinds.ps _<_ μ-conjunction t) conjunction.Pre
 
-abbrev μ-expression : Measures 3 expression-kinds.ps ℕ
-μ-expression κs a = 5 * a .1 .1 .1 .1 .0 + 0
-
 abbrev expression-at : ℕ → In 3 expression-kinds.ps
 expression-at t = and 3 expression-kinds.ps (is 3 expression-kinds.ps μ-expression t) expression.Pre
 
 abbrev expression-below : ℕ → In 3 expression-kinds.ps
 expression-below t = and 3 expression-kinds.ps (falls 3 expression-kinds.ps _<_ μ-expression t) expression.Pre
-
-abbrev μ-followed : Measures 3 followed-kinds.ps ℕ
-μ-followed κs a = 5 * a .1 .1 .1 .1 .1 .1 .0 + 1
 
 abbrev followed-at : ℕ → In 3 followed-kinds.ps
 followed-at t = and 3 followed-kinds.ps (is 3 followed-kinds.ps μ-followed t) followed.Pre
@@ -111,17 +117,11 @@ followed-at t = and 3 followed-kinds.ps (is 3 followed-kinds.ps μ-followed t) f
 abbrev followed-below : ℕ → In 3 followed-kinds.ps
 followed-below t = and 3 followed-kinds.ps (falls 3 followed-kinds.ps _<_ μ-followed t) followed.Pre
 
-abbrev μ-located : Measures 3 located-kinds.ps ℕ
-μ-located κs a = 5 * a .1 .1 .1 .1 .1 .0 + 2
-
 abbrev located-at : ℕ → In 3 located-kinds.ps
 located-at t = and 3 located-kinds.ps (is 3 located-kinds.ps μ-located t) located.Pre
 
 abbrev located-below : ℕ → In 3 located-kinds.ps
 located-below t = and 3 located-kinds.ps (falls 3 located-kinds.ps _<_ μ-located t) located.Pre
-
-abbrev μ-pair : Measures 3 pair-kinds.ps ℕ
-μ-pair κs a = 5 * a .1 .1 .1 .1 .1 .1 .0 + 2
 
 abbrev pair-at : ℕ → In 3 pair-kinds.ps
 pair-at t = and 3 pair-kinds.ps (is 3 pair-kinds.ps μ-pair t) pair.Pre
@@ -151,6 +151,8 @@ call-calls t = (
 
 abbrev compound-calls : ℕ → compound-lts.Claims
 compound-calls t = (
+  kind-reads.Asked,
+  kind-reads.Learnt,
   located-below t,
   located.Post,
   creation-reads.Asked,
@@ -282,14 +284,19 @@ module _ (t : ℕ) where
   call-same-length c = search needs
 
   call-returns : call-lts.Need-returns (call-calls t) (call-at t) call.Post
-  call-returns c =
-      let d = c .before .before .before in
+  call-returns c = let d = c .before .before .before in
       let e = d .before .before .before in
       let g = e .before .before .before in
       let h = g .before .before .before .before .before in
       call-wrote (h .before .before .word .ensures .0) (h .expression .ensures) (g .before .before .word2 .ensures .0)
       (g .arguments .ensures) (e .word3 .ensures .0) (d .before .before .word4 .ensures .0) (d .count .ensures)
       (c .before .before .put .ensures)
+
+  compound-add-kind : compound-lts.Need-add-kind (compound-calls t) (compound-at t) compound.Post
+  compound-add-kind c = search needs
+
+  compound-kind-requires : compound-lts.Need-kind-requires (compound-calls t) (compound-at t) compound.Post
+  compound-kind-requires c κs = search needs
 
   compound-located-requires : compound-lts.Need-located-requires (compound-calls t) (compound-at t) compound.Post
   compound-located-requires c κs = search needs
@@ -308,6 +315,12 @@ module _ (t : ℕ) where
 
   compound-returns-2 : compound-lts.Need-returns-2 (compound-calls t) (compound-at t) compound.Post
   compound-returns-2 c = search compound-object
+
+  compound-add-kind-2 : compound-lts.Need-add-kind-2 (compound-calls t) (compound-at t) compound.Post
+  compound-add-kind-2 c = search needs
+
+  compound-kind-requires-2 : compound-lts.Need-kind-requires-2 (compound-calls t) (compound-at t) compound.Post
+  compound-kind-requires-2 c κs = search needs
 
   compound-located-requires-2 : compound-lts.Need-located-requires-2 (compound-calls t) (compound-at t) compound.Post
   compound-located-requires-2 c κs = search needs
@@ -382,8 +395,7 @@ module _ (t : ℕ) where
   conjunction-same-length c = search needs
 
   conjunction-returns : conjunction-lts.Need-returns (conjunction-calls t) (conjunction-at t) conjunction.Post
-  conjunction-returns c =
-      let d = c .before .before .before .before .before .before in
+  conjunction-returns c = let d = c .before .before .before .before .before .before in
       let e = d .before .before .before in
       let g = e .before .before .before in
       conjunction-wrote (g .before .before .word .ensures .0) (g .expression .ensures) (e .word2 .ensures .0) (d .before .next .ensures)
@@ -412,12 +424,6 @@ module _ (t : ℕ) where
 
   expression-returns-2 : expression-lts.Need-returns-2 (expression-calls t) (expression-at t) expression.Post
   expression-returns-2 c = search expression-atom
-
-  expression-add-kind : expression-lts.Need-add-kind (expression-calls t) (expression-at t) expression.Post
-  expression-add-kind c = search needs
-
-  expression-kind-requires-2 : expression-lts.Need-kind-requires-2 (expression-calls t) (expression-at t) expression.Post
-  expression-kind-requires-2 c κs = search needs
 
   expression-sub-compound : expression-lts.Need-sub-compound (expression-calls t) (expression-at t) expression.Post
   expression-sub-compound c = search needs
@@ -474,8 +480,7 @@ module _ (t : ℕ) where
   pair-same-length c = search needs
 
   pair-returns : pair-lts.Need-returns (pair-calls t) (pair-at t) pair.Post
-  pair-returns c =
-      let d = c .before .before .before .before in
+  pair-returns c = let d = c .before .before .before .before in
       let e = d .before .before .before in
       pair-wrote (e .before .before .word .ensures .0) (e .expression .ensures) (d .word2 .ensures .0)
       (c .before .before .followed .ensures)
@@ -489,25 +494,26 @@ pub +arguments+binary+call+compound+conjunction+expression+followed+located+pair
     (λ t. binary-lts.spec (binary-calls t) (binary-at t) binary.Post (binary-kind-requires t) (binary-conjunction-requires t)
     (binary-same-length t) (binary-returns t) (binary-cast-operator t) (binary-pair-requires t) (binary-same-length-2 t)
     (binary-returns-2 t))
-    (λ t. call-lts.spec (call-calls t) (call-at t) call.Post (call-word-requires t) (call-expression-requires t) (call-word-requires-2 t)
-    (call-arguments-requires t) (call-word-requires-3 t) (call-add-word t) (call-word-requires-4 t) (call-count-requires t)
-    (call-put-requires t) (call-same-length t) (call-returns t))
-    (λ t. compound-lts.spec (compound-calls t) (compound-at t) compound.Post (compound-located-requires t) (compound-same-length t)
-    (compound-returns t) (compound-creation-requires t) (compound-same-length-2 t) (compound-returns-2 t) (compound-located-requires-2 t)
-    (compound-same-length-3 t) (compound-returns-3 t) (compound-call-requires t) (compound-same-length-4 t) (compound-returns-4 t)
-    (compound-word-requires t) (compound-followed-requires t) (compound-same-length-5 t) (compound-returns-5 t) (compound-word-requires-2 t)
-    (compound-pair-requires t) (compound-same-length-6 t) (compound-returns-6 t) (compound-binary-requires t) (compound-same-length-7 t)
-    (compound-returns-7 t))
+    (λ t. call-lts.spec (call-calls t) (call-at t) call.Post (call-word-requires t) (call-expression-requires t)
+    (call-word-requires-2 t) (call-arguments-requires t) (call-word-requires-3 t) (call-add-word t) (call-word-requires-4 t)
+    (call-count-requires t) (call-put-requires t) (call-same-length t) (call-returns t))
+    (λ t. compound-lts.spec (compound-calls t) (compound-at t) compound.Post (compound-add-kind t) (compound-kind-requires t)
+    (compound-located-requires t) (compound-same-length t) (compound-returns t) (compound-creation-requires t)
+    (compound-same-length-2 t) (compound-returns-2 t) (compound-add-kind-2 t) (compound-kind-requires-2 t)
+    (compound-located-requires-2 t) (compound-same-length-3 t) (compound-returns-3 t) (compound-call-requires t)
+    (compound-same-length-4 t) (compound-returns-4 t) (compound-word-requires t) (compound-followed-requires t)
+    (compound-same-length-5 t) (compound-returns-5 t) (compound-word-requires-2 t) (compound-pair-requires t) (compound-same-length-6 t)
+    (compound-returns-6 t) (compound-binary-requires t) (compound-same-length-7 t) (compound-returns-7 t))
     (λ t. conjunction-lts.spec (conjunction-calls t) (conjunction-at t) conjunction.Post (conjunction-word-requires t)
-    (conjunction-expression-requires t) (conjunction-word-requires-2 t) (conjunction-next-requires t) (conjunction-expression-requires-2 t)
-    (conjunction-put-requires t) (conjunction-same-length t) (conjunction-returns t))
+    (conjunction-expression-requires t) (conjunction-word-requires-2 t) (conjunction-next-requires t)
+    (conjunction-expression-requires-2 t) (conjunction-put-requires t) (conjunction-same-length t) (conjunction-returns t))
     (λ t. expression-lts.spec (expression-calls t) (expression-at t) expression.Post (expression-returns t) (expression-kind-requires t)
     (expression-mark-requires t) (expression-is-atom-requires t) (expression-sub-atom t) (expression-atom-requires t)
-    (expression-same-length t) (expression-returns-2 t) (expression-add-kind t) (expression-kind-requires-2 t) (expression-sub-compound t)
-    (expression-compound-requires t) (expression-same-length-2 t) (expression-returns-3 t))
+    (expression-same-length t) (expression-returns-2 t) (expression-sub-compound t) (expression-compound-requires t)
+    (expression-same-length-2 t) (expression-returns-3 t))
     (λ t. followed-lts.spec (followed-calls t) (followed-at t) followed.Post (followed-expression-requires t) (followed-put-requires t)
     (followed-same-length t) (followed-returns t))
     (λ t. located-lts.spec (located-calls t) (located-at t) located.Post (located-word-requires t) (located-word-requires-2 t)
     (located-followed-requires t) (located-same-length t) (located-returns t))
-    (λ t. pair-lts.spec (pair-calls t) (pair-at t) pair.Post (pair-word-requires t) (pair-expression-requires t) (pair-word-requires-2 t)
-    (pair-followed-requires t) (pair-same-length t) (pair-returns t))
+    (λ t. pair-lts.spec (pair-calls t) (pair-at t) pair.Post (pair-word-requires t) (pair-expression-requires t)
+    (pair-word-requires-2 t) (pair-followed-requires t) (pair-same-length t) (pair-returns t))

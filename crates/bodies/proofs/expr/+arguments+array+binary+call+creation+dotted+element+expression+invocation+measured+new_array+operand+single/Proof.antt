@@ -5,34 +5,43 @@ use borrow.Fn.Kinds.{In}
 use borrow.Fn.PlainCycle.{Measures, is, falls, and}
 use Rattle.bodies.proofs.expr.arguments.Reads as arguments
 use Rattle.bodies.proofs.expr.arguments.Kinds as arguments-kinds
-use Rattle.bodies.proofs.expr.+arguments+binary+call+creation+dotted+element+expression+invocation+operand+single.Lts-arguments as arguments-lts
+use Rattle.bodies.proofs.expr.+arguments+array+binary+call+creation+dotted+element+expression+invocation+measured+new_array+operand+single.Lts-arguments as arguments-lts
+use Rattle.bodies.proofs.expr.array.Reads as array
+use Rattle.bodies.proofs.expr.array.Kinds as array-kinds
+use Rattle.bodies.proofs.expr.+arguments+array+binary+call+creation+dotted+element+expression+invocation+measured+new_array+operand+single.Lts-array as array-lts
 use Rattle.bodies.proofs.expr.binary.Reads as binary
 use Rattle.bodies.proofs.expr.binary.Kinds as binary-kinds
-use Rattle.bodies.proofs.expr.+arguments+binary+call+creation+dotted+element+expression+invocation+operand+single.Lts-binary as binary-lts
+use Rattle.bodies.proofs.expr.+arguments+array+binary+call+creation+dotted+element+expression+invocation+measured+new_array+operand+single.Lts-binary as binary-lts
 use Rattle.bodies.proofs.expr.call.Reads as call
 use Rattle.bodies.proofs.expr.call.Kinds as call-kinds
-use Rattle.bodies.proofs.expr.+arguments+binary+call+creation+dotted+element+expression+invocation+operand+single.Lts-call as call-lts
+use Rattle.bodies.proofs.expr.+arguments+array+binary+call+creation+dotted+element+expression+invocation+measured+new_array+operand+single.Lts-call as call-lts
 use Rattle.bodies.proofs.expr.creation.Reads as creation
 use Rattle.bodies.proofs.expr.creation.Kinds as creation-kinds
-use Rattle.bodies.proofs.expr.+arguments+binary+call+creation+dotted+element+expression+invocation+operand+single.Lts-creation as creation-lts
+use Rattle.bodies.proofs.expr.+arguments+array+binary+call+creation+dotted+element+expression+invocation+measured+new_array+operand+single.Lts-creation as creation-lts
 use Rattle.bodies.proofs.expr.dotted.Reads as dotted
 use Rattle.bodies.proofs.expr.dotted.Kinds as dotted-kinds
-use Rattle.bodies.proofs.expr.+arguments+binary+call+creation+dotted+element+expression+invocation+operand+single.Lts-dotted as dotted-lts
+use Rattle.bodies.proofs.expr.+arguments+array+binary+call+creation+dotted+element+expression+invocation+measured+new_array+operand+single.Lts-dotted as dotted-lts
 use Rattle.bodies.proofs.expr.element.Reads as element
 use Rattle.bodies.proofs.expr.element.Kinds as element-kinds
-use Rattle.bodies.proofs.expr.+arguments+binary+call+creation+dotted+element+expression+invocation+operand+single.Lts-element as element-lts
+use Rattle.bodies.proofs.expr.+arguments+array+binary+call+creation+dotted+element+expression+invocation+measured+new_array+operand+single.Lts-element as element-lts
 use Rattle.bodies.proofs.expr.expression.Reads as expression
 use Rattle.bodies.proofs.expr.expression.Kinds as expression-kinds
-use Rattle.bodies.proofs.expr.+arguments+binary+call+creation+dotted+element+expression+invocation+operand+single.Lts-expression as expression-lts
+use Rattle.bodies.proofs.expr.+arguments+array+binary+call+creation+dotted+element+expression+invocation+measured+new_array+operand+single.Lts-expression as expression-lts
 use Rattle.bodies.proofs.expr.invocation.Reads as invocation
 use Rattle.bodies.proofs.expr.invocation.Kinds as invocation-kinds
-use Rattle.bodies.proofs.expr.+arguments+binary+call+creation+dotted+element+expression+invocation+operand+single.Lts-invocation as invocation-lts
+use Rattle.bodies.proofs.expr.+arguments+array+binary+call+creation+dotted+element+expression+invocation+measured+new_array+operand+single.Lts-invocation as invocation-lts
+use Rattle.bodies.proofs.expr.measured.Reads as measured
+use Rattle.bodies.proofs.expr.measured.Kinds as measured-kinds
+use Rattle.bodies.proofs.expr.+arguments+array+binary+call+creation+dotted+element+expression+invocation+measured+new_array+operand+single.Lts-measured as measured-lts
+use Rattle.bodies.proofs.expr.new_array.Reads as new-array
+use Rattle.bodies.proofs.expr.new_array.Kinds as new-array-kinds
+use Rattle.bodies.proofs.expr.+arguments+array+binary+call+creation+dotted+element+expression+invocation+measured+new_array+operand+single.Lts-new_array as new-array-lts
 use Rattle.bodies.proofs.expr.operand.Reads as operand
 use Rattle.bodies.proofs.expr.operand.Kinds as operand-kinds
-use Rattle.bodies.proofs.expr.+arguments+binary+call+creation+dotted+element+expression+invocation+operand+single.Lts-operand as operand-lts
+use Rattle.bodies.proofs.expr.+arguments+array+binary+call+creation+dotted+element+expression+invocation+measured+new_array+operand+single.Lts-operand as operand-lts
 use Rattle.bodies.proofs.expr.single.Reads as single
 use Rattle.bodies.proofs.expr.single.Kinds as single-kinds
-use Rattle.bodies.proofs.expr.+arguments+binary+call+creation+dotted+element+expression+invocation+operand+single.Lts-single as single-lts
+use Rattle.bodies.proofs.expr.+arguments+array+binary+call+creation+dotted+element+expression+invocation+measured+new_array+operand+single.Lts-single as single-lts
 use Rattle.bodies.proofs.expr.atom.Reads as atom-reads
 use Rattle.bodies.proofs.expr.new_object.Reads as new-object-reads
 use Rattle.bodies.proofs.expr.same_count.Reads as same-count-reads
@@ -40,11 +49,12 @@ use Rattle.bodies.proofs.operators.operation.Reads as operation-reads
 use Rattle.lookup.proofs.chain.find_method.Reads as find-method-reads
 use Rattle.lookup.proofs.chain.fits.Reads as fits-reads
 use Rattle.lookup.proofs.rows.word.Reads as word-reads
+use Rattle.lookup.proofs.types.known.Reads as known-reads
 use Rattle.lookup.proofs.types.type_of.Reads as type-of-reads
 use Rattle.parser.proofs.kinds.is_atom.Reads as is-atom-reads
 use Rattle.parser.proofs.table.kind.Reads as kind-reads
-use Rattle.bodies.proofs.expr.+arguments+binary+call+creation+dotted+element+expression+invocation+operand+single.{statement}
-use Rattle.bodies.proofs.expr.+arguments+binary+call+creation+dotted+element+expression+invocation+operand+single.Tie.{close}
+use Rattle.bodies.proofs.expr.+arguments+array+binary+call+creation+dotted+element+expression+invocation+measured+new_array+operand+single.{statement}
+use Rattle.bodies.proofs.expr.+arguments+array+binary+call+creation+dotted+element+expression+invocation+measured+new_array+operand+single.Tie.{close}
 use borrow.Author.Needs.{needs}
 use Prim.Native.Nat.{_+_, _*_, _-_}
 use Rattle.bodies.proofs.ExpressionLaws.{arguments-before, arguments-behind, arguments-end, arguments-next, arguments-refused}
@@ -54,9 +64,14 @@ use Rattle.bodies.proofs.ExpressionLaws.{element-second, expression-ato
 use Rattle.bodies.proofs.ExpressionLaws.{expression-dot, expression-element, expression-new, expression-not, invocation-count}
 use Rattle.bodies.proofs.ExpressionLaws.{invocation-fine, invocation-refused, invocation-unknown, operand-fits, operand-refused}
 use Rattle.bodies.proofs.ExpressionLaws.{operand-wrong, single-fine, single-refused}
+use Rattle.bodies.proofs.ExpressionLaws.{array-wrong, array-right, array-unjudged, length-right, length-refused}
+use Rattle.bodies.proofs.ExpressionLaws.{new-array-known, new-array-unknown}
 
 abbrev μ-arguments : Measures 2 arguments-kinds.ps ℕ
 μ-arguments κs a = 8 * (a .1 .1 .1 .1 .0 - a .1 .1 .1 .0) + 4
+
+abbrev μ-array : Measures 2 array-kinds.ps ℕ
+μ-array κs a = 8 * (a .1 .1 .1 .1 .0 - a .1 .1 .1 .0) + 3
 
 abbrev μ-binary : Measures 2 binary-kinds.ps ℕ
 μ-binary κs a = 8 * (a .1 .1 .1 .1 .0 - a .1 .1 .1 .0)
@@ -79,6 +94,12 @@ abbrev μ-expression : Measures 2 expression-kinds.ps ℕ
 abbrev μ-invocation : Measures 2 invocation-kinds.ps ℕ
 μ-invocation κs a = 8 * (a .1 .1 .1 .0 - (a .1 .1 .1 .1 .0 + 1)) + 5
 
+abbrev μ-measured : Measures 2 measured-kinds.ps ℕ
+μ-measured κs a = 8 * (a .1 .1 .1 .1 .0 - a .1 .1 .1 .0) + 4
+
+abbrev μ-new-array : Measures 2 new-array-kinds.ps ℕ
+μ-new-array κs a = 8 * (a .1 .1 .1 .0 - (a .1 .1 .1 .1 .0 + 1)) + 5
+
 abbrev μ-operand : Measures 2 operand-kinds.ps ℕ
 μ-operand κs a = 8 * (a .1 .1 .1 .1 .0 - a .1 .1 .1 .0) + 3
 
@@ -90,6 +111,12 @@ arguments-at t = and 2 arguments-kinds.ps (is 2 arguments-kinds.ps μ-arguments 
 
 abbrev arguments-below : ℕ → In 2 arguments-kinds.ps
 arguments-below t = and 2 arguments-kinds.ps (falls 2 arguments-kinds.ps _<_ μ-arguments t) arguments.Pre
+
+abbrev array-at : ℕ → In 2 array-kinds.ps
+array-at t = and 2 array-kinds.ps (is 2 array-kinds.ps μ-array t) array.Pre
+
+abbrev array-below : ℕ → In 2 array-kinds.ps
+array-below t = and 2 array-kinds.ps (falls 2 array-kinds.ps _<_ μ-array t) array.Pre
 
 abbrev binary-at : ℕ → In 2 binary-kinds.ps
 binary-at t = and 2 binary-kinds.ps (is 2 binary-kinds.ps μ-binary t) binary.Pre
@@ -133,6 +160,18 @@ invocation-at t = and 2 invocation-kinds.ps (is 2 invocation-kinds.ps μ-invocat
 abbrev invocation-below : ℕ → In 2 invocation-kinds.ps
 invocation-below t = and 2 invocation-kinds.ps (falls 2 invocation-kinds.ps _<_ μ-invocation t) invocation.Pre
 
+abbrev measured-at : ℕ → In 2 measured-kinds.ps
+measured-at t = and 2 measured-kinds.ps (is 2 measured-kinds.ps μ-measured t) measured.Pre
+
+abbrev measured-below : ℕ → In 2 measured-kinds.ps
+measured-below t = and 2 measured-kinds.ps (falls 2 measured-kinds.ps _<_ μ-measured t) measured.Pre
+
+abbrev new-array-at : ℕ → In 2 new-array-kinds.ps
+new-array-at t = and 2 new-array-kinds.ps (is 2 new-array-kinds.ps μ-new-array t) new-array.Pre
+
+abbrev new-array-below : ℕ → In 2 new-array-kinds.ps
+new-array-below t = and 2 new-array-kinds.ps (falls 2 new-array-kinds.ps _<_ μ-new-array t) new-array.Pre
+
 abbrev operand-at : ℕ → In 2 operand-kinds.ps
 operand-at t = and 2 operand-kinds.ps (is 2 operand-kinds.ps μ-operand t) operand.Pre
 
@@ -157,6 +196,9 @@ arguments-calls t = (
   arguments.Post,
 )
 
+abbrev array-calls : ℕ → array-lts.Claims
+array-calls t = (expression-below t, expression.Post, word-reads.Asked, word-reads.Learnt)
+
 abbrev binary-calls : ℕ → binary-lts.Claims
 binary-calls t = (
   word-reads.Asked,
@@ -173,23 +215,13 @@ abbrev call-calls : ℕ → call-lts.Claims
 call-calls t = (word-reads.Asked, word-reads.Learnt, expression-below t, expression.Post, invocation-below t, invocation.Post)
 
 abbrev creation-calls : ℕ → creation-lts.Claims
-creation-calls t = (
-  kind-reads.Asked,
-  kind-reads.Learnt,
-  word-reads.Asked,
-  word-reads.Learnt,
-  single-below t,
-  single.Post,
-  new-object-reads.Asked,
-  new-object-reads.Learnt,
-)
+creation-calls t = (kind-reads.Asked, kind-reads.Learnt, new-array-below t, new-array.Post, new-object-reads.Asked, new-object-reads.Learnt)
 
 abbrev dotted-calls : ℕ → dotted-lts.Claims
-dotted-calls t =
-    (kind-reads.Asked, kind-reads.Learnt, word-reads.Asked, word-reads.Learnt, single-below t, single.Post, call-below t, call.Post)
+dotted-calls t = (kind-reads.Asked, kind-reads.Learnt, measured-below t, measured.Post, call-below t, call.Post)
 
 abbrev element-calls : ℕ → element-lts.Claims
-element-calls t = (word-reads.Asked, word-reads.Learnt, operand-below t, operand.Post, single-below t, single.Post)
+element-calls t = (word-reads.Asked, word-reads.Learnt, array-below t, array.Post, single-below t, single.Post)
 
 abbrev expression-calls : ℕ → expression-lts.Claims
 expression-calls t = (
@@ -225,6 +257,21 @@ invocation-calls t = (
   arguments.Post,
   type-of-reads.Asked,
   type-of-reads.Learnt,
+)
+
+abbrev measured-calls : ℕ → measured-lts.Claims
+measured-calls t = (word-reads.Asked, word-reads.Learnt, array-below t, array.Post)
+
+abbrev new-array-calls : ℕ → new-array-lts.Claims
+new-array-calls t = (
+  type-of-reads.Asked,
+  type-of-reads.Learnt,
+  known-reads.Asked,
+  known-reads.Learnt,
+  word-reads.Asked,
+  word-reads.Learnt,
+  single-below t,
+  single.Post,
 )
 
 abbrev operand-calls : ℕ → operand-lts.Claims
@@ -275,6 +322,27 @@ module _ (t : ℕ) where
 
   arguments-returns-5 : arguments-lts.Need-returns-5 (arguments-calls t) (arguments-at t) arguments.Post
   arguments-returns-5 c = search arguments-refused
+
+  array-expression-requires : array-lts.Need-expression-requires (array-calls t) (array-at t) array.Post
+  array-expression-requires c κs = search needs
+
+  array-enum-known-e : array-lts.Need-enum-known-e (array-calls t) (array-at t) array.Post
+  array-enum-known-e c = search needs
+
+  array-word-requires : array-lts.Need-word-requires (array-calls t) (array-at t) array.Post
+  array-word-requires c κs = search needs
+
+  array-returns : array-lts.Need-returns (array-calls t) (array-at t) array.Post
+  array-returns c = search array-wrong
+
+  array-enum-known-e-2 : array-lts.Need-enum-known-e-2 (array-calls t) (array-at t) array.Post
+  array-enum-known-e-2 c = search needs
+
+  array-returns-2 : array-lts.Need-returns-2 (array-calls t) (array-at t) array.Post
+  array-returns-2 c = search array-right
+
+  array-returns-3 : array-lts.Need-returns-3 (array-calls t) (array-at t) array.Post
+  array-returns-3 c = search array-unjudged
 
   binary-word-requires : binary-lts.Need-word-requires (binary-calls t) (binary-at t) binary.Post
   binary-word-requires c κs = search needs
@@ -345,14 +413,8 @@ module _ (t : ℕ) where
   creation-kind-requires : creation-lts.Need-kind-requires (creation-calls t) (creation-at t) creation.Post
   creation-kind-requires c κs = search needs
 
-  creation-word-requires : creation-lts.Need-word-requires (creation-calls t) (creation-at t) creation.Post
-  creation-word-requires c κs = search needs
-
-  creation-add-single : creation-lts.Need-add-single (creation-calls t) (creation-at t) creation.Post
-  creation-add-single c = search needs
-
-  creation-single-requires : creation-lts.Need-single-requires (creation-calls t) (creation-at t) creation.Post
-  creation-single-requires c κs = search needs
+  creation-new-array-requires : creation-lts.Need-new-array-requires (creation-calls t) (creation-at t) creation.Post
+  creation-new-array-requires c κs = search needs
 
   creation-returns : creation-lts.Need-returns (creation-calls t) (creation-at t) creation.Post
   creation-returns c = search creation-array
@@ -369,11 +431,8 @@ module _ (t : ℕ) where
   dotted-kind-requires : dotted-lts.Need-kind-requires (dotted-calls t) (dotted-at t) dotted.Post
   dotted-kind-requires c κs = search needs
 
-  dotted-word-requires : dotted-lts.Need-word-requires (dotted-calls t) (dotted-at t) dotted.Post
-  dotted-word-requires c κs = search needs
-
-  dotted-single-requires : dotted-lts.Need-single-requires (dotted-calls t) (dotted-at t) dotted.Post
-  dotted-single-requires c κs = search needs
+  dotted-measured-requires : dotted-lts.Need-measured-requires (dotted-calls t) (dotted-at t) dotted.Post
+  dotted-measured-requires c κs = search needs
 
   dotted-returns : dotted-lts.Need-returns (dotted-calls t) (dotted-at t) dotted.Post
   dotted-returns c = search dotted-length
@@ -387,11 +446,11 @@ module _ (t : ℕ) where
   element-word-requires : element-lts.Need-word-requires (element-calls t) (element-at t) element.Post
   element-word-requires c κs = search needs
 
-  element-operand-requires : element-lts.Need-operand-requires (element-calls t) (element-at t) element.Post
-  element-operand-requires c κs = search needs
+  element-array-requires : element-lts.Need-array-requires (element-calls t) (element-at t) element.Post
+  element-array-requires c κs = search needs
 
-  element-enum-told : element-lts.Need-enum-told (element-calls t) (element-at t) element.Post
-  element-enum-told c = search needs
+  element-enum-known-a : element-lts.Need-enum-known-a (element-calls t) (element-at t) element.Post
+  element-enum-known-a c = search needs
 
   element-word-requires-2 : element-lts.Need-word-requires-2 (element-calls t) (element-at t) element.Post
   element-word-requires-2 c κs = search needs
@@ -402,8 +461,8 @@ module _ (t : ℕ) where
   element-single-requires : element-lts.Need-single-requires (element-calls t) (element-at t) element.Post
   element-single-requires c κs = search needs
 
-  element-enum-known-a : element-lts.Need-enum-known-a (element-calls t) (element-at t) element.Post
-  element-enum-known-a c = search needs
+  element-enum-known-a-2 : element-lts.Need-enum-known-a-2 (element-calls t) (element-at t) element.Post
+  element-enum-known-a-2 c = search needs
 
   element-returns : element-lts.Need-returns (element-calls t) (element-at t) element.Post
   element-returns c = search element-second
@@ -525,6 +584,54 @@ module _ (t : ℕ) where
   invocation-returns-4 : invocation-lts.Need-returns-4 (invocation-calls t) (invocation-at t) invocation.Post
   invocation-returns-4 c = search invocation-count
 
+  measured-word-requires : measured-lts.Need-word-requires (measured-calls t) (measured-at t) measured.Post
+  measured-word-requires c κs = search needs
+
+  measured-array-requires : measured-lts.Need-array-requires (measured-calls t) (measured-at t) measured.Post
+  measured-array-requires c κs = search needs
+
+  measured-enum-told : measured-lts.Need-enum-told (measured-calls t) (measured-at t) measured.Post
+  measured-enum-told c = search needs
+
+  measured-enum-known-a : measured-lts.Need-enum-known-a (measured-calls t) (measured-at t) measured.Post
+  measured-enum-known-a c = search needs
+
+  measured-returns : measured-lts.Need-returns (measured-calls t) (measured-at t) measured.Post
+  measured-returns c = search length-right
+
+  measured-returns-2 : measured-lts.Need-returns-2 (measured-calls t) (measured-at t) measured.Post
+  measured-returns-2 c = search length-refused
+
+  new-array-add-type-of : new-array-lts.Need-add-type-of (new-array-calls t) (new-array-at t) new-array.Post
+  new-array-add-type-of c = search needs
+
+  new-array-type-of-requires : new-array-lts.Need-type-of-requires (new-array-calls t) (new-array-at t) new-array.Post
+  new-array-type-of-requires c κs = search needs
+
+  new-array-known-requires : new-array-lts.Need-known-requires (new-array-calls t) (new-array-at t) new-array.Post
+  new-array-known-requires c κs = search needs
+
+  new-array-word-requires : new-array-lts.Need-word-requires (new-array-calls t) (new-array-at t) new-array.Post
+  new-array-word-requires c κs = search needs
+
+  new-array-add-single : new-array-lts.Need-add-single (new-array-calls t) (new-array-at t) new-array.Post
+  new-array-add-single c = search needs
+
+  new-array-single-requires : new-array-lts.Need-single-requires (new-array-calls t) (new-array-at t) new-array.Post
+  new-array-single-requires c κs = search needs
+
+  new-array-returns : new-array-lts.Need-returns (new-array-calls t) (new-array-at t) new-array.Post
+  new-array-returns c = search new-array-known
+
+  new-array-add-word : new-array-lts.Need-add-word (new-array-calls t) (new-array-at t) new-array.Post
+  new-array-add-word c = search needs
+
+  new-array-word-requires-2 : new-array-lts.Need-word-requires-2 (new-array-calls t) (new-array-at t) new-array.Post
+  new-array-word-requires-2 c κs = search needs
+
+  new-array-returns-2 : new-array-lts.Need-returns-2 (new-array-calls t) (new-array-at t) new-array.Post
+  new-array-returns-2 c = search new-array-unknown
+
   operand-expression-requires : operand-lts.Need-expression-requires (operand-calls t) (operand-at t) operand.Post
   operand-expression-requires c κs = search needs
 
@@ -564,37 +671,45 @@ module _ (t : ℕ) where
   single-returns-2 : single-lts.Need-returns-2 (single-calls t) (single-at t) single.Post
   single-returns-2 c = search single-refused
 
-pub +arguments+binary+call+creation+dotted+element+expression+invocation+operand+single-spec : {M : Type 1} → statement M
-+arguments+binary+call+creation+dotted+element+expression+invocation+operand+single-spec =
-    close μ-arguments μ-binary μ-call μ-creation μ-dotted μ-element μ-expression μ-invocation μ-operand μ-single
+pub +arguments+array+binary+call+creation+dotted+element+expression+invocation+measured+new-array+operand+single-spec : {M : Type 1} → statement M
++arguments+array+binary+call+creation+dotted+element+expression+invocation+measured+new-array+operand+single-spec =
+    close μ-arguments μ-array μ-binary μ-call μ-creation μ-dotted μ-element μ-expression μ-invocation μ-measured μ-new-array μ-operand
+    μ-single
     (λ t. arguments-lts.spec (arguments-calls t) (arguments-at t) arguments.Post (arguments-returns t) (arguments-returns-2 t)
     (arguments-returns-3 t) (arguments-word-requires t) (arguments-type-of-requires t) (arguments-operand-requires t)
     (arguments-enum-told t) (arguments-word-requires-2 t) (arguments-word-requires-3 t) (arguments-add-arguments t)
     (arguments-arguments-requires t) (arguments-enum-known-a t) (arguments-returns-4 t) (arguments-returns-5 t))
+    (λ t. array-lts.spec (array-calls t) (array-at t) array.Post (array-expression-requires t) (array-enum-known-e t)
+    (array-word-requires t) (array-returns t) (array-enum-known-e-2 t) (array-returns-2 t) (array-returns-3 t))
     (λ t. binary-lts.spec (binary-calls t) (binary-at t) binary.Post (binary-word-requires t) (binary-expression-requires t)
     (binary-enum-known-a t) (binary-operation-requires t) (binary-word-requires-2 t) (binary-returns t) (binary-word-requires-3 t)
     (binary-add-single t) (binary-single-requires t) (binary-enum-known-a-2 t) (binary-returns-2 t) (binary-returns-3 t))
     (λ t. call-lts.spec (call-calls t) (call-at t) call.Post (call-word-requires t) (call-expression-requires t) (call-enum-known-e t)
-    (call-word-requires-2 t) (call-returns t) (call-invocation-requires t) (call-enum-known-e-2 t) (call-returns-2 t) (call-returns-3 t))
+    (call-word-requires-2 t) (call-returns t) (call-invocation-requires t) (call-enum-known-e-2 t) (call-returns-2 t)
+    (call-returns-3 t))
     (λ t. creation-lts.spec (creation-calls t) (creation-at t) creation.Post (creation-add-kind t) (creation-kind-requires t)
-    (creation-word-requires t) (creation-add-single t) (creation-single-requires t) (creation-returns t) (creation-new-object-requires t)
-    (creation-returns-2 t))
-    (λ t. dotted-lts.spec (dotted-calls t) (dotted-at t) dotted.Post (dotted-add-kind t) (dotted-kind-requires t) (dotted-word-requires t)
-    (dotted-single-requires t) (dotted-returns t) (dotted-call-requires t) (dotted-returns-2 t))
-    (λ t. element-lts.spec (element-calls t) (element-at t) element.Post (element-word-requires t) (element-operand-requires t)
-    (element-enum-told t) (element-word-requires-2 t) (element-add-single t) (element-single-requires t) (element-enum-known-a t)
+    (creation-new-array-requires t) (creation-returns t) (creation-new-object-requires t) (creation-returns-2 t))
+    (λ t. dotted-lts.spec (dotted-calls t) (dotted-at t) dotted.Post (dotted-add-kind t) (dotted-kind-requires t)
+    (dotted-measured-requires t) (dotted-returns t) (dotted-call-requires t) (dotted-returns-2 t))
+    (λ t. element-lts.spec (element-calls t) (element-at t) element.Post (element-word-requires t) (element-array-requires t)
+    (element-enum-known-a t) (element-word-requires-2 t) (element-add-single t) (element-single-requires t) (element-enum-known-a-2 t)
     (element-returns t) (element-returns-2 t))
     (λ t. expression-lts.spec (expression-calls t) (expression-at t) expression.Post (expression-returns t) (expression-returns-2 t)
     (expression-kind-requires t) (expression-is-atom-requires t) (expression-atom-requires t) (expression-returns-3 t)
     (expression-creation-requires t) (expression-returns-4 t) (expression-dotted-requires t) (expression-returns-5 t)
     (expression-word-requires t) (expression-add-single t) (expression-single-requires t) (expression-returns-6 t)
     (expression-element-requires t) (expression-returns-7 t) (expression-binary-requires t) (expression-returns-8 t))
-    (λ t. invocation-lts.spec (invocation-calls t) (invocation-at t) invocation.Post (invocation-add-word t) (invocation-word-requires t)
-    (invocation-find-method-requires t) (invocation-add-word-2 t) (invocation-word-requires-2 t) (invocation-returns t)
-    (invocation-word-requires-3 t) (invocation-word-requires-4 t) (invocation-same-count-requires t) (invocation-add-arguments t)
-    (invocation-arguments-requires t) (invocation-enum-told t) (invocation-word-requires-5 t) (invocation-type-of-requires t)
-    (invocation-returns-2 t) (invocation-enum-known-a t) (invocation-returns-3 t) (invocation-add-word-3 t) (invocation-word-requires-6 t)
-    (invocation-returns-4 t))
+    (λ t. invocation-lts.spec (invocation-calls t) (invocation-at t) invocation.Post (invocation-add-word t)
+    (invocation-word-requires t) (invocation-find-method-requires t) (invocation-add-word-2 t) (invocation-word-requires-2 t)
+    (invocation-returns t) (invocation-word-requires-3 t) (invocation-word-requires-4 t) (invocation-same-count-requires t)
+    (invocation-add-arguments t) (invocation-arguments-requires t) (invocation-enum-told t) (invocation-word-requires-5 t)
+    (invocation-type-of-requires t) (invocation-returns-2 t) (invocation-enum-known-a t) (invocation-returns-3 t)
+    (invocation-add-word-3 t) (invocation-word-requires-6 t) (invocation-returns-4 t))
+    (λ t. measured-lts.spec (measured-calls t) (measured-at t) measured.Post (measured-word-requires t) (measured-array-requires t)
+    (measured-enum-told t) (measured-enum-known-a t) (measured-returns t) (measured-returns-2 t))
+    (λ t. new-array-lts.spec (new-array-calls t) (new-array-at t) new-array.Post (new-array-add-type-of t)
+    (new-array-type-of-requires t) (new-array-known-requires t) (new-array-word-requires t) (new-array-add-single t)
+    (new-array-single-requires t) (new-array-returns t) (new-array-add-word t) (new-array-word-requires-2 t) (new-array-returns-2 t))
     (λ t. operand-lts.spec (operand-calls t) (operand-at t) operand.Post (operand-expression-requires t) (operand-enum-known-e t)
     (operand-fits-requires t) (operand-returns t) (operand-word-requires t) (operand-enum-known-e-2 t) (operand-returns-2 t)
     (operand-returns-3 t))

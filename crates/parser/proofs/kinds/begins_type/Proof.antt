@@ -1,0 +1,40 @@
+-- `begins_type` meets its contract: the first test that holds decides.
+use mathlib.Core.Path.{sym, _∙_}
+use borrow.Author.Tests.{eq-eqb, ne-eqb}
+use Rattle.parser.specs.Parse.{beginsType}
+use borrow.Author.Needs.{needs}
+use Rattle.parser.proofs.kinds.begins_type.Statement.{statement}
+use Rattle.parser.proofs.kinds.begins_type.Tie as tie
+
+returns : tie.Need-returns
+unfolding beginsType
+returns c = simp (eq-eqb _ _ (c .if1 .taken))
+
+returns-2 : tie.Need-returns-2
+unfolding beginsType
+returns-2 c = simp (ne-eqb _ _ (c .before .if1 .left), eq-eqb _ _ (c .if2 .taken))
+
+is-name-requires : tie.Need-is-name-requires
+is-name-requires c κs = search needs
+
+returns-3 : tie.Need-returns-3
+unfolding beginsType
+returns-3 c =
+    simp (
+      ne-eqb _ _ (c .before .before .before .if1 .left),
+      ne-eqb _ _ (c .before .before .if2 .left),
+      sym (c .before .is-name .ensures) ∙ c .if3 .taken,
+    )
+
+returns-4 : tie.Need-returns-4
+unfolding beginsType
+returns-4 c =
+    simp (
+      ne-eqb _ _ (c .before .before .before .if1 .left),
+      ne-eqb _ _ (c .before .before .if2 .left),
+      c .if3 .left,
+      sym (c .before .is-name .ensures) ∙ c .if3 .left,
+    )
+
+pub begins-type-spec : {M : Type 1} → statement M
+begins-type-spec = tie.close (tie.spec returns returns-2 is-name-requires returns-3 returns-4)
