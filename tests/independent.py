@@ -1,13 +1,14 @@
 """The independent cases, which stand outside the repository, with the answers that are due of them.
 
 The cases of document 01 stand in vectors/. Those of document 02 stand in vectors-requests/stage-K/, for a repository in which requests 1 to K hold; stage-K/old/ has what is then due
-of document 01's cases. A stage whose request changes no result has no folder.
+of document 01's cases. A stage whose request changes no result has no folder. From stage 7 on an answer of run has the climbs after the steps.
 """
 import collections
 import pathlib
 
 SHARED = pathlib.Path(__file__).resolve().parent.parent.parent / "shared"
-STAGE = 6  # the answers are those due with requests 1 to STAGE of document 02, of which (v), an operation of its own, changes none; raise it as the next one lands
+STAGE = 7  # the answers are those due with requests 1 to STAGE of document 02, of which (v), an operation of its own, changes none; raise it as the next one lands
+CLIMBS = 7  # the stage from which on run's answers have climbs
 
 # A name to print, and pairs of a case and its answer.
 Group = collections.namedtuple("Group", "name rows")
@@ -24,14 +25,29 @@ def group(name, cases, answers):
     return Group(name, list(zip(asked, due)))
 
 
+def with_climbs(case, answer):
+    """An answer of run from before climbs were counted, with them: 0 where no step was taken, as in refusals, and where main is the only method; else `*`, for any number."""
+    head, colon, printed = answer.partition(" : ")
+    number, position, steps, words = head.split(" ")
+    is_without_calls = steps == "0" or bytes.fromhex(case.split(" ")[-1]).count(b"public") == 1
+    return " ".join([number, position, steps, "0" if is_without_calls else "*", words]) + colon + printed
+
+
+def group_of_request(k, folder, operation):
+    """The cases of request k, with answers in the form that is due at the latest stage."""
+    found = group("%s of request %d" % (operation, k), folder / (operation + ".cases"), folder / (operation + ".answers"))
+    if operation == "run" and k < CLIMBS <= STAGE:
+        return Group(found.name, [(case, with_climbs(case, answer)) for case, answer in found.rows])
+    return found
+
+
 def groups(shared, operation):
     """The groups of an operation's cases: document 01's, with the answers of the latest stage, and those of each request."""
     stages = [k for k in range(1, STAGE + 1) if (shared / "vectors-requests" / ("stage-%d" % k)).is_dir()]
     folders = [shared / "vectors-requests" / ("stage-%d" % k) for k in stages]
-    answers, cases = operation + ".answers", operation + ".cases"
     latest = folders[-1] / "old" if folders else shared / "vectors"
-    found = [group(operation, shared / "vectors" / cases, latest / answers)]
-    found += [group("%s of request %d" % (operation, k), folder / cases, folder / answers) for k, folder in zip(stages, folders)]
+    found = [group(operation, shared / "vectors" / (operation + ".cases"), latest / (operation + ".answers"))]
+    found += [group_of_request(k, folder, operation) for k, folder in zip(stages, folders)]
     return [g for g in found if g.rows]
 
 

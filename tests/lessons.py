@@ -70,6 +70,7 @@ def menu_order(lesson):
 
 
 def as_printed(answer):
-    """What bayrun prints where run's answer is this."""
+    """What bayrun prints where run's answer is this: all but the climbs, which its last line has no place for."""
     ending, _, printed = answer.partition(" : ")
-    return "".join(p + "\n" for p in printed.split()) + "= " + ending + "\n"
+    number, position, steps, _, words = ending.split(" ")
+    return "".join(p + "\n" for p in printed.split()) + "= %s %s %s %s\n" % (number, position, steps, words)

@@ -1,4 +1,5 @@
-"""Cases of run, worked out by hand from documents 01 and 02. A position is where a mark stands (see lessons.py), steps are counted node by node; no answer comes from the program."""
+"""Cases of run, worked out by hand from documents 01 and 02. A position is where a mark stands (see lessons.py), steps are counted node by node, climbs class by class for each call that is
+opened; no answer comes from the program."""
 from lessons import FIRST, ONE, START, class_of, fits, main_with, method, places, program, unmarked
 
 TABLE = 16384
@@ -10,60 +11,60 @@ def line(lesson, table=TABLE, budget=100000, calls=64, heap=4096, out=256):
     return "run %d %d %d %d %d %s" % (table, budget, calls, heap, out, data)
 
 
-def end(number, position, steps=0, words=0, *printed):
-    return "%d %d %d %d" % (number, position, steps, words) + "".join([" :"] + [" %d" % p for p in printed] if printed else [])
+def end(number, position, steps=0, climbs=0, words=0, *printed):
+    return "%d %d %d %d %d" % (number, position, steps, climbs, words) + "".join([" :"] + [" %d" % p for p in printed] if printed else [])
 
 
-def fine(lesson, steps, words, *printed, **limits):
+def fine(lesson, steps, climbs, words, *printed, **limits):
     """A lesson that runs to its end."""
     assert fits(lesson)
-    return line(lesson, **limits), end(0, 0, steps, words, *printed)
+    return line(lesson, **limits), end(0, 0, steps, climbs, words, *printed)
 
 
-def stopped(number, lesson, steps, words, *printed, **limits):
+def stopped(number, lesson, steps, climbs, words, *printed, **limits):
     """A marked lesson that is refused, or whose run ends there."""
     (position,) = places(lesson)
-    return line(unmarked(lesson), **limits), end(number, position, steps, words, *printed)
+    return line(unmarked(lesson), **limits), end(number, position, steps, climbs, words, *printed)
 
 
 def bench_rows():
     """The rows of document 01's table of benches."""
     return [
-        fine(program("1+2"), 4, 0, 3),
-        fine(program("46341*46341"), 4, 0, -2147479015),
-        fine(program("0-2147483647-2"), 6, 0, 2147483647),
-        stopped(14, program("@2147483648"), 0, 0),
-        stopped(31, program("!@1<2"), 0, 0),
-        stopped(34, program("@this"), 0, 0),
-        stopped(30, program("@a"), 0, 0),
-        stopped(42, program("@new int[0-1].length"), 6, 0),
-        stopped(16, program("new int[2]@[0]"), 0, 0),
-        stopped(41, program("@(new int[1])[1]"), 5, 2),
-        stopped(50, program("1+@2"), 3, 0, budget=3),
-        stopped(50, main_with("@System.out.println(1+2);"), 0, 0, budget=0),
-        stopped(16, "@", 0, 0),
-        stopped(12, "@/*/**/", 0, 0),
-        stopped(31, program("@" + "!" * 62 + "true"), 0, 0),
-        stopped(17, program("!" * 63 + "@true"), 0, 0),
-        stopped(22, ONE + " class @B extends B{}", 0, 0),
+        fine(program("1+2"), 4, 0, 0, 3),
+        fine(program("46341*46341"), 4, 0, 0, -2147479015),
+        fine(program("0-2147483647-2"), 6, 0, 0, 2147483647),
+        stopped(14, program("@2147483648"), 0, 0, 0),
+        stopped(31, program("!@1<2"), 0, 0, 0),
+        stopped(34, program("@this"), 0, 0, 0),
+        stopped(30, program("@a"), 0, 0, 0),
+        stopped(42, program("@new int[0-1].length"), 6, 0, 0),
+        stopped(16, program("new int[2]@[0]"), 0, 0, 0),
+        stopped(41, program("@(new int[1])[1]"), 5, 0, 2),
+        stopped(50, program("1+@2"), 3, 0, 0, budget=3),
+        stopped(50, main_with("@System.out.println(1+2);"), 0, 0, 0, budget=0),
+        stopped(16, "@", 0, 0, 0),
+        stopped(12, "@/*/**/", 0, 0, 0),
+        stopped(31, program("@" + "!" * 62 + "true"), 0, 0, 0),
+        stopped(17, program("!" * 63 + "@true"), 0, 0, 0),
+        stopped(22, ONE + " class @B extends B{}", 0, 0, 0),
     ]
 
 
 def zero_rows():
     """Document 02, (i): what Java would read in base 8, or not at all, is refused; a lone 0 stays."""
     refused = ["@010", "@00", "@08", "1+@007", "new int[@00].length", "@02147483648"]
-    return [stopped(60, program(e), 0, 0) for e in refused] + [fine(program("0"), 2, 0, 0), fine(program("10"), 2, 0, 10), fine(program("0+100*0"), 6, 0, 0)]
+    return [stopped(60, program(e), 0, 0, 0) for e in refused] + [fine(program("0"), 2, 0, 0, 0), fine(program("10"), 2, 0, 0, 10), fine(program("0+100*0"), 6, 0, 0, 0)]
 
 
 def strip_rows():
     """Strips of several lengths, in all ways to end; the program fills them beforehand and looks at all of them afterwards."""
     endings = [
-        ("1+2", end(0, 0, 4, 0, 3)),
+        ("1+2", end(0, 0, 4, 0, 0, 3)),
         ("true", end(31, FIRST)),
         ("00", end(60, FIRST)),
-        ("new int[0-1].length", end(42, FIRST, 6, 0)),
-        ("(new int[1])[1]", end(41, FIRST, 5, 2)),
-        ("new int[1].length", end(0, 0, 4, 2, 1)),
+        ("new int[0-1].length", end(42, FIRST, 6, 0, 0)),
+        ("(new int[1])[1]", end(41, FIRST, 5, 0, 2)),
+        ("new int[1].length", end(0, 0, 4, 0, 2, 1)),
     ]
     rows = []
     for e, answer in endings:
@@ -84,36 +85,36 @@ def order_rows():
         rows.append((line(lesson, calls=65, heap=HEAP_MOST + 1), end(2, 0)))
         rows.append((line(lesson, heap=HEAP_MOST + 1, budget=0, out=0), end(3, 0)))
     rows += [(line(ONE.ljust(16385), heap=heap, out=out), end(10, 0)) for heap, out in ((0, 0), (1, 1), (HEAP_MOST, 256))]
-    rows += [(line(ONE.ljust(16384), heap=heap), end(0, 0, 2, 0, 1)) for heap in (0, HEAP_MOST)]
+    rows += [(line(ONE.ljust(16384), heap=heap), end(0, 0, 2, 0, 0, 1)) for heap in (0, HEAP_MOST)]
     rows += [(line("#", budget=0, calls=1, heap=0, out=0), end(11, 0)), (line(program("true"), budget=0, calls=1, heap=0, out=0), end(31, FIRST))]
-    rows.append(stopped(22, ONE + "class A{}class @C extends B{}class B extends B{}", 0, 0))
+    rows.append(stopped(22, ONE + "class A{}class @C extends B{}class B extends B{}", 0, 0, 0))
     return rows
 
 
 def budget_rows():
     """Each node as the first that is not begun. A run whose last step uses the budget up ends in 0."""
     sum_at = [START, FIRST, FIRST, FIRST + 2]
-    rows = [(line(program("1+2"), budget=k), end(50, at, k, 0)) for k, at in enumerate(sum_at)]
-    rows += [fine(program("1+2"), 4, 0, 3, budget=budget) for budget in (4, 5, 4294967295)]
+    rows = [(line(program("1+2"), budget=k), end(50, at, k, 0, 0)) for k, at in enumerate(sum_at)]
+    rows += [fine(program("1+2"), 4, 0, 0, 3, budget=budget) for budget in (4, 5, 4294967295)]
     # `while` is charged once, its test on each round, its body after true.
     loop = main_with("while(true){}")
-    rows += [(line(loop, budget=k), end(50, START + (0 if k == 0 else 6 if k % 2 else 11), k, 0)) for k in (0, 1, 2, 3, 4, 99, 100, 99999, 100000)]
+    rows += [(line(loop, budget=k), end(50, START + (0 if k == 0 else 6 if k % 2 else 11), k, 0, 0)) for k in (0, 1, 2, 3, 4, 99, 100, 99999, 100000)]
     rows += [
-        fine(main_with("while(false){}"), 2, 0),
-        fine(main_with("while(false&&true){}"), 3, 0),
-        fine(main_with("while(true&&false){}"), 4, 0),
-        fine(main_with("if(!false)System.out.println(8);else{}"), 5, 0, 8),
-        fine(main_with("if(!true)System.out.println(8);else{}"), 4, 0),
-        fine(main_with("if(true)System.out.println(7);else{}"), 4, 0, 7),
-        fine(main_with("{}"), 1, 0),
-        fine(main_with("{" * 64 + "}" * 64), 64, 0),
-        stopped(50, main_with("if(true){}else@{}").replace("true", "1<0"), 4, 0, budget=4),
-        stopped(50, main_with("{{}@{}}"), 2, 0, budget=2),
+        fine(main_with("while(false){}"), 2, 0, 0),
+        fine(main_with("while(false&&true){}"), 3, 0, 0),
+        fine(main_with("while(true&&false){}"), 4, 0, 0),
+        fine(main_with("if(!false)System.out.println(8);else{}"), 5, 0, 0, 8),
+        fine(main_with("if(!true)System.out.println(8);else{}"), 4, 0, 0),
+        fine(main_with("if(true)System.out.println(7);else{}"), 4, 0, 0, 7),
+        fine(main_with("{}"), 1, 0, 0),
+        fine(main_with("{" * 64 + "}" * 64), 64, 0, 0),
+        stopped(50, main_with("if(true){}else@{}").replace("true", "1<0"), 4, 0, 0, budget=4),
+        stopped(50, main_with("{{}@{}}"), 2, 0, 0, budget=2),
     ]
     # Neither `return` nor a declaration is a step; an assignment's target is no node.
     body = program("new A().m()") + class_of("A", "public int m(){int x;int[] y;x=1;y=new int[x];y[0]=x;return y[0];}")
-    rows.append(fine(body, 3 + 2 + 3 + 3 + 3, 1 + 2, 1, budget=14))
-    rows.append(stopped(50, body.replace("return y[0]", "return y[@0]"), 13, 3, budget=13))
+    rows.append(fine(body, 3 + 2 + 3 + 3 + 3, 1, 1 + 2, 1, budget=14))
+    rows.append(stopped(50, body.replace("return y[0]", "return y[@0]"), 13, 1, 3, budget=13))
     return rows
 
 
@@ -122,20 +123,20 @@ def heap_rows():
     objects = class_of("A", "int x;int[] y;A z;boolean w;" + method()) + class_of("B", "int x;", "A")
     two = program("new int[1].length+@new int[2].length")
     rows = [
-        fine(program("new A().m()") + objects, 4, 5, 1, heap=5),
-        stopped(51, program("@new A().m()") + objects, 3, 0, heap=4),
-        fine(program("new B().m()") + objects, 4, 6, 1, heap=6),
-        stopped(51, program("@new B().m()") + objects, 3, 0, heap=5),
-        fine(program("new int[0].length"), 4, 1, 0, heap=1),
-        stopped(51, program("@new int[0].length"), 4, 0, heap=0),
-        fine(program("new int[3].length"), 4, 4, 3, heap=4),
-        stopped(51, program("@new int[3].length"), 4, 0, heap=3),
-        fine(program("new int[16383].length"), 4, 16384, 16383, heap=16384),
-        stopped(51, program("@new int[16384].length"), 4, 0, heap=16384),
-        stopped(51, program("@new int[2147483647].length"), 4, 0, heap=16384),
-        stopped(42, program("@new int[0-1].length"), 6, 0, heap=0),
-        fine(unmarked(two), 8, 5, 3, heap=5),
-        stopped(51, two, 8, 2, heap=4),
+        fine(program("new A().m()") + objects, 4, 1, 5, 1, heap=5),
+        stopped(51, program("@new A().m()") + objects, 3, 0, 0, heap=4),
+        fine(program("new B().m()") + objects, 4, 2, 6, 1, heap=6),
+        stopped(51, program("@new B().m()") + objects, 3, 0, 0, heap=5),
+        fine(program("new int[0].length"), 4, 0, 1, 0, heap=1),
+        stopped(51, program("@new int[0].length"), 4, 0, 0, heap=0),
+        fine(program("new int[3].length"), 4, 0, 4, 3, heap=4),
+        stopped(51, program("@new int[3].length"), 4, 0, 0, heap=3),
+        fine(program("new int[16383].length"), 4, 0, 16384, 16383, heap=16384),
+        stopped(51, program("@new int[16384].length"), 4, 0, 0, heap=16384),
+        stopped(51, program("@new int[2147483647].length"), 4, 0, 0, heap=16384),
+        stopped(42, program("@new int[0-1].length"), 6, 0, 0, heap=0),
+        fine(unmarked(two), 8, 0, 5, 3, heap=5),
+        stopped(51, two, 8, 0, 2, heap=4),
     ]
     return rows
 
@@ -148,20 +149,20 @@ def call_rows():
     # Locals begin as 0 in every call, also where arguments of an earlier one lay.
     fresh = class_of("A", "public int f(int a,int b,int c){return a;}public int g(){int x;int y;int z;return x+y+z;}")
     rows = [
-        fine(program("new A().f(1,2,3)+new A().g()") + fresh, 2 + 6 + 7, 2, 1, calls=1),
-        fine(program("new A().m()") + plain, 4, 2, 1, calls=1),
-        fine(program("new A().k()") + plain, 6, 2, 1, calls=2),
-        stopped(52, program("new A().k()") + kept, 5, 2, calls=1),
-        fine(program("new A().f(new A().f(new A().f(1)))") + plain, 11, 6, 1, calls=1),
-        fine(program("new A().m()+new A().k()") + plain, 2 + 3 + 5, 4, 2, calls=2),
-        stopped(40, program("new A().q()") + plain.replace("n.m()", "@n.m()"), 5, 2, calls=1),
+        fine(program("new A().f(1,2,3)+new A().g()") + fresh, 2 + 6 + 7, 2, 2, 1, calls=1),
+        fine(program("new A().m()") + plain, 4, 1, 2, 1, calls=1),
+        fine(program("new A().k()") + plain, 6, 2, 2, 1, calls=2),
+        stopped(52, program("new A().k()") + kept, 5, 1, 2, calls=1),
+        fine(program("new A().f(new A().f(new A().f(1)))") + plain, 11, 3, 6, 1, calls=1),
+        fine(program("new A().m()+new A().k()") + plain, 2 + 3 + 5, 1 + 2, 4, 2, calls=2),
+        stopped(40, program("new A().q()") + plain.replace("n.m()", "@n.m()"), 5, 1, 2, calls=1),
     ]
     # Of d(n): 3 nodes of main and the argument; in each call but the last the conditional, its test of 3, the assignment, the call, `this` and n-1 of 3, and `r`; in the last 4, 2 and 1.
     for n in (0, 1, 5, 63):
-        rows.append(fine(program("new A().d(%d)" % n) + unmarked(down), 4 + n * 11 + 7, 1, 0, calls=n + 1))
+        rows.append(fine(program("new A().d(%d)" % n) + unmarked(down), 4 + n * 11 + 7, n + 1, 1, 0, calls=n + 1))
     for limit in (1, 2, 5, 64):
         # The call that is one too many: all but the `r` of each call that is open.
-        rows.append(stopped(52, program("new A().d(100)") + down, 4 + limit * 10, 1, calls=limit))
+        rows.append(stopped(52, program("new A().d(100)") + down, 4 + limit * 10, limit, 1, calls=limit))
     return rows
 
 
@@ -171,16 +172,16 @@ def output_rows():
     many = ["System.out.println(%d);" % k for k in range(100)]
     marked = main_with("{" + "".join(many[:99]) + "@" + many[99] + "}")
     return [
-        fine(main_with(unmarked(two)), 5, 0, 5, 6, out=2),
-        stopped(53, main_with(two), 5, 0, 5, out=1),
-        (line(program("1+2"), out=0), end(53, START, 4, 0)),
-        stopped(42, program("@new int[0-1].length"), 6, 0, out=0),
-        fine(main_with("{}"), 1, 0, out=0),
-        fine(unmarked(marked), 201, 0, *range(100), out=100),
-        stopped(53, marked, 201, 0, *range(99), out=99),
-        fine(program("0-2147483647-1"), 6, 0, -2147483648),
-        fine(program("0-1"), 4, 0, -1),
-        fine(program("2147483647"), 2, 0, 2147483647),
+        fine(main_with(unmarked(two)), 5, 0, 0, 5, 6, out=2),
+        stopped(53, main_with(two), 5, 0, 0, 5, out=1),
+        (line(program("1+2"), out=0), end(53, START, 4, 0, 0)),
+        stopped(42, program("@new int[0-1].length"), 6, 0, 0, out=0),
+        fine(main_with("{}"), 1, 0, 0, out=0),
+        fine(unmarked(marked), 201, 0, 0, *range(100), out=100),
+        stopped(53, marked, 201, 0, 0, *range(99), out=99),
+        fine(program("0-2147483647-1"), 6, 0, 0, -2147483648),
+        fine(program("0-1"), 4, 0, 0, -1),
+        fine(program("2147483647"), 2, 0, 0, 2147483647),
     ]
 
 
@@ -192,16 +193,16 @@ def fault_rows():
         return program("new A().m()") + class_of("A", "int[] x;A o;" + method(body, value=value) + tail)
 
     return [
-        stopped(40, in_method("", "@x[0-1]"), 3 + 5, 3),
-        stopped(40, in_method("", "@x.length"), 3 + 2, 3),
-        stopped(40, in_method("", "@o.t(this.t(4))"), 3 + 2 + 6, 3, 4),
-        stopped(40, in_method("@x[this.t(1)]=this.t(2);"), 3 + 1 + 6 + 6, 3, 1, 2),
-        stopped(41, in_method("x=new int[2];", "@x[2]"), 3 + 3 + 3, 6),
-        stopped(41, in_method("x=new int[2];@x[0-1]=3;"), 3 + 3 + 5, 6),
-        stopped(41, in_method("x=new int[2];", "@x[2147483647+1]"), 3 + 3 + 5, 6),
+        stopped(40, in_method("", "@x[0-1]"), 3 + 5, 1, 3),
+        stopped(40, in_method("", "@x.length"), 3 + 2, 1, 3),
+        stopped(40, in_method("", "@o.t(this.t(4))"), 3 + 2 + 6, 2, 3, 4),
+        stopped(40, in_method("@x[this.t(1)]=this.t(2);"), 3 + 1 + 6 + 6, 3, 3, 1, 2),
+        stopped(41, in_method("x=new int[2];", "@x[2]"), 3 + 3 + 3, 1, 6),
+        stopped(41, in_method("x=new int[2];@x[0-1]=3;"), 3 + 3 + 5, 1, 6),
+        stopped(41, in_method("x=new int[2];", "@x[2147483647+1]"), 3 + 3 + 5, 1, 6),
         # The index gives the field another array; the one that was read is written.
         fine(program("new A().m()") + class_of("A", "int[] x;" + method("int[] y;x=new int[2];y=x;x[this.s()]=7;", value="y[1]+x.length") + "public int s(){x=new int[5];return 1;}"),
-             3 + 3 + 2 + 8 + 6, 2 + 3 + 6, 12),
+             3 + 3 + 2 + 8 + 6, 2, 2 + 3 + 6, 12),
     ]
 
 
@@ -215,34 +216,81 @@ def array_rows():
         return program("new A().m()") + class_of("A", "boolean[] b;A[] c;" + method(body, value=value) + tail)
 
     return [
-        fine(program("new boolean[3].length"), 4, 4, 3, heap=4),
-        stopped(51, program("@new boolean[3].length"), 4, 0, heap=3),
-        fine(program("new boolean[0].length"), 4, 1, 0, heap=1),
-        stopped(42, program("@new boolean[0-1].length"), 6, 0, heap=0),
-        fine(program("new A[3].length") + one, 4, 4, 3, heap=4),
-        stopped(51, program("@new A[3].length") + one, 4, 0, heap=3),
-        fine(program("new A[16383].length") + one, 4, 16384, 16383, heap=16384),
-        stopped(42, program("@new A[0-1].length") + one, 6, 0, heap=0),
-        stopped(50, program("new A[@1].length") + one, 3, 0, budget=3),
-        stopped(50, program("(new A[1])[@0].m()") + one, 5, 2, budget=5),
-        fine(main_with("if((new boolean[2])[1])System.out.println(1);else System.out.println(2);"), 7, 3, 2),
-        stopped(41, main_with("if(@(new boolean[2])[2]){}else{}"), 5, 3),
-        stopped(41, program("@(new A[1])[1].m()") + one, 6, 2),
-        stopped(40, program("@(new A[1])[0].m()") + one, 6, 2),
-        stopped(40, in_method("@b[this.t(1)]=this.t(2)<3;"), 3 + 1 + 6 + 8, 3, 1, 2),
-        stopped(40, in_method("@c[0-1]=this;"), 3 + 5, 3),
-        stopped(40, in_method("", "@c.length"), 3 + 2, 3),
-        stopped(40, in_method("", "@c[0].t(this.t(4))"), 3 + 4, 3),
-        stopped(40, in_method("c=new A[2];c[0]=this;", "c[0].t(1)+@c[1].t(this.t(4))"), 3 + 3 + 3 + 1 + 8 + 4 + 6, 6, 1, 4),
-        stopped(41, in_method("b=new boolean[2];b[1]=true;@b[2]=b[1];"), 3 + 3 + 3 + 5, 6),
-        stopped(41, in_method("c=new A[2];@c[2]=c[0];"), 3 + 3 + 5, 6),
-        fine(in_method("b=new boolean[2];b[1]=!b[0];if(b[0]&&b[1])System.out.println(4);else if(b[1])System.out.println(5);else{}"), 3 + 3 + 6 + 5 + 6 + 1, 6, 5, 1),
+        fine(program("new boolean[3].length"), 4, 0, 4, 3, heap=4),
+        stopped(51, program("@new boolean[3].length"), 4, 0, 0, heap=3),
+        fine(program("new boolean[0].length"), 4, 0, 1, 0, heap=1),
+        stopped(42, program("@new boolean[0-1].length"), 6, 0, 0, heap=0),
+        fine(program("new A[3].length") + one, 4, 0, 4, 3, heap=4),
+        stopped(51, program("@new A[3].length") + one, 4, 0, 0, heap=3),
+        fine(program("new A[16383].length") + one, 4, 0, 16384, 16383, heap=16384),
+        stopped(42, program("@new A[0-1].length") + one, 6, 0, 0, heap=0),
+        stopped(50, program("new A[@1].length") + one, 3, 0, 0, budget=3),
+        stopped(50, program("(new A[1])[@0].m()") + one, 5, 0, 2, budget=5),
+        fine(main_with("if((new boolean[2])[1])System.out.println(1);else System.out.println(2);"), 7, 0, 3, 2),
+        stopped(41, main_with("if(@(new boolean[2])[2]){}else{}"), 5, 0, 3),
+        stopped(41, program("@(new A[1])[1].m()") + one, 6, 0, 2),
+        stopped(40, program("@(new A[1])[0].m()") + one, 6, 0, 2),
+        stopped(40, in_method("@b[this.t(1)]=this.t(2)<3;"), 3 + 1 + 6 + 8, 3, 3, 1, 2),
+        stopped(40, in_method("@c[0-1]=this;"), 3 + 5, 1, 3),
+        stopped(40, in_method("", "@c.length"), 3 + 2, 1, 3),
+        stopped(40, in_method("", "@c[0].t(this.t(4))"), 3 + 4, 1, 3),
+        stopped(40, in_method("c=new A[2];c[0]=this;", "c[0].t(1)+@c[1].t(this.t(4))"), 3 + 3 + 3 + 1 + 8 + 4 + 6, 3, 6, 1, 4),
+        stopped(41, in_method("b=new boolean[2];b[1]=true;@b[2]=b[1];"), 3 + 3 + 3 + 5, 1, 6),
+        stopped(41, in_method("c=new A[2];@c[2]=c[0];"), 3 + 3 + 5, 1, 6),
+        fine(in_method("b=new boolean[2];b[1]=!b[0];if(b[0]&&b[1])System.out.println(4);else if(b[1])System.out.println(5);else{}"), 3 + 3 + 6 + 5 + 6 + 1, 1, 6, 5, 1),
         # An element holds an object of the class, or of one below it.
         fine(program("new A().m()") + class_of("A", "A[] c;" + method(held, value="c[0].k()+c[1].k()*10") + method(name="k")) + class_of("B", method(name="k", value="2"), "A"),
-             3 + 3 + 3 + 3 + 13, 2 + 3 + 2, 21),
+             3 + 3 + 3 + 3 + 13, 3, 2 + 3 + 2, 21),
         # The index gives the field another array; the one that was read is written.
         fine(program("new A().m()") + class_of("A", "A[] c;" + method("A[] d;c=new A[2];d=c;c[this.s()]=this;", value="d[1].t(7)+c.length") + tail + "public int s(){c=new A[5];return 1;}"),
-             3 + 3 + 2 + 8 + 11, 2 + 3 + 6, 7, 12),
+             3 + 3 + 2 + 8 + 11, 3, 2 + 3 + 6, 7, 12),
+    ]
+
+
+def climb_rows():
+    """Document 02, (vii): a call that is opened adds the classes from the object's to the one that declares the method. Main has 3 nodes before a method without parameters begins."""
+    above = class_of("A", method(name="k", value="7") + method(name="f", parameters="int x", value="x")) + class_of("B", "int k;", "A") + class_of("C", method(name="k", value="8"), "B")
+    above += class_of("D", "", "C")
+    chain = class_of("C000", method()) + "".join(class_of("C%03d" % k, "", "C%03d" % (k - 1)) for k in range(1, 300))
+    # B has nothing of its own; a call of `t` has 6 nodes.
+    tail = "public int t(int k){System.out.println(k);return k;}"
+
+    def below(body="", value="1", expression="new B().m()"):
+        return program(expression) + class_of("A", "A o;int[] x;" + method(body, value=value) + tail) + class_of("B", "", "A")
+
+    return [
+        fine(program("1") + above, 2, 0, 0, 1),
+        fine(program("new A().k()") + above, 4, 1, 1, 7),
+        fine(program("new B().k()") + above, 4, 2, 2, 7),
+        fine(program("new C().k()") + above, 4, 1, 2, 8),
+        fine(program("new D().k()") + above, 4, 2, 2, 8),
+        fine(program("new D().f(5)") + above, 4 + 1, 4, 2, 5),
+        fine(program("new C000().m()") + chain, 4, 1, 1, 1),
+        fine(program("new C001().m()") + chain, 4, 2, 1, 1),
+        fine(program("new C299().m()") + chain, 4, 300, 1, 1),
+        # The parents stand below their children.
+        fine(program("new C().k()") + class_of("C", "", "B") + class_of("B", "", "A") + class_of("A", method(name="k")), 4, 3, 1, 1),
+        # Calls as receiver, as argument, beside each other, and in the rounds of a loop.
+        fine(program("new D().f(new B().f(new A().f(5)))") + above, 1 + 3 * 2 + 1 + 3, 4 + 2 + 1, 2 + 2 + 1, 5),
+        fine(program("new D().k()*new B().k()-new A().k()") + above, 1 + 2 + 3 * 3, 2 + 2 + 1, 2 + 2 + 1, 49),
+        fine(program("new B().s().s().k()") + class_of("A", method(name="s", result="A", value="this") + method(name="k")) + class_of("B", "", "A"), 1 + 1 + 2 * 2 + 2, 2 + 2 + 2, 1, 1),
+        fine(below("int i;while(i<3)i=this.t(i)+1;", "i"), 3 + 1 + 4 * 3 + 3 * (1 + 2 + 6) + 1, 2 + 3 * 2, 3, 0, 1, 2, 3),
+        # The object's class counts, not that of the variable, of the element or of the class in which the call stands.
+        fine(below("A y;y=new B();", "y.t(5)", "new A().m()"), 3 + 2 + 3 + 3, 1 + 2, 3 + 3, 5, 5),
+        fine(below("A[] y;y=new A[2];y[0]=this;y[1]=new A();", "y[0].t(5)+y[1].t(6)"), 3 + 3 + 3 + 3 + 1 + 2 * 8, 2 + 2 + 1, 3 + 3 + 3, 5, 6, 11),
+        # What ends a call's receiver or arguments, 40 and 52 add nothing; what ends a call that is open has added.
+        stopped(40, below("", "@o.t(this.t(4))"), 3 + 2 + 6, 2 + 2, 3, 4),
+        stopped(41, below("x=new int[1];", "this.t(@x[1])"), 3 + 3 + 5, 2, 5),
+        stopped(42, program("new B().f(@new int[0-1].length)") + above, 8, 0, 2),
+        stopped(52, below("", "@this.m()"), 3 + 2 * 1, 2, 3, calls=1),
+        stopped(52, below("", "@this.m()"), 3 + 2 * 64, 2 * 64, 3),
+        stopped(52, below("", "this.t(@this.t(4))"), 3 + 2 + 3, 2, 3, calls=1),
+        stopped(50, program("@new B().k()") + above, 2, 0, 0, budget=2),
+        stopped(50, program("new B().k()") + above.replace("return 7", "return @7"), 3, 2, 2, budget=3),
+        stopped(50, below("while(@true){}"), 3 + 1 + 2 * 98, 2, 3, budget=200),
+        stopped(51, below("", "@new int[8].length"), 3 + 3, 2, 3, heap=11),
+        stopped(53, below("@System.out.println(5);"), 3 + 2, 2, 3, out=0),
+        stopped(31, program("new B().k()+@true") + above, 0, 0, 0),
     ]
 
 
@@ -278,4 +326,4 @@ def errors():
 
 
 def run_rows():
-    return bench_rows() + zero_rows() + strip_rows() + order_rows() + budget_rows() + heap_rows() + call_rows() + output_rows() + fault_rows() + array_rows()
+    return bench_rows() + zero_rows() + strip_rows() + order_rows() + budget_rows() + heap_rows() + call_rows() + output_rows() + fault_rows() + array_rows() + climb_rows()

@@ -53,7 +53,7 @@ pub fn usage() {
     text(b"  check TABLE SOURCE: number, position, classes\n");
     text(b"  menu TABLE STRIP SOURCE: number, position, classes, then what is written\n");
     text(
-        b"  run TABLE BUDGET CALLS HEAP OUTPUT SOURCE: number, position, steps, heap words, then what is printed\n",
+        b"  run TABLE BUDGET CALLS HEAP OUTPUT SOURCE: number, position, steps, climbs, heap words, then what is printed\n",
     );
     text(
         b"A line that is no case is answered by what is wrong with it. STRIP after an answer says that something lent\n",

@@ -1,5 +1,5 @@
-// The operation run: `run TABLE BUDGET CALLS HEAP OUT HEX` is answered by `NUMBER POSITION STEPS WORDS`, and where numbers were printed
-// by ` :` and these.
+// The operation run: `run TABLE BUDGET CALLS HEAP OUT HEX` is answered by `NUMBER POSITION STEPS CLIMBS WORDS`, and where numbers were
+// printed by ` :` and these.
 use crate::numbers;
 use crate::output;
 use crate::page;
@@ -18,6 +18,7 @@ fn write_end(a: RunAnswer) {
     output::number(a.number as u64);
     output::next_number(a.position as u64);
     output::next_number(a.steps as u64);
+    output::next_number(a.climbs);
     output::next_number(a.words as u64);
 }
 

@@ -21,7 +21,7 @@ use Rattle.typesystem.specs.Check.{checking}
 use Rattle.semantics.specs.Run.{RunAnswer, Strips, limitsOf, unfit, stripsAfter, refusal, Reports, RunMeets, Runs}
 use Rattle.semantics.specs.Ends.{End, refusedAt, ran, ofOutcome, endOf, Row, found, expected}
 
--- Run's answer at an end: a refusal with zero counts, or the run's number, position, steps, heap words and printed count
+-- Run's answer at an end: a refusal with zero counts, or the run's number, position, steps, climbs, heap words and printed count
 abbrev pub Answered : End → RunAnswer → Type 0
 Answered (refusedAt n p) a = a ≡ refusal n p
 Answered (ran r) a = Reports r a

@@ -20,9 +20,9 @@ methodOver body = method body ++ bytes " class B extends A{}"
 abbrev pub grammarRows : List Row
 grammarRows =
     -- at the begin of a body the third token tells a declaration from an assignment
-    row (method (bytes "A[] x;return 1;")) usual (ends 0 0 4 1 (pos 1 ∷ [])) ∷
+    row (method (bytes "A[] x;return 1;")) usual (ends 0 0 4 1 1 (pos 1 ∷ [])) ∷
     row (printing (bytes "new A().m(new int[1])") ++ bytes " class A{public int m(int[] C){C[0]=7;return C[0];}}") usual
-    (ends 0 0 11 3 (pos 7 ∷ [])) ∷
+    (ends 0 0 11 1 3 (pos 7 ∷ [])) ∷
     -- after the first statement `A[]` can only be an assignment
     row (method (bytes "int i;i=1;A[] x;return 1;")) usual (refusedAt 16 114) ∷
     -- no array of arrays
@@ -58,18 +58,18 @@ typeRows =
 abbrev pub runRows : List Row
 runRows =
     -- elements begin as false and as null
-    row (method (bytes "boolean[] b;int r;b=new boolean[2];if(!b[0])r=1;else r=2;return r;")) usual (ends 0 0 14 4 (pos 1 ∷ [])) ∷
-    row (method (bytes "A[] x;x=new A[1];return x[0].m();")) usual (ends 40 126 10 3 []) ∷
+    row (method (bytes "boolean[] b;int r;b=new boolean[2];if(!b[0])r=1;else r=2;return r;")) usual (ends 0 0 14 1 4 (pos 1 ∷ [])) ∷
+    row (method (bytes "A[] x;x=new A[1];return x[0].m();")) usual (ends 40 126 10 1 3 []) ∷
     -- the method of an element is that of the object which was stored
     row (printing (bytes "new A().m()")
     ++ bytes " class A{public int k(){return 1;}public int m(){A[] x;x=new A[1];x[0]=new B();return x[0].k();}}"
-    ++ bytes " class B extends A{public int k(){return 2;}}") usual (ends 0 0 14 4 (pos 2 ∷ [])) ∷
-    row (printing (bytes "new boolean[3].length")) usual (ends 0 0 4 4 (pos 3 ∷ [])) ∷
+    ++ bytes " class B extends A{public int k(){return 2;}}") usual (ends 0 0 14 2 4 (pos 2 ∷ [])) ∷
+    row (printing (bytes "new boolean[3].length")) usual (ends 0 0 4 0 4 (pos 3 ∷ [])) ∷
     -- 41, 42 and 51 as for int
-    row (method (bytes "A[] x;x=new A[1];x[1]=this;return 1;")) usual (ends 41 119 9 3 []) ∷
-    row (printing (bytes "new boolean[0-1].length")) usual (ends 42 63 6 0 []) ∷
-    row (method (bytes "A[] x;x=new A[3];return 1;")) (stripLimits 4 256) (ends 51 110 6 1 []) ∷
-    row (method (bytes "A[] x;x=new A[3];return 1;")) (stripLimits 5 256) (ends 0 0 7 5 (pos 1 ∷ [])) ∷
+    row (method (bytes "A[] x;x=new A[1];x[1]=this;return 1;")) usual (ends 41 119 9 1 3 []) ∷
+    row (printing (bytes "new boolean[0-1].length")) usual (ends 42 63 6 0 0 []) ∷
+    row (method (bytes "A[] x;x=new A[3];return 1;")) (stripLimits 4 256) (ends 51 110 6 1 1 []) ∷
+    row (method (bytes "A[] x;x=new A[3];return 1;")) (stripLimits 5 256) (ends 0 0 7 1 5 (pos 1 ∷ [])) ∷
     []
 
 abbrev pub arrayRows : List Row

@@ -33,7 +33,7 @@ endlessRows =
     -- 22 comes before what is wrong inside a class
     row (declaring (bytes " class B{X x;} class A extends A{}")) usual (refusedAt 22 89) ∷
     -- a chain of all the classes ends
-    row (declaring (bytes " class A extends B{} class B extends C{} class C{}")) usual (ends 0 0 2 0 (pos 1 ∷ [])) ∷
+    row (declaring (bytes " class A extends B{} class B extends C{} class C{}")) usual (ends 0 0 2 0 0 (pos 1 ∷ [])) ∷
     []
 
 pub endless : All RowHolds endlessRows

@@ -3,6 +3,7 @@ pub mod Answers
 pub mod Starred
 pub mod Further
 pub mod Arrays
+pub mod Climbs
 pub mod Stuck
 pub mod Endless
 pub mod MenuRows

@@ -11,14 +11,14 @@ use Rattle.rows.specs.Answers.{RowHolds, hold}
 abbrev pub refutingRows : List Row
 refutingRows =
     -- 16 for every lesson; 0 and nothing printed for every lesson; steps copied from the budget
-    row (printing (bytes "1+2")) usual (ends 0 0 4 0 (pos 3 ∷ [])) ∷
+    row (printing (bytes "1+2")) usual (ends 0 0 4 0 0 (pos 3 ∷ [])) ∷
     -- judges the first method, waves the others through
     row (printing (bytes "1") ++ bytes " class A{public int m(){return 1;}public int n(){return true;}}") usual (refusedAt 31 124) ∷
     -- 50 before the first node under a positive budget: the statement is begun
-    row (printing (bytes "1+2")) (limits 1 64) (ends 50 63 1 0 []) ∷
+    row (printing (bytes "1+2")) (limits 1 64) (ends 50 63 1 0 0 []) ∷
     -- carries out one statement, then 0
     row (bytes "class M{public static void main(String[] a){{System.out.println(1);System.out.println(2);}}}")
-    usual (ends 0 0 5 0 (pos 1 ∷ pos 2 ∷ [])) ∷
+    usual (ends 0 0 5 0 0 (pos 1 ∷ pos 2 ∷ [])) ∷
     []
 
 pub worthless : All RowHolds refutingRows

@@ -1,12 +1,12 @@
 -- Demand 3, of Run: a lesson that document 01 allows never gets stuck, and larger limits change nothing of a run that ended by itself and
 -- only add to what a stopped one printed. It holds of the machine (guarantees/Demand), and Run answers and shows what the machine's run
 -- reports and prints (DemandLaws).
-use Prim.Native.Nat.{ℕ}
+use Prim.Native.Nat.{ℕ, _*_, _≤_}
 use mathlib.Core.Path.{_≡_, sym, ap, _∙_}
 use mathlib.Core.Logic.{_⊎_, inl, inr}
 use mathlib.Core.List.{List}
 use mathlib.Core.Option.{none}
-use lib.ListN.{take}
+use lib.ListN.{length, take}
 use lib.IntN.{ℤ}
 use Rattle.base.specs.Outcome.{accepted}
 use Rattle.parser.specs.Tree.{Program}
@@ -39,7 +39,8 @@ module _ {s : List ℕ} where
 
   -- how the first of two calls ends, and what that says of the second
   pub data Agree (c c′ : RunCall s) : Type 0 where
-    -- by itself, in 0, 40, 41 or 42: the second has the same answer (result, position, steps, heap words, printed count) and numbers
+    -- by itself, in 0, 40, 41 or 42: the second has the same answer (result, position, steps, climbs, heap words, printed count) and
+    -- numbers
     by-itself : Finish (c .answer .number) → c′ .answer ≡ c .answer → printed c′ ≡ printed c → Agree c c′
     -- a limit stops it, with 50, 51, 52 or 53: its printed numbers begin those of the second
     by-a-limit : ByLimit (c .answer .number) → Begins (printed c) (printed c′) → Agree c c′
@@ -70,3 +71,10 @@ demand-3 s p h c c′ larger = by (ends-as (Machine.ends-well s p found L) (meet
         by-itself f (one-answer e (meets-run c .0) (meets-run c′ .0))
         (printed-is c′ ∙ ap (λ (r : Report). r .printed) e ∙ sym (printed-is c))
     by (inr l) = by-a-limit l (rw (printed-is c, printed-is c′) (Machine.printed-begins p L M larger))
+
+-- Document 02, (vii): the total of climbs that Run reports is at most its steps times the number of classes in the table.
+pub reported-climbs : (s : List ℕ) (p : Program) → Allowed s p → (c : RunCall s)
+    → c .answer .climbs ≤ c .answer .steps * length (p .classes)
+reported-climbs s p h c =
+    let M = meets p (c .budget) (c .calls) (c .before) (c .answer) (c .after) s (allowed-accepted s p h) (c .fit) (c .runs) .0 in
+    rw (M .steps, M .climbs) (Machine.climbs-bounded p (limits c))

@@ -18,11 +18,13 @@ ghost use Rattle.reader.specs.contracts.WalkPost.{Walkable};
 ghost use Rattle.semantics.specs.Run.{Runs, refusal};
 ghost use Rattle.runner.specs.contracts.RunPost.{runAnswerOf, strips, LeftByCheck, CompletesInRoom, Completes, Performed};
 
-// What Run answers: a result number and a position, the steps, the heap words and how many numbers were printed.
+// What Run answers: a result number and a position, the steps, how many classes the calls climbed through (at most the classes of the
+// lesson for each step, so 64 bits hold it), the heap words and how many numbers were printed.
 pub struct RunAnswer {
     pub number: u32,
     pub position: usize,
     pub steps: usize,
+    pub climbs: u64,
     pub words: usize,
     pub printed: usize,
 }
@@ -35,6 +37,7 @@ fn refusal(number: u32, position: usize) -> RunAnswer
         number,
         position,
         steps: 0,
+        climbs: 0,
         words: 0,
         printed: 0,
     }
@@ -65,6 +68,7 @@ fn compiled(
         number: e.number,
         position: e.position,
         steps: e.steps,
+        climbs: e.climbs,
         words: e.words,
         printed: e.printed,
     }

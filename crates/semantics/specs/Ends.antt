@@ -40,11 +40,11 @@ unfolding Bytes.isBlank Bytes.isLetter Bytes.isDigit Bytes.isNamePart Kinds.isNa
     Stream.operatorOf Check.bodies Check.classBodies Check.allBodies Check.judged Check.checking ClassTable.classNamed
     ClassTable.methodNamed ClassTable.variableNamed ClassTable.chainWithin ClassTable.chain ClassTable.endsWithin ClassTable.sameElement
     ClassTable.sameType ClassTable.known ClassTable.among ClassTable.onChain ClassTable.fits ClassTable.layout ClassTable.fieldsOf
-    ClassTable.nearestField ClassTable.nearestMethod ClassTable.methodOf ClassTable.meaning ClassTable.occurs Operators.resultIn
-    Declarations.distinctClasses Declarations.knownParents Declarations.endingChains Declarations.fields Declarations.variables
-    Declarations.sameTypes Declarations.heads Declarations.declarations Judge.arity Judge.judge Limits.guard Limits.runWith Limits.run
-    Machine.readName Machine.writeName Machine.begin Machine.beginStatement Machine.second Machine.callMethod Machine.nextArgument
-    Machine.nextStatement Machine.nextOfBody Machine.newArrayOf Machine.newObjectOf Machine.go Machine.plan
+    ClassTable.nearestField ClassTable.nearestMethod ClassTable.methodOf Machine.search ClassTable.meaning ClassTable.occurs
+    Operators.resultIn Declarations.distinctClasses Declarations.knownParents Declarations.endingChains Declarations.fields
+    Declarations.variables Declarations.sameTypes Declarations.heads Declarations.declarations Judge.arity Judge.judge Limits.guard
+    Limits.runWith Limits.run Machine.readName Machine.writeName Machine.begin Machine.beginStatement Machine.second Machine.callMethod
+    Machine.nextArgument Machine.nextStatement Machine.nextOfBody Machine.newArrayOf Machine.newObjectOf Machine.go Machine.plan
 endOf s L = ofOutcome L (Check.checking s)
 
 abbrev pub endingOf : Outcome Read.Reading → Limits.Limits → Option Limits.Ending
@@ -56,9 +56,10 @@ unfoldable pub uncheckedOf : List ℕ → Limits.Limits → Option Limits.Ending
 unfolding endOf
 uncheckedOf s L = endingOf (Read.reading s) L
 
--- an end with a result number and a position, steps, heap words and printed numbers
-abbrev pub ends : (number position steps words : ℕ) → List ℤ → End
-ends n p steps words printed = ran (record { ending = Limits.Ending.ended n p; steps = steps; words = words; printed = printed })
+-- an end with a result number and a position, steps, climbs, heap words and printed numbers
+abbrev pub ends : (number position steps climbs words : ℕ) → List ℤ → End
+ends n p steps climbs words printed =
+    ran (record { ending = Limits.Ending.ended n p; steps = steps; climbs = climbs; words = words; printed = printed })
 
 -- bayrun's limits, with another budget or call limit where a row says so
 abbrev pub limits : (budget calls : ℕ) → Limits.Limits

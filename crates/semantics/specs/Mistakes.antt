@@ -8,7 +8,7 @@ use mathlib.Core.Option.{some}
 use lib.IntN.{pos}
 use Rattle.base.specs.Bytes.{bytes}
 use Rattle.semantics.specs.Limits.{wentWrong}
-use Rattle.semantics.specs.Ends.{endOf, uncheckedOf, ends, usual, printing}
+use Rattle.semantics.specs.Ends.{endOf, uncheckedOf, ends, limits, usual, printing}
 
 -- the method is the object's own, not that of the declared type
 abbrev pub declaredAbove : List ℕ
@@ -16,7 +16,7 @@ declaredAbove =
     printing (bytes "new C().k(new B())") ++ bytes " class A{public int m(){return 1;}} class B extends A{public int m(){return 2;}}"
     ++ bytes " class C{public int k(A a){return a.m();}}"
 
-pub own-method : endOf declaredAbove usual ≡ ends 0 0 7 2 (pos 2 ∷ [])
+pub own-method : endOf declaredAbove usual ≡ ends 0 0 7 2 2 (pos 2 ∷ [])
 unfolding endOf
 own-method = refl
 
@@ -27,7 +27,7 @@ hiddenField =
     printing (bytes "new B().b()") ++ bytes " class A{int x;public int a(){x=3;return x;}}"
     ++ bytes " class B extends A{int x;public int b(){return this.a()*10+x;}}"
 
-pub both-fields : endOf hiddenField usual ≡ ends 0 0 12 3 (pos 30 ∷ [])
+pub both-fields : endOf hiddenField usual ≡ ends 0 0 12 3 3 (pos 30 ∷ [])
 unfolding endOf
 both-fields = refl
 
@@ -36,7 +36,7 @@ abbrev pub nullReceiver : List ℕ
 nullReceiver =
     printing (bytes "new A().m()") ++ bytes " class A{A n;public int m(){return n.k(new int[3].length);}public int k(int x){return x;}}"
 
-pub null-after-arguments : endOf nullReceiver usual ≡ ends 40 113 8 6 []
+pub null-after-arguments : endOf nullReceiver usual ≡ ends 40 113 8 1 6 []
 unfolding endOf
 null-after-arguments = refl
 
@@ -44,7 +44,7 @@ null-after-arguments = refl
 abbrev pub threeRounds : List ℕ
 threeRounds = printing (bytes "new A().m()") ++ bytes " class A{public int m(){int i;while(i<3)i=i+1;return i;}}"
 
-pub one-step-for-while : endOf threeRounds usual ≡ ends 0 0 29 1 (pos 3 ∷ [])
+pub one-step-for-while : endOf threeRounds usual ≡ ends 0 0 29 1 1 (pos 3 ∷ [])
 unfolding endOf
 one-step-for-while = refl
 
@@ -54,7 +54,7 @@ falseElement =
     printing (bytes "new A().m()")
     ++ bytes " class A{public int m(){boolean[] b;int r;b=new boolean[2];if(!b[0])r=1;else r=2;return r;}}"
 
-pub elements-begin-as-false : endOf falseElement usual ≡ ends 0 0 14 4 (pos 1 ∷ [])
+pub elements-begin-as-false : endOf falseElement usual ≡ ends 0 0 14 1 4 (pos 1 ∷ [])
 unfolding endOf
 elements-begin-as-false = refl
 
@@ -64,9 +64,17 @@ pastTheEnd =
     printing (bytes "new A().m()")
     ++ bytes " class A{public int m(){A[] x;A[] y;x=new A[1];y=new A[3];y=x[2].n();return 1;}public A[] n(){return new A[1];}}"
 
-pub bound-of-the-array : endOf pastTheEnd usual ≡ ends 41 138 14 7 []
+pub bound-of-the-array : endOf pastTheEnd usual ≡ ends 41 138 14 1 7 []
 unfolding endOf
 bound-of-the-array = refl
+
+-- each of the two calls that are open climbed through one class, and the third, which 52 refuses, through none
+abbrev pub endlessCalls : List ℕ
+endlessCalls = printing (bytes "new A().m()") ++ bytes " class A{public int m(){return this.m();}}"
+
+pub refused-call-climbs-nothing : endOf endlessCalls (limits 100000 2) ≡ ends 52 109 7 2 1 []
+unfolding endOf
+refused-call-climbs-nothing = refl
 
 -- Stuck at a value of another kind, in lessons that Check refuses: each would run to its end if the kind were not tested there.
 abbrev pub truthAssigned : List ℕ

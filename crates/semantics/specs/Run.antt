@@ -18,6 +18,7 @@ pub record RunAnswer : Type 0 where
   pub number : ℕ
   pub position : ℕ
   pub steps : ℕ
+  pub climbs : ℕ
   pub words : ℕ
   pub printed : ℕ
 
@@ -49,12 +50,13 @@ stripsAfter printed m =
 
 -- a refusal gives zero counts
 abbrev pub refusal : (number position : ℕ) → RunAnswer
-refusal number position = record { number = number; position = position; steps = 0; words = 0; printed = 0 }
+refusal number position = record { number = number; position = position; steps = 0; climbs = 0; words = 0; printed = 0 }
 
--- all ends of a run give steps, heap words and the printed count. No answer stands for a run that got stuck.
+-- all ends of a run give steps, climbs, heap words and the printed count. No answer stands for a run that got stuck.
 pub record Reports (r : Report) (a : RunAnswer) : Type 0 where
   pub ending : r .ending ≡ ended (a .number) (a .position)
   pub steps : a .steps ≡ r .steps
+  pub climbs : a .climbs ≡ r .climbs
   pub words : a .words ≡ r .words
   pub printed : a .printed ≡ length (r .printed)
 

@@ -82,21 +82,21 @@ limits b = record { budget = b; calls = 1; heap = 2; printed = 1 }
 
 -- with enough budget, and with the budget spent in the loop
 abbrev whole : Report
-whole = record { ending = ended 0 0; steps = 68; words = 2; printed = pos 9 ∷ [] }
+whole = record { ending = ended 0 0; steps = 68; climbs = 1; words = 2; printed = pos 9 ∷ [] }
 
 abbrev cut : Report
-cut = record { ending = ended 50 30; steps = 37; words = 2; printed = [] }
+cut = record { ending = ended 50 30; steps = 37; climbs = 1; words = 2; printed = [] }
 
 on-tree : (run lesson (limits 100) ≡ whole) × (run lesson (limits 37) ≡ cut)
 unfolding run Limits.runWith Limits.guard Machine.plan Machine.go Machine.begin Machine.beginStatement Machine.second Machine.callMethod Machine.nextArgument Machine.nextStatement
-    Machine.nextOfBody Machine.newObjectOf Machine.readName Machine.writeName
-    ClassTable.classNamed ClassTable.methodNamed ClassTable.variableNamed ClassTable.chainWithin ClassTable.chain ClassTable.layout ClassTable.fieldsOf ClassTable.nearestField ClassTable.nearestMethod ClassTable.methodOf ClassTable.meaning Judge.arity
+    Machine.nextOfBody Machine.newObjectOf Machine.search Machine.readName Machine.writeName
+    ClassTable.classNamed ClassTable.methodNamed ClassTable.variableNamed ClassTable.chainWithin ClassTable.chain ClassTable.layout ClassTable.fieldsOf ClassTable.nearestField ClassTable.meaning Judge.arity
 on-tree = (refl, refl)
 
 on-code : (runCode (compile lesson) (limits 100) ≡ whole) × (runCode (compile lesson) (limits 37) ≡ cut)
 unfolding runCode Demand.turnsOfCode Limits.runWith Limits.guard Code.due Code.act Code.dispatch Code.climb Code.rowNamed Code.entryNamed
     compile Compile.end Compile.emit Compile.endMethods Compile.emitMethods Compile.namedOf Compile.emitClasses Compile.rowsOf
-    ClassTable.classNamed ClassTable.methodNamed ClassTable.variableNamed ClassTable.chainWithin ClassTable.chain ClassTable.layout ClassTable.fieldsOf ClassTable.nearestField ClassTable.nearestMethod ClassTable.methodOf ClassTable.meaning Judge.arity
+    ClassTable.classNamed ClassTable.methodNamed ClassTable.variableNamed ClassTable.chainWithin ClassTable.chain ClassTable.layout ClassTable.fieldsOf ClassTable.nearestField ClassTable.meaning Judge.arity
 on-code = (refl, refl)
 
 -- the number of the one class is 0
@@ -108,5 +108,5 @@ onWords L =
 on-words : (onWords (limits 100) ≡ whole) × (onWords (limits 37) ≡ cut)
 unfolding Limits.runWith Limits.guard wordDue Words.wordAct climb Code.rowNamed Code.entryNamed
     compile Compile.end Compile.emit Compile.endMethods Compile.emitMethods Compile.namedOf Compile.emitClasses Compile.rowsOf
-    ClassTable.classNamed ClassTable.methodNamed ClassTable.variableNamed ClassTable.chainWithin ClassTable.chain ClassTable.layout ClassTable.fieldsOf ClassTable.nearestField ClassTable.nearestMethod ClassTable.methodOf ClassTable.meaning Judge.arity
+    ClassTable.classNamed ClassTable.methodNamed ClassTable.variableNamed ClassTable.chainWithin ClassTable.chain ClassTable.layout ClassTable.fieldsOf ClassTable.nearestField ClassTable.meaning Judge.arity
 on-words = (refl, refl)

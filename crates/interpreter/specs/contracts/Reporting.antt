@@ -17,10 +17,10 @@ pub record UnpaidPost (c : List ℕ) (place left most r : ℕ) : Type 0 where
 pub record ShortPost (c : List ℕ) (place left r : ℕ) : Type 0 where
   pub says : (q : ℕ) → Short c place left q → r ≡ q
 
-abbrev pub endedAs : (number position steps : ℕ) → Registers → Ended
-endedAs n q s m = record { number = n; position = q; steps = s; words = m .words; printed = m .printed }
+abbrev pub endedAs : (number position steps climbs : ℕ) → Registers → Ended
+endedAs n q s v m = record { number = n; position = q; steps = s; climbs = v; words = m .words; printed = m .printed }
 
-pub data Closes (c : List ℕ) (budget : ℕ) (m : Registers) : Ended → Type 0 where
-  closes-halt : {r : Ended} → m .due ≡ 3 → r ≡ endedAs 0 0 (Word.sub budget (m .left)) m → Closes c budget m r
-  closes-spent : {r : Ended} {q : ℕ} → m .due ≡ 50 → ShortPost c (m .place % 8192) (m .left) q → r ≡ endedAs 50 q budget m → Closes c budget m r
-  closes-fault : {r : Ended} → m .due ≢ 3 → m .due ≢ 50 → r ≡ endedAs (m .due) (operandAt c (m .place % 8192)) (Word.sub budget (m .left)) m → Closes c budget m r
+pub data Closes (c : List ℕ) (budget : ℕ) (m : Registers) (climbs : ℕ) : Ended → Type 0 where
+  closes-halt : {r : Ended} → m .due ≡ 3 → r ≡ endedAs 0 0 (Word.sub budget (m .left)) climbs m → Closes c budget m climbs r
+  closes-spent : {r : Ended} {q : ℕ} → m .due ≡ 50 → ShortPost c (m .place % 8192) (m .left) q → r ≡ endedAs 50 q budget climbs m → Closes c budget m climbs r
+  closes-fault : {r : Ended} → m .due ≢ 3 → m .due ≢ 50 → r ≡ endedAs (m .due) (operandAt c (m .place % 8192)) (Word.sub budget (m .left)) climbs m → Closes c budget m climbs r

@@ -1,12 +1,13 @@
 -- What the look-ups ensure, whatever the tokens and the classes are that the table holds.
-use Prim.Native.Nat.{ℕ, _+_, _-_, _≤_, _<_}
+use Prim.Native.Nat.{ℕ, _+_, _-_, _%_, _≤_, _<_}
 use mathlib.Core.Path.{_≡_}
 use mathlib.Core.List.{List, [], _∷_}
 use mathlib.Core.Bool.{Bool, false, _||_}
 use mathlib.Core.Option.{Option, none, some}
 use lib.ListN.{length}
 use lib.Dec.{eqb, ltb}
-use Rattle.base.specs.Choice.{if_then_else_}
+use Rattle.base.specs.Choice.{if_then_else_, option}
+use Rattle.base.specs.Word.{modulus}
 use Rattle.base.specs.contracts.Table.{col}
 use Rattle.lexer.specs.Tokens.{Token}
 use Rattle.lexer.specs.contracts.Rows.{firstNamed}
@@ -88,6 +89,16 @@ amongNumbers ts d (k ∷ ks) = eqb (firstNamed ts (k .name .text)) d || amongNum
 
 pub record OnChain (tab : List ℕ) (left c d : ℕ) (r : Bool) : Type 0 where
   pub says : (n : ℕ) (ts : List Token) (G : List Class) → ClassTableHeld tab n ts G → (name : Option (List ℕ)) → MaybeNumber ts name c → r ≡ amongNumbers ts d (chainFrom left G name)
+
+-- how many classes the search for a method visits: up to and including the first that has it
+unfoldable pub visited : List Class → (method : List ℕ) → ℕ
+visited [] m = 0
+visited (k ∷ ks) m = option (methodNamed (k .methods) m) (1 + visited ks m) λ _. 1
+
+-- in 32 bits
+pub record CountsVisits (tab : List ℕ) (n left c x : ℕ) (r : ℕ) : Type 0 where
+  pub says : (ts : List Token) (G : List Class) → ClassTableHeld tab n ts G → (name : Option (List ℕ)) → MaybeNumber ts name c
+      → (text : List ℕ) → NameNumber ts text x → r ≡ visited (chainFrom left G name) text % modulus
 
 abbrev pub rowFound : Option Found → ℕ
 rowFound none = absent

@@ -26,6 +26,7 @@ one-answer {a = a} {a′ = a′} e R R′ =
       number = n j;
       position = i j;
       steps = (R′ .steps ∙ ap (λ (x : Report). x .steps) e ∙ sym (R .steps)) j;
+      climbs = (R′ .climbs ∙ ap (λ (x : Report). x .climbs) e ∙ sym (R .climbs)) j;
       words = (R′ .words ∙ ap (λ (x : Report). x .words) e ∙ sym (R .words)) j;
       printed = (R′ .printed ∙ ap (λ (x : Report). length (x .printed)) e ∙ sym (R .printed)) j;
     }

@@ -32,6 +32,7 @@ use Rattle.semantics.specs.Machine.{Task, Task.operate, Task.fetch, Task.measur
 use Rattle.semantics.specs.Machine.{need, require, ofKind, ofKinds, pop, popMany, innermost, asSlot, asObjectCell, asArrayCell, arrayCell, inBounds, readMeaning, readName, writeMeaning, writeName, isAnd, begin, beginStatement, second, callMethod, nextArgument, nextStatement, nextOfBody, newArrayOf, newObjectOf, opened, go, plan, start}
 use Rattle.semantics.specs.Limits.{Limits, Meters, begun, Ending, ended, wentWrong, unfinished, Progress, next, stop, guard, sizeOf, runWith, run}
 use Rattle.soundness.specs.Results.{by-null, by-index, by-size, Finish, by-success, by-fault, ByLimit, by-budget, by-heap, by-calls, by-output, EndsWell}
+use Rattle.soundness.specs.laws.Search.{search-finds}
 use Rattle.soundness.specs.laws.ResultLaws.{Over}
 use Rattle.soundness.specs.laws.Continuations.{after-by}
 use Rattle.soundness.specs.laws.Ending.{run-ends}
@@ -286,8 +287,8 @@ module _ {G : List Class} (T : All (ClassTyped G) G) (L : All (λ k. All MethodF
     enter-ok : {us : List Ty} {ts : List Task} {given vs : List Value} {t : Ty} (p : Place) (a : ℕ) {d m : List ℕ} {N : Method} (K : Found)
         → getElem? σ a ≡ some (objectType d) → All2 (ValueTyped G σ) given (map typeOf (N .parameters)) → All2 (ValueTyped G σ) vs us
         → HasMethod G d m K → Redeclares G (K .method) N → Sub G (N .result .type) t → TasksTyped G Γs (t ∷ us) ts
-        → Asks G (require (ofKinds (K .method .parameters) given) λ _. enter (p .start) (length cs + 1) (opened K a given ts vs cs h))
-    enter-ok {given = given} p a {d} {m} K e X W k r b R =
+        → (visits : ℕ) → Asks G (require (ofKinds (K .method .parameters) given) λ _. enter (p .start) (length cs + 1) visits (opened K a given ts vs cs h))
+    enter-ok {given = given} p a {d} {m} K e X W k r b R visits =
         let D = method-declares T k .typed in
         let M = every-method L k in
         let Y : All2 (ValueTyped G σ) given (map typeOf (K .method .parameters)) = subst (All2 (ValueTyped G σ) given) (sym (r .parameters)) X in
@@ -303,10 +304,11 @@ module _ {G : List Class} (T : All (ClassTyped G) G) (L : All (λ k. All MethodF
         → HasMethod G c m F → Sub G (F .method .result .type) t → TasksTyped G Γs (t ∷ us) ts → Asks G (callMethod G p m given x ts vs cs h)
     unfolding callMethod
     call-ok p X v-no-object W f b R = by-null
-    call-ok p X (v-object {a = a} e s) W f b R =
+    call-ok p {m = m} X (v-object {a = a} {b = d} e s) W f b R =
         let D = method-up T s f in
+        let C = search-finds G d m (has-methodOf (table-acyclic T) (D .has)) in
         object-cell-ok _ (all2-at a (H .cells) e)
-        (need-ok _ (has-methodOf (table-acyclic T) (D .has)) (enter-ok p a (D .found) e X W (D .has) (D .redeclares) b R))
+        (need-ok _ (C .1) (enter-ok p a (D .found) e X W (D .has) (D .redeclares) b R (C .0)))
 
     receive-ok : {us : List Ty} {ts : List Task} {given vs : List Value} {t : Ty} (p : Place) {c m : List ℕ} {F : Found}
         → All2 (ValueTyped G σ) given (map typeOf (F .method .parameters)) → All2 (ValueTyped G σ) vs (plain (class c) ∷ us)
@@ -384,7 +386,7 @@ pub guard-safe : (G : List Class) (L : Limits) (m : Meters) (r : Request Core) �
 unfolding guard
 guard-safe G L m (charge p c) h = by-test (Safe G) (ltb (m .steps) (L .budget)) _ _ (λ _. h) (λ _. inr by-budget)
 guard-safe G L m (allocate p n c) h = by-test (Safe G) (leb n (L .heap)) _ _ (λ _. h) (λ _. inr by-heap)
-guard-safe G L m (enter p n c) h = by-test (Safe G) (leb n (L .calls)) _ _ (λ _. h) (λ _. inr by-calls)
+guard-safe G L m (enter p n k c) h = by-test (Safe G) (leb n (L .calls)) _ _ (λ _. h) (λ _. inr by-calls)
 guard-safe G L m (output p z c) h = by-test (Safe G) (ltb (length (m .printed)) (L .printed)) _ _ (λ _. h) (λ _. inr by-output)
 guard-safe G L m (move c) h = h
 guard-safe G L m (fault k p) h = inl (by-fault h)

@@ -18,7 +18,7 @@ use Rattle.parser.specs.Tree.{Sort.expression, Sort.arguments, Sort.statement, 
 use Rattle.parser.specs.Tree.{Part.literal, Part.truth, Part.variable, Part.this, Part.newArray, Part.newObject, Part.negation, Part.binary, Part.element, Part.arrayLength, Part.call, Part.noArguments, Part.argument}
 use Rattle.parser.specs.Tree.{Part.block, Part.conditional, Part.loop, Part.print, Part.assign, Part.assignElement, Part.noStatements, Part.sequence}
 use Rattle.parser.specs.Measure.{least, deepHere, deep, methodsDeep, classesDeep, programDeep}
-use Rattle.typesystem.specs.ClassTable.{Found, Context, classNamed, methodOf}
+use Rattle.typesystem.specs.ClassTable.{Found, Context, classNamed, chain, methodOf}
 use Rattle.typesystem.specs.TypingRules.{ClassTyped, ProgramTyped, typeOf}
 use Rattle.typing.specs.laws.Choices.{by-test, taken}
 use Rattle.typing.specs.laws.Members.{methodOf-has}
@@ -26,8 +26,9 @@ use Rattle.typing.specs.laws.Programs.{table-acyclic}
 use Rattle.typing.specs.laws.ClassTableLaws.{every-method, method-declares}
 use Rattle.semantics.specs.Machine.{Value, Cell, Call, Core, Core.core, Request, Request.charge, Request.allocate, Request.enter, Request.output, Request.move, Request.fault, Request.done, Request.stuck}
 use Rattle.semantics.specs.Machine.{Task, Task.evaluate, Task.execute, Task.operand, Task.operate, Task.confirm, Task.negate, Task.index, Task.fetch, Task.measure, Task.makeArray, Task.makeObject, Task.invoke, Task.branch, Task.decide, Task.again, Task.show, Task.store, Task.newElement, Task.storeElement, Task.continue, Task.perform, Task.leave}
-use Rattle.semantics.specs.Machine.{ofKind, ofKinds, isAnd, apply, begin, beginStatement, second, callMethod, nextArgument, nextStatement, nextOfBody, newArrayOf, newObjectOf, go, plan}
+use Rattle.semantics.specs.Machine.{search, ofKind, ofKinds, isAnd, apply, begin, beginStatement, second, callMethod, nextArgument, nextStatement, nextOfBody, newArrayOf, newObjectOf, go, plan}
 use Rattle.semantics.specs.Limits.{Limits, Meters, Progress, next, stop, guard, heapOf}
+use Rattle.soundness.specs.laws.Search.{search-found}
 use Rattle.soundness.specs.laws.Continuations.{Closed, need-by, require-by, pop-by, popMany-by, number-by, flag-by, array-by, object-by, object-cell-by, choice-by, innermost-by, cell-by, array-at-by, in-bounds-by, read-by, write-by}
 use Rattle.soundness.specs.laws.StateTyping.{LiteralsFit, StateTyped, typed}
 use Rattle.soundness.specs.laws.StateTyping.{TasksTyped, r-end, r-evaluate, r-execute, r-operand, r-operate, r-confirm, r-negate, r-index, r-fetch, r-measure, r-make-array, r-make-object, r-invoke, r-branch, r-decide, r-again, r-show, r-store, r-new-element, r-store-element, r-continue, r-perform, r-leave}
@@ -206,7 +207,7 @@ FitsC n w (core ts vs cs h) = (length cs ≤ n) × (length h ≤ w) × Fits (len
 abbrev FitsR : (n w : ℕ) → Request Core → Type 0
 FitsR n w (charge p c) = FitsC n w c
 FitsR n w (allocate p k c) = FitsC n k (c tt)
-FitsR n w (enter p k c) = FitsC k w c
+FitsR n w (enter p k v c) = FitsC k w c
 FitsR n w (output p z c) = FitsC n w c
 FitsR n w (move c) = FitsC n w c
 FitsR n w (fault k p) = Unit {0}
@@ -268,8 +269,8 @@ module _ (n w : ℕ) (G : List Class) where
       need-by closed (classNamed G k) _ (λ _ _. (c, simp (length-append, length-map) (omega arith), f))
   task-fits B (invoke p m k noArguments) ts vs cs h l c d f =
       popMany-by closed k [] vs _ (λ given vs. pop-by closed vs _ (λ x vs. object-by closed p x _ (λ a. need-by closed (getElem? h a) _ (λ o _.
-      object-cell-by closed o _ (λ b. need-by closed (methodOf G b m) _ (λ F e. let S = B b m F e in
-      require-by closed (ofKinds (F .method .parameters) given) _ (omega arith, d, (omega (arith, S .body, S .value), f))))))))
+      object-cell-by closed o _ (λ b. need-by closed (search (chain G b) m) _ (λ s e. let S = B b m (s .found) (search-found G b m e) in
+      require-by closed (ofKinds (s .found .method .parameters) given) _ (omega arith, d, (omega (arith, S .body, S .value), f))))))))
   task-fits B (invoke p m k (argument e es)) ts vs cs h l c d f = begin-fits e (invoke p m k es ∷ ts) vs cs h (omega arith) c d (omega arith, f)
   task-fits B (branch s t) ts vs cs h l c d f =
       pop-by closed vs _ (λ x vs. flag-by closed x _ (λ b.
@@ -376,7 +377,7 @@ guard-fits L m (allocate p n c) i j f =
   where
     heap-more : (c : Core) {n : ℕ} → n ≤ L .heap → FitsC (L .calls) n c → FitsC (L .calls) (L .heap) c
     heap-more (core ts vs cs h) l f = (f .0, omega (arith, f .1), f .2)
-guard-fits L m (enter p n c) i j f =
+guard-fits L m (enter p n k c) i j f =
     by-test (FitsO L) (leb n (L .calls)) _ _ (λ e. (calls-more c (leb-true n (L .calls) e) f, i, j)) (λ _. tt)
   where
     calls-more : (c : Core) {n : ℕ} → n ≤ L .calls → FitsC n (L .heap) c → FitsC (L .calls) (L .heap) c

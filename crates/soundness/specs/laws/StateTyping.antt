@@ -174,7 +174,7 @@ pub data StateTyped (G : List Class) : Core → Type 0 where
 abbrev pub Asks : List Class → Request Core → Type 0
 Asks G (charge p c) = StateTyped G c
 Asks G (allocate p n c) = StateTyped G (c tt)
-Asks G (enter p n c) = StateTyped G c
+Asks G (enter p n k c) = StateTyped G c
 Asks G (output p z c) = StateTyped G c
 Asks G (move c) = StateTyped G c
 Asks G (fault k p) = Fault k
