@@ -7,21 +7,6 @@ use Rattle.lexer.proofs.Verdicts.{judged-as, added-refused, added-name,
 use Rattle.lexer.proofs.add.Statement.{statement}
 use Rattle.lexer.proofs.add.Tie as tie
 
-sub-judge : tie.Need-sub-judge
-sub-judge c = let a = c .before .before .pre .0 in omega (arith, a .ordered)
-
-part-judge-start : tie.Need-part-judge-start
-part-judge-start c = let a = c .before .before .pre .0 in omega (arith, a .ordered)
-
-part-judge-end : tie.Need-part-judge-end
-part-judge-end c = let a = c .before .before .pre .0 in omega (arith, a .inside)
-
-judge-requires : tie.Need-judge-requires
-judge-requires c κs = search needs
-
-enum-known-number : tie.Need-enum-known-number
-enum-known-number c = c .match .keys1
-
 enum-told : tie.Need-enum-told
 enum-told c = c .match .keys2
 
@@ -32,9 +17,6 @@ store-name-requires c κs =
     let a = g .args in
     let j = judged-as (a .count) (a .token .kind) (a .token .start) _ (v .judge .ensures) (c .before .enum-told .given .1) in
     (g .pre .0, omega (arith, j .0, g .pre .0 .chained .filled .few), j .1)
-
-enum-known-number-2 : tie.Need-enum-known-number-2
-enum-known-number-2 c = c .match .keys3
 
 store-requires : tie.Need-store-requires
 store-requires c κs =
@@ -48,18 +30,12 @@ store-requires c κs =
 returns : tie.Need-returns
 returns c = added-refused (c .before .before .before .judge .ensures) (c .before .number .given .1)
 
-same-length : tie.Need-same-length
-same-length c = search needs
-
 returns-2 : tie.Need-returns-2
 returns-2 c =
     let e = c .before .before .before .before in
     let v = e .before .before in
     let p = v .before .before .before .before .pre .0 in
     added-name (v .judge .ensures) (e .enum-told .given .1) (p .ordered) (p .inside) (c .before .before .store-name .ensures)
-
-same-length-2 : tie.Need-same-length-2
-same-length-2 c = search needs
 
 returns-3 : tie.Need-returns-3
 returns-3 c =
@@ -75,19 +51,7 @@ returns-3 c =
 
 pub add-spec : {M : Type 1} → statement M
 add-spec =
-    tie.close
-    (tie.spec
-    sub-judge
-    part-judge-start
-    part-judge-end
-    judge-requires
-    enum-known-number
-    enum-told
-    store-name-requires
-    enum-known-number-2
-    store-requires
-    returns
-    same-length
-    returns-2
-    same-length-2
-    returns-3)
+    tie.close (tie.spec (λ c. let a = c .before .before .pre .0 in omega (arith, a .ordered))
+    (λ c. let a = c .before .before .pre .0 in omega (arith, a .ordered))
+    (λ c. let a = c .before .before .pre .0 in omega (arith, a .inside)) (λ c κs. search needs) (λ c. c .match .keys1) enum-told
+    store-name-requires (λ c. c .match .keys3) store-requires returns (λ c. search needs) returns-2 (λ c. search needs) returns-3)

@@ -18,22 +18,10 @@ abbrev μ-loop : tie.MeasureT-loop
 kept : (c : tie.At-loop Inv-loop μ-loop) → length (c .loop .table) ≡ length (c .before .before .before .before .before .before .before .before .args .table .now)
 kept c = omega (arith, c .loop .inv .1, c .before .before .before .before .clear-buckets .kept .0)
 
-clear-buckets-requires : tie.Need-clear-buckets-requires Inv-loop μ-loop
-clear-buckets-requires c κs = search needs
-
-byte-kinds-requires : tie.Need-byte-kinds-requires Inv-loop μ-loop
-byte-kinds-requires c κs = search needs
-
 loop-holds : tie.Need-loop-holds Inv-loop μ-loop
 loop-holds c =
     let g = c .before .before .before .before .before .before .before in
     (lexing-start (g .args .source .now) _ (omega (arith, g .pre .0, c .before .before .before .clear-buckets .kept .0)) (c .before .before .before .clear-buckets .ensures), refl)
-
-piece-at-requires : tie.Need-piece-at-requires Inv-loop μ-loop
-piece-at-requires c κs = (c .before .before .before .byte-kinds .ensures, c .before .loop-test .taken)
-
-enum-known-next : tie.Need-enum-known-next Inv-loop μ-loop
-enum-known-next c = c .match .keys1
 
 loop-less : tie.Need-loop-less Inv-loop μ-loop
 loop-less c =
@@ -53,9 +41,6 @@ loop-again c =
 enum-told : tie.Need-enum-told Inv-loop μ-loop
 enum-told c = c .match .keys2
 
-same-length : tie.Need-same-length Inv-loop μ-loop
-same-length c = kept (c .before .before .before .before .before)
-
 returns : tie.Need-returns Inv-loop μ-loop
 returns c =
     let p = c .before .before in
@@ -63,21 +48,12 @@ returns c =
     let l = t .before in
     (kept l, answers-refused _ (l .loop .table) (unclosed-refused (t .loop-test .taken) (l .loop .inv .0) (sym (c .enum-told .given .1) ∙ p .piece-at .ensures)))
 
-enum-told-2 : tie.Need-enum-told-2 Inv-loop μ-loop
-enum-told-2 c = c .match .keys3
-
-same-length-2 : tie.Need-same-length-2 Inv-loop μ-loop
-same-length-2 c = kept (c .before .before .before .before .before)
-
 returns-2 : tie.Need-returns-2 Inv-loop μ-loop
 returns-2 c =
     let p = c .before .before in
     let t = p .before .before in
     let l = t .before in
     (kept l, answers-refused _ (l .loop .table) (nothing-refused (t .loop-test .taken) (l .loop .inv .0) (sym (c .enum-told2 .given .1) ∙ p .piece-at .ensures)))
-
-enum-known-kind : tie.Need-enum-known-kind Inv-loop μ-loop
-enum-known-kind c = c .match .keys4
 
 add-requires : tie.Need-add-requires Inv-loop μ-loop
 add-requires c κs =
@@ -94,12 +70,6 @@ add-requires c κs =
       },
       g .kind,
     )
-
-enum-told-3 : tie.Need-enum-told-3 Inv-loop μ-loop
-enum-told-3 c = c .match2 .keys1
-
-add-count : tie.Need-add-count Inv-loop μ-loop
-add-count c = search needs
 
 loop-less-2 : tie.Need-loop-less-2 Inv-loop μ-loop
 loop-less-2 c =
@@ -120,9 +90,6 @@ loop-again-2 c =
     let a = c .before .before .before .before .add in
     (lexing-token (t .loop-test .taken) (l .loop .inv .0) g (a .ensures) (c .enum-told3 .given .1), omega (arith, l .loop .inv .1, a .kept .1 .0))
 
-enum-known-number : tie.Need-enum-known-number Inv-loop μ-loop
-enum-known-number c = c .match2 .keys2
-
 same-length-3 : tie.Need-same-length-3 Inv-loop μ-loop
 same-length-3 c = omega (arith, kept (c .before .before .before .before .before .before .before .before .before .before .before .before .before), c .before .before .before .before .before .add .kept .1 .0)
 
@@ -137,39 +104,13 @@ returns-3 c =
     let q = token-refused (t .loop-test .taken) (l .loop .inv .0) g (a .ensures) (c .before .number .given .1) in
     (omega (arith, kept l, a .kept .1 .0), answers-refused _ _ q)
 
-same-length-4 : tie.Need-same-length-4 Inv-loop μ-loop
-same-length-4 c = kept (c .before)
-
 returns-4 : tie.Need-returns-4 Inv-loop μ-loop
 returns-4 c = (kept (c .before), answers-tokens (c .loop-test .left) (c .before .loop .inv .0))
 
 pub lex-spec : {M : Type 1} → statement M
 lex-spec =
-    tie.close
-    (tie.spec
-    Inv-loop
-    μ-loop
-    clear-buckets-requires
-    byte-kinds-requires
-    loop-holds
-    piece-at-requires
-    enum-known-next
-    loop-less
-    loop-again
-    enum-told
-    same-length
-    returns
-    enum-told-2
-    same-length-2
-    returns-2
-    enum-known-kind
-    add-requires
-    enum-told-3
-    add-count
-    loop-less-2
-    loop-again-2
-    enum-known-number
-    same-length-3
-    returns-3
-    same-length-4
-    returns-4)
+    tie.close (tie.spec Inv-loop μ-loop (λ c κs. search needs) (λ c κs. search needs) loop-holds
+    (λ c κs. (c .before .before .before .byte-kinds .ensures, c .before .loop-test .taken)) (λ c. c .match .keys1) loop-less loop-again
+    enum-told (λ c. kept (c .before .before .before .before .before)) returns (λ c. c .match .keys3)
+    (λ c. kept (c .before .before .before .before .before)) returns-2 (λ c. c .match .keys4) add-requires (λ c. c .match2 .keys1)
+    (λ c. search needs) loop-less-2 loop-again-2 (λ c. c .match2 .keys2) same-length-3 returns-3 (λ c. kept (c .before)) returns-4)

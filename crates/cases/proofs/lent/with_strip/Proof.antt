@@ -6,67 +6,8 @@ use borrow.Author.Needs.{needs}
 use Rattle.cases.proofs.lent.with_strip.Statement.{statement}
 use Rattle.cases.proofs.lent.with_strip.Tie as tie
 
-source-word-requires : tie.Need-source-word-requires
-source-word-requires c κs = search needs
-
-size-at-requires : tie.Need-size-at-requires
-size-at-requires c κs = search needs
-
-enum-known-s : tie.Need-enum-known-s
-enum-known-s c = search needs
-
-slice-relend-prefix-with-text : tie.Need-slice-relend-prefix-with-text
-slice-relend-prefix-with-text c = search needs
-
-slice-aggregate-with-text : tie.Need-slice-aggregate-with-text
-slice-aggregate-with-text c = sym (length-take-le _ _ (omega arith))
-
-with-text-requires : tie.Need-with-text-requires
-with-text-requires c κs = search needs
-
-refuse-requires : tie.Need-refuse-requires
-refuse-requires c κs = search needs
-
-enum-known-s-2 : tie.Need-enum-known-s-2
-enum-known-s-2 c = search needs
-
-refuse-requires-2 : tie.Need-refuse-requires-2
-refuse-requires-2 c κs = search needs
-
-same-length : tie.Need-same-length
-same-length c = search needs
-
-same-length-2 : tie.Need-same-length-2
-same-length-2 c = search needs
-
-same-length-3 : tie.Need-same-length-3
-same-length-3 c = search needs
-
-returns : tie.Need-returns
-returns c = search needs
-
-returns-2 : tie.Need-returns-2
-returns-2 c = search needs
-
-returns-3 : tie.Need-returns-3
-returns-3 c = search needs
-
 pub with-strip-spec : {M : Type 1} → statement M
 with-strip-spec =
-    tie.close
-    (tie.spec
-    source-word-requires
-    size-at-requires
-    enum-known-s
-    slice-relend-prefix-with-text
-    slice-aggregate-with-text
-    with-text-requires
-    refuse-requires
-    enum-known-s-2
-    refuse-requires-2
-    same-length
-    same-length-2
-    same-length-3
-    returns
-    returns-2
-    returns-3)
+    tie.close (tie.spec (λ c κs. search needs) (λ c κs. search needs) (λ c. search needs) (λ c. search needs)
+    (λ c. sym (length-take-le _ _ (omega arith))) (λ c κs. search needs) (λ c κs. search needs) (λ c. search needs) (λ c κs. search needs)
+    (λ c. search needs) (λ c. search needs) (λ c. search needs) (λ c. search needs) (λ c. search needs) (λ c. search needs))

@@ -14,15 +14,6 @@ Inv-loop page₀ at digits n i₀ page i = (i ≤ 20) × (length page ≡ length
 abbrev μ-loop : tie.MeasureT-loop
 μ-loop page₀ at digits n i₀ page i = 20 - i
 
-loop-holds : tie.Need-loop-holds Inv-loop μ-loop
-loop-holds c = (search needs, refl)
-
-element-copy-out-page : tie.Need-element-copy-out-page Inv-loop μ-loop
-element-copy-out-page c = ltb-true (c .before .before .loop .i) 20 (c .if1 .taken)
-
-add-page : tie.Need-add-page Inv-loop μ-loop
-add-page c = search needs
-
 slice-write-page : tie.Need-slice-write-page Inv-loop μ-loop
 slice-write-page c = omega (arith, ltb-true (c .before .before .before .loop .i) 20 (c .before .if1 .taken))
 
@@ -35,28 +26,7 @@ loop-less c = omega (arith, ltb-true (c .before .before .before .loop .i) 20 (c 
 loop-again : tie.Need-loop-again Inv-loop μ-loop
 loop-again c = (omega (arith, ltb-true (c .before .before .before .loop .i) 20 (c .before .if1 .taken)), search needs)
 
-add-result : tie.Need-add-result Inv-loop μ-loop
-add-result c = search needs
-
-same-length : tie.Need-same-length Inv-loop μ-loop
-same-length c = search needs
-
-returns : tie.Need-returns Inv-loop μ-loop
-returns c = search needs
-
 pub put-digits-spec : {M : Type 1} → statement M
 put-digits-spec =
-    tie.close
-    (tie.spec
-    Inv-loop
-    μ-loop
-    loop-holds
-    element-copy-out-page
-    add-page
-    slice-write-page
-    add-i
-    loop-less
-    loop-again
-    add-result
-    same-length
-    returns)
+    tie.close (tie.spec Inv-loop μ-loop (λ c. (search needs, refl)) (λ c. ltb-true (c .before .before .loop .i) 20 (c .if1 .taken))
+    (λ c. search needs) slice-write-page add-i loop-less loop-again (λ c. search needs) (λ c. search needs) (λ c. search needs))

@@ -6,20 +6,7 @@ use borrow.Author.Needs.{needs}
 use Rattle.cases.proofs.page.with_room.Statement.{statement}
 use Rattle.cases.proofs.page.with_room.Tie as tie
 
-sub-if1 : tie.Need-sub-if1
-sub-if1 c = search needs
-
-returns : tie.Need-returns
-returns c = search needs
-
-slice-aggregate-text : tie.Need-slice-aggregate-text
-slice-aggregate-text c = sym (length-take-le _ _ (omega arith))
-
-text-requires : tie.Need-text-requires
-text-requires c κs = search needs
-
-returns-2 : tie.Need-returns-2
-returns-2 c = search needs
-
 pub with-room-spec : {M : Type 1} → statement M
-with-room-spec = tie.close (tie.spec sub-if1 returns slice-aggregate-text text-requires returns-2)
+with-room-spec =
+    tie.close (tie.spec (λ c. search needs) (λ c. search needs) (λ c. sym (length-take-le _ _ (omega arith))) (λ c κs. search needs)
+    (λ c. search needs))

@@ -6,67 +6,8 @@ use borrow.Author.Needs.{needs}
 use Rattle.cases.proofs.run_lent.with_heap.Statement.{statement}
 use Rattle.cases.proofs.run_lent.with_heap.Tie as tie
 
-number-at-requires : tie.Need-number-at-requires
-number-at-requires c κs = search needs
-
-enum-known-n : tie.Need-enum-known-n
-enum-known-n c = search needs
-
-slice-relend-prefix-with-output : tie.Need-slice-relend-prefix-with-output
-slice-relend-prefix-with-output c = search needs
-
-slice-aggregate-with-output : tie.Need-slice-aggregate-with-output
-slice-aggregate-with-output c = sym (length-take-le _ _ (omega arith))
-
-with-output-requires : tie.Need-with-output-requires
-with-output-requires c κs = search needs
-
-refuse-requires : tie.Need-refuse-requires
-refuse-requires c κs = search needs
-
-enum-told : tie.Need-enum-told
-enum-told c = search needs
-
-refuse-requires-2 : tie.Need-refuse-requires-2
-refuse-requires-2 c κs = search needs
-
-same-length : tie.Need-same-length
-same-length c = search needs
-
-same-length-2 : tie.Need-same-length-2
-same-length-2 c = search needs
-
-same-length-3 : tie.Need-same-length-3
-same-length-3 c = search needs
-
-same-length-4 : tie.Need-same-length-4
-same-length-4 c = search needs
-
-returns : tie.Need-returns
-returns c = search needs
-
-returns-2 : tie.Need-returns-2
-returns-2 c = search needs
-
-returns-3 : tie.Need-returns-3
-returns-3 c = search needs
-
 pub with-heap-spec : {M : Type 1} → statement M
 with-heap-spec =
-    tie.close
-    (tie.spec
-    number-at-requires
-    enum-known-n
-    slice-relend-prefix-with-output
-    slice-aggregate-with-output
-    with-output-requires
-    refuse-requires
-    enum-told
-    refuse-requires-2
-    same-length
-    same-length-2
-    same-length-3
-    same-length-4
-    returns
-    returns-2
-    returns-3)
+    tie.close (tie.spec (λ c κs. search needs) (λ c. search needs) (λ c. search needs) (λ c. sym (length-take-le _ _ (omega arith)))
+    (λ c κs. search needs) (λ c κs. search needs) (λ c. search needs) (λ c κs. search needs) (λ c. search needs) (λ c. search needs)
+    (λ c. search needs) (λ c. search needs) (λ c. search needs) (λ c. search needs) (λ c. search needs))

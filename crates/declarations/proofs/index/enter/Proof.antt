@@ -4,21 +4,6 @@ use Rattle.declarations.proofs.index.enter.Statement.{statement}
 use Rattle.declarations.proofs.index.enter.Tie as tie
 use Rattle.declarations.proofs.IndexLaws.{enter-row, enter-none}
 
-cast-table : tie.Need-cast-table
-cast-table c = search needs
-
-add-table : tie.Need-add-table
-add-table c = search needs
-
-mul-table : tie.Need-mul-table
-mul-table c = search needs
-
-slice-write-table : tie.Need-slice-write-table
-slice-write-table c = search needs
-
-same-length : tie.Need-same-length
-same-length c = search needs
-
 returns : tie.Need-returns
 returns c = enter-row (c .before .args .table .now) (c .before .args .row) (c .before .args .class) (c .if1 .taken)
 
@@ -27,5 +12,5 @@ returns-2 c = enter-none (c .before .args .table .now) (c .before .args .row) (c
 
 pub enter-spec : {M : Type 1} → statement M
 enter-spec =
-    tie.close
-    (tie.spec cast-table add-table mul-table slice-write-table same-length returns returns-2)
+    tie.close (tie.spec (λ c. search needs) (λ c. search needs) (λ c. search needs) (λ c. search needs) (λ c. search needs) returns
+    returns-2)

@@ -4,24 +4,6 @@ use Rattle.declarations.proofs.index.wipe.Statement.{statement}
 use Rattle.declarations.proofs.index.wipe.Tie as tie
 use Rattle.declarations.proofs.IndexLaws.{wipe-row, wipe-not}
 
-mul-if1 : tie.Need-mul-if1
-mul-if1 c = search needs
-
-slice-read-if1 : tie.Need-slice-read-if1
-slice-read-if1 c = search needs
-
-add-table : tie.Need-add-table
-add-table c = search needs
-
-mul-table : tie.Need-mul-table
-mul-table c = search needs
-
-slice-write-table : tie.Need-slice-write-table
-slice-write-table c = search needs
-
-same-length : tie.Need-same-length
-same-length c = search needs
-
 returns : tie.Need-returns
 returns c = wipe-row (c .before .before .args .table .now) (c .before .before .args .row) (c .if1 .taken)
 
@@ -30,13 +12,5 @@ returns-2 c = wipe-not (c .before .before .args .table .now) (c .before .before 
 
 pub wipe-spec : {M : Type 1} → statement M
 wipe-spec =
-    tie.close
-    (tie.spec
-    mul-if1
-    slice-read-if1
-    add-table
-    mul-table
-    slice-write-table
-    same-length
-    returns
-    returns-2)
+    tie.close (tie.spec (λ c. search needs) (λ c. search needs) (λ c. search needs) (λ c. search needs) (λ c. search needs)
+    (λ c. search needs) returns returns-2)

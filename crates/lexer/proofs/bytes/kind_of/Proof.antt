@@ -4,11 +4,5 @@ use Rattle.lexer.proofs.Table.{entry}
 use Rattle.lexer.proofs.bytes.kind_of.Statement.{statement}
 use Rattle.lexer.proofs.bytes.kind_of.Tie as tie
 
-element-copy-out-result : tie.Need-element-copy-out-result
-element-copy-out-result c = search needs
-
-returns : tie.Need-returns
-returns c = entry (c .before .args .b) (c .before .pre) (search needs)
-
 pub kind-of-spec : {M : Type 1} → statement M
-kind-of-spec = tie.close (tie.spec element-copy-out-result returns)
+kind-of-spec = tie.close (tie.spec (λ c. search needs) (λ c. entry (c .before .args .b) (c .before .pre) (search needs)))

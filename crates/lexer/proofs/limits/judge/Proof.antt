@@ -23,9 +23,6 @@ returns-3 c =
     let a = g .args in
     verdict-name (a .count) (a .kind) (a .text .now) (c .before .before .if1 .left) (g .pre) (c .before .if2 .taken) (c .if3 .left)
 
-starts-with-zero-requires : tie.Need-starts-with-zero-requires
-starts-with-zero-requires c κs = search needs
-
 returns-4 : tie.Need-returns-4
 returns-4 c =
     let z = c .before in
@@ -34,12 +31,6 @@ returns-4 c =
     let a = g .args in
     verdict-zero (a .count) (a .kind) (a .text .now)
     (f .before .before .if1 .left) (f .if4 .taken) (z .starts-with-zero .ensures) (c .if5 .taken)
-
-value-of-requires : tie.Need-value-of-requires
-value-of-requires c κs = search needs
-
-enum-known-v : tie.Need-enum-known-v
-enum-known-v c = c .match .keys1
 
 enum-told : tie.Need-enum-told
 enum-told c = c .match .keys2
@@ -74,16 +65,5 @@ returns-7 c =
 
 pub judge-spec : {M : Type 1} → statement M
 judge-spec =
-    tie.close
-    (tie.spec
-    returns
-    returns-2
-    returns-3
-    starts-with-zero-requires
-    returns-4
-    value-of-requires
-    enum-known-v
-    enum-told
-    returns-5
-    returns-6
-    returns-7)
+    tie.close (tie.spec returns returns-2 returns-3 (λ c κs. search needs) returns-4 (λ c κs. search needs) (λ c. c .match .keys1) enum-told
+    returns-5 returns-6 returns-7)

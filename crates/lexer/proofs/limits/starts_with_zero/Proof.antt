@@ -9,14 +9,6 @@ use Rattle.lexer.proofs.limits.starts_with_zero.Tie as tie
 few : {n : ℕ} → n < 2 → n ≤ 1
 few h = omega arith
 
-returns : tie.Need-returns
-returns c = simp (le-ltb 1 _ (few (c .if1 .taken)))
-
-shared-slice-read-result : tie.Need-shared-slice-read-result
-shared-slice-read-result c = search needs
-
-returns-2 : tie.Need-returns-2
-returns-2 c = simp (lt-ltb 1 _ (c .before .if1 .left))
-
 pub starts-with-zero-spec : {M : Type 1} → statement M
-starts-with-zero-spec = tie.close (tie.spec returns shared-slice-read-result returns-2)
+starts-with-zero-spec =
+    tie.close (tie.spec (λ c. simp (le-ltb 1 _ (few (c .if1 .taken)))) (λ c. search needs) (λ c. simp (lt-ltb 1 _ (c .before .if1 .left))))

@@ -15,45 +15,10 @@ Inv-loop table₀ b₀ table b = (length table ≡ length table₀) × (b ≤ 20
 abbrev μ-loop : tie.MeasureT-loop
 μ-loop table₀ b₀ table b = 2048 - b
 
-loop-holds : tie.Need-loop-holds Inv-loop μ-loop
-loop-holds c = (refl, omega arith, no-names-first)
-
-add-table : tie.Need-add-table Inv-loop μ-loop
-add-table c = search needs
-
-mul-table : tie.Need-mul-table Inv-loop μ-loop
-mul-table c = search needs
-
-slice-write-table : tie.Need-slice-write-table Inv-loop μ-loop
-slice-write-table c = search needs
-
-add-b : tie.Need-add-b Inv-loop μ-loop
-add-b c = search needs
-
-loop-less : tie.Need-loop-less Inv-loop μ-loop
-loop-less c = search needs
-
 loop-again : tie.Need-loop-again Inv-loop μ-loop
 loop-again c = (search needs, search needs, no-names-next (search needs) (search needs) (c .before .loop .inv .2))
 
-same-length : tie.Need-same-length Inv-loop μ-loop
-same-length c = search needs
-
-returns : tie.Need-returns Inv-loop μ-loop
-returns c = search no-names-last
-
 pub clear-buckets-spec : {M : Type 1} → statement M
 clear-buckets-spec =
-    tie.close
-    (tie.spec
-    Inv-loop
-    μ-loop
-    loop-holds
-    add-table
-    mul-table
-    slice-write-table
-    add-b
-    loop-less
-    loop-again
-    same-length
-    returns)
+    tie.close (tie.spec Inv-loop μ-loop (λ c. (refl, omega arith, no-names-first)) (λ c. search needs) (λ c. search needs)
+    (λ c. search needs) (λ c. search needs) (λ c. search needs) loop-again (λ c. search needs) (λ c. search no-names-last))

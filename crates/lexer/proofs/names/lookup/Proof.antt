@@ -15,12 +15,6 @@ Inv-loop source table count head text link₀ link = Sought source table count l
 abbrev μ-loop : tie.MeasureT-loop
 μ-loop source table count head text link₀ link = link
 
-loop-holds : tie.Need-loop-holds Inv-loop μ-loop
-loop-holds c = c .before .before .before .pre
-
-sub-row : tie.Need-sub-row Inv-loop μ-loop
-sub-row c = search needs
-
 has-text-requires : tie.Need-has-text-requires Inv-loop μ-loop
 has-text-requires c κs =
     let v = c .before .loop .inv in
@@ -87,30 +81,8 @@ loop-again c =
     let h = c .before .before .before .loop-test .taken in
     sought-next h v (sym (c .before .before .has-text .ensures) ∙ c .before .if1 .left)
 
-cast-result : tie.Need-cast-result Inv-loop μ-loop
-cast-result c = let v = c .before .loop .inv in omega (arith, v .filled .few)
-
-returns-2 : tie.Need-returns-2 Inv-loop μ-loop
-returns-2 c = sought-none (c .loop-test .left) (c .before .loop .inv)
-
 pub lookup-spec : {M : Type 1} → statement M
 lookup-spec =
-    tie.close
-    (tie.spec
-    Inv-loop
-    μ-loop
-    loop-holds
-    sub-row
-    has-text-requires
-    add-result
-    mul-result
-    shared-slice-read-result
-    returns
-    add-link
-    mul-link
-    shared-slice-read-link
-    cast-link
-    loop-less
-    loop-again
-    cast-result
-    returns-2)
+    tie.close (tie.spec Inv-loop μ-loop (λ c. c .before .before .before .pre) (λ c. search needs) has-text-requires add-result mul-result
+    shared-slice-read-result returns add-link mul-link shared-slice-read-link cast-link loop-less loop-again
+    (λ c. let v = c .before .loop .inv in omega (arith, v .filled .few)) (λ c. sought-none (c .loop-test .left) (c .before .loop .inv)))

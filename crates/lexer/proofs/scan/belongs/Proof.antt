@@ -13,18 +13,6 @@ use Rattle.lexer.proofs.scan.belongs.Tie as tie
 enum-told : tie.Need-enum-told
 enum-told c = c .match .keys1
 
-enum-told-2 : tie.Need-enum-told-2
-enum-told-2 c = c .match .keys2
-
-is-name-part-requires : tie.Need-is-name-part-requires
-is-name-part-requires c κs = search needs
-
-enum-told-3 : tie.Need-enum-told-3
-enum-told-3 c = c .match .keys3
-
-kind-of-requires : tie.Need-kind-of-requires
-kind-of-requires c κs = search needs
-
 returns : tie.Need-returns
 returns c = sym (ap (λ (k : Class). member k (c .before .before .args .b)) (c .enum-told .given .1))
 
@@ -40,5 +28,5 @@ returns-3 c =
 
 pub belongs-spec : {M : Type 1} → statement M
 belongs-spec =
-    tie.close
-    (tie.spec enum-told enum-told-2 is-name-part-requires enum-told-3 kind-of-requires returns returns-2 returns-3)
+    tie.close (tie.spec enum-told (λ c. c .match .keys2) (λ c κs. search needs) (λ c. c .match .keys3) (λ c κs. search needs) returns
+    returns-2 returns-3)

@@ -24,20 +24,10 @@ module _ (a b : ℕ) where
   other : a ≢ 47 → a ≢ 42 → Other ≡ delimiterOf a b
   other p q = rw (ne-eqb a 47 p, ne-eqb a 42 q)
 
-returns : tie.Need-returns
-returns c = opens _ _ (c .before .if1 .taken) (c .if2 .taken)
-
-returns-2 : tie.Need-returns-2
-returns-2 c = half-open _ _ (c .before .if1 .taken) (c .if2 .left)
-
-returns-3 : tie.Need-returns-3
-returns-3 c = close _ _ (c .before .if3 .taken) (c .if4 .taken)
-
-returns-4 : tie.Need-returns-4
-returns-4 c = half-close _ _ (c .before .if3 .taken) (c .if4 .left)
-
 returns-5 : tie.Need-returns-5
 returns-5 c = other (c .before .before .args .a) (c .before .before .args .b) (c .before .if1 .left) (c .if3 .left)
 
 pub delimiter-of-spec : {M : Type 1} → statement M
-delimiter-of-spec = tie.close (tie.spec returns returns-2 returns-3 returns-4 returns-5)
+delimiter-of-spec =
+    tie.close (tie.spec (λ c. opens _ _ (c .before .if1 .taken) (c .if2 .taken)) (λ c. half-open _ _ (c .before .if1 .taken) (c .if2 .left))
+    (λ c. close _ _ (c .before .if3 .taken) (c .if4 .taken)) (λ c. half-close _ _ (c .before .if3 .taken) (c .if4 .left)) returns-5)

@@ -7,12 +7,6 @@ use Rattle.lexer.proofs.Items.{byte-inside, at-and, at-lone-and, piece-
 use Rattle.lexer.proofs.scan.mark.Statement.{statement}
 use Rattle.lexer.proofs.scan.mark.Tie as tie
 
-add-byte-at : tie.Need-add-byte-at
-add-byte-at c = let p = c .before .before .pre .inside in omega arith
-
-byte-at-requires : tie.Need-byte-at-requires
-byte-at-requires c κs = search needs
-
 add-t8 : tie.Need-add-t8
 add-t8 c =
     let g = c .before .before .before .before in
@@ -34,12 +28,6 @@ returns-2 c =
     let i = g .args .at in
     sym (ap (pieceOf i) (at-lone-and s i (g .pre .inside) (sym (g .pre .is) ∙ c .before .before .if1 .taken) (λ q. c .if2 .left (c .before .byte-at .ensures ∙ q))))
 
-mark-kind-requires : tie.Need-mark-kind-requires
-mark-kind-requires c κs = search needs
-
-add-t10 : tie.Need-add-t10
-add-t10 c = let p = c .before .before .before .pre .inside in omega arith
-
 returns-3 : tie.Need-returns-3
 returns-3 c =
     let g = c .before .before .before in
@@ -49,13 +37,5 @@ returns-3 c =
 
 pub mark-spec : {M : Type 1} → statement M
 mark-spec =
-    tie.close
-    (tie.spec
-    add-byte-at
-    byte-at-requires
-    add-t8
-    returns
-    returns-2
-    mark-kind-requires
-    add-t10
-    returns-3)
+    tie.close (tie.spec (λ c. let p = c .before .before .pre .inside in omega arith) (λ c κs. search needs) add-t8 returns returns-2
+    (λ c κs. search needs) (λ c. let p = c .before .before .before .pre .inside in omega arith) returns-3)

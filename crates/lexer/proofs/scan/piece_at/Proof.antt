@@ -10,27 +10,12 @@ use Rattle.lexer.proofs.Items.{at-blank, at-digit, at-other}
 use Rattle.lexer.proofs.scan.piece_at.Statement.{statement}
 use Rattle.lexer.proofs.scan.piece_at.Tie as tie
 
-shared-slice-read-b : tie.Need-shared-slice-read-b
-shared-slice-read-b c = search needs
-
-kind-of-requires : tie.Need-kind-of-requires
-kind-of-requires c κs = search needs
-
-add-t10 : tie.Need-add-t10
-add-t10 c = search needs
-
 returns : tie.Need-returns
 returns c =
     let k = c .before .before in
     let g = k .before .before .before in
     let i = g .args .at in
     sym (ap (pieceOf i) (at-blank (g .args .source .now) i (g .pre .1) (sym (k .kind-of .ensures) ∙ c .if2 .taken)))
-
-slash-requires : tie.Need-slash-requires
-slash-requires c κs = search needs
-
-returns-2 : tie.Need-returns-2
-returns-2 c = search needs
 
 returns-3 : tie.Need-returns-3
 returns-3 c =
@@ -52,12 +37,6 @@ word-requires c κs =
     let g = k .before .before .before in
     (g .pre .0, record { inside = g .pre .1; kind = sym (k .kind-of .ensures) ∙ c .if4 .taken })
 
-returns-4 : tie.Need-returns-4
-returns-4 c = search needs
-
-run-end-requires : tie.Need-run-end-requires
-run-end-requires c κs = search needs
-
 returns-5 : tie.Need-returns-5
 returns-5 c =
     let k = c .before .before .before .before in
@@ -78,23 +57,7 @@ mark-requires c κs =
           kind-mark _ (subst (λ (n : ℕ). bDigit ≤ n) e (c .before .before .if1 .left)) (λ q. c .before .if4 .left (e ∙ q)) (λ q. c .if5 .left (e ∙ q));
     }
 
-returns-6 : tie.Need-returns-6
-returns-6 c = search needs
-
 pub piece-at-spec : {M : Type 1} → statement M
 piece-at-spec =
-    tie.close
-    (tie.spec
-    shared-slice-read-b
-    kind-of-requires
-    add-t10
-    returns
-    slash-requires
-    returns-2
-    returns-3
-    word-requires
-    returns-4
-    run-end-requires
-    returns-5
-    mark-requires
-    returns-6)
+    tie.close (tie.spec (λ c. search needs) (λ c κs. search needs) (λ c. search needs) returns (λ c κs. search needs) (λ c. search needs)
+    returns-3 word-requires (λ c. search needs) (λ c κs. search needs) returns-5 mark-requires (λ c. search needs))

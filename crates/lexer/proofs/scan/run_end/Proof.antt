@@ -15,26 +15,11 @@ Inv-loop source table at class i₀ i = Running (member class) source at i
 abbrev μ-loop : tie.MeasureT-loop
 μ-loop source table at class i₀ i = length source - i
 
-loop-holds : tie.Need-loop-holds Inv-loop μ-loop
-loop-holds c = record { within = c .before .pre .1; left = refl }
-
-shared-slice-read-belongs : tie.Need-shared-slice-read-belongs Inv-loop μ-loop
-shared-slice-read-belongs c = search needs
-
-belongs-requires : tie.Need-belongs-requires Inv-loop μ-loop
-belongs-requires c κs = search needs
-
 returns : tie.Need-returns Inv-loop μ-loop
 returns c =
     let b = c .before in
     let t = b .before .before in
     running-stop (t .loop-test .taken) (sym (b .belongs .ensures) ∙ not-true _ (c .if1 .taken)) (t .before .loop .inv)
-
-add-i : tie.Need-add-i Inv-loop μ-loop
-add-i c = search needs
-
-loop-less : tie.Need-loop-less Inv-loop μ-loop
-loop-less c = search needs
 
 loop-again : tie.Need-loop-again Inv-loop μ-loop
 loop-again c =
@@ -42,20 +27,7 @@ loop-again c =
     let t = b .before .before in
     running-more (t .loop-test .taken) (sym (b .belongs .ensures) ∙ not-false _ (c .if1 .left)) (t .before .loop .inv)
 
-returns-2 : tie.Need-returns-2 Inv-loop μ-loop
-returns-2 c = running-end (c .loop-test .left) (c .before .loop .inv)
-
 pub run-end-spec : {M : Type 1} → statement M
 run-end-spec =
-    tie.close
-    (tie.spec
-    Inv-loop
-    μ-loop
-    loop-holds
-    shared-slice-read-belongs
-    belongs-requires
-    returns
-    add-i
-    loop-less
-    loop-again
-    returns-2)
+    tie.close (tie.spec Inv-loop μ-loop (λ c. record { within = c .before .pre .1; left = refl }) (λ c. search needs) (λ c κs. search needs)
+    returns (λ c. search needs) (λ c. search needs) loop-again (λ c. running-end (c .loop-test .left) (c .before .loop .inv)))

@@ -7,23 +7,11 @@ use Rattle.lexer.proofs.Items.{byte-inside, at-slash, onClosing, piece-
 use Rattle.lexer.proofs.scan.slash.Statement.{statement}
 use Rattle.lexer.proofs.scan.slash.Tie as tie
 
-add-byte-at : tie.Need-add-byte-at
-add-byte-at c = search needs
-
-byte-at-requires : tie.Need-byte-at-requires
-byte-at-requires c κs = search needs
-
-run-end-requires : tie.Need-run-end-requires
-run-end-requires c κs = search needs
-
 returns : tie.Need-returns
 returns c =
     let b = c .before .before in
     let g = b .before .before in
     piece-line (g .args .source .now) (g .args .at) (g .pre .1) (g .pre .2) (sym (b .byte-at .ensures) ∙ c .before .if1 .taken) (c .run-end .ensures)
-
-add-comment-end : tie.Need-add-comment-end
-add-comment-end c = search needs
 
 comment-end-requires : tie.Need-comment-end-requires
 comment-end-requires c κs =
@@ -31,9 +19,6 @@ comment-end-requires c κs =
     let s = b .before .before .args .source .now in
     let q = byte-inside s _ 42 (sym (b .byte-at .ensures) ∙ c .if2 .taken) (omega arith) in
     omega arith
-
-enum-known-end : tie.Need-enum-known-end
-enum-known-end c = c .match .keys1
 
 enum-told : tie.Need-enum-told
 enum-told c = c .match .keys2
@@ -67,16 +52,5 @@ returns-4 c =
 
 pub slash-spec : {M : Type 1} → statement M
 slash-spec =
-    tie.close
-    (tie.spec
-    add-byte-at
-    byte-at-requires
-    run-end-requires
-    returns
-    add-comment-end
-    comment-end-requires
-    enum-known-end
-    enum-told
-    returns-2
-    returns-3
-    returns-4)
+    tie.close (tie.spec (λ c. search needs) (λ c κs. search needs) (λ c κs. search needs) returns (λ c. search needs) comment-end-requires
+    (λ c. c .match .keys1) enum-told returns-2 returns-3 returns-4)

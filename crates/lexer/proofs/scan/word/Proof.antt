@@ -8,15 +8,6 @@ use Rattle.lexer.proofs.Items.{piece-word}
 use Rattle.lexer.proofs.scan.word.Statement.{statement}
 use Rattle.lexer.proofs.scan.word.Tie as tie
 
-run-end-requires : tie.Need-run-end-requires
-run-end-requires c κs = (c .before .pre .0, let p = c .before .pre .1 .inside in omega arith)
-
-sub-word-kind : tie.Need-sub-word-kind
-sub-word-kind c = search needs
-
-part-word-kind-start : tie.Need-part-word-kind-start
-part-word-kind-start c = search needs
-
 part-word-kind-end : tie.Need-part-word-kind-end
 part-word-kind-end c =
     let g = c .before .before in
@@ -24,9 +15,6 @@ part-word-kind-end c =
     let i = g .args .at in
     let p = g .pre .1 .inside in
     omega (arith, c .run-end .ensures, run-short isNamePart (drop i s), length-drop i s)
-
-word-kind-requires : tie.Need-word-kind-requires
-word-kind-requires c κs = search needs
 
 returns : tie.Need-returns
 returns c =
@@ -37,11 +25,5 @@ returns c =
 
 pub word-spec : {M : Type 1} → statement M
 word-spec =
-    tie.close
-    (tie.spec
-    run-end-requires
-    sub-word-kind
-    part-word-kind-start
-    part-word-kind-end
-    word-kind-requires
-    returns)
+    tie.close (tie.spec (λ c κs. (c .before .pre .0, let p = c .before .pre .1 .inside in omega arith)) (λ c. search needs)
+    (λ c. search needs) part-word-kind-end (λ c κs. search needs) returns)

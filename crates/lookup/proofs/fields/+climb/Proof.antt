@@ -20,46 +20,10 @@ abbrev μ-climb : Measures 2 climb-kinds.ps ℕ
 abbrev climb-at : ℕ → In 2 climb-kinds.ps
 climb-at t = and 2 climb-kinds.ps (is 2 climb-kinds.ps μ-climb t) climb.Pre
 
-abbrev climb-below : ℕ → In 2 climb-kinds.ps
-climb-below t = and 2 climb-kinds.ps (falls 2 climb-kinds.ps _<_ μ-climb t) climb.Pre
-
 abbrev climb-calls : ℕ → climb-lts.Claims
-climb-calls t = (word-reads.Asked, word-reads.Learnt, above-reads.Asked, above-reads.Learnt, climb-below t, climb.Post, own-reads.Asked, own-reads.Learnt, count-reads.Asked, count-reads.Learnt)
+climb-calls t = (word-reads.Asked, word-reads.Learnt, above-reads.Asked, above-reads.Learnt, and 2 climb-kinds.ps (falls 2 climb-kinds.ps _<_ μ-climb t) climb.Pre, climb.Post, own-reads.Asked, own-reads.Learnt, count-reads.Asked, count-reads.Learnt)
 
 module _ (t : ℕ) where
-  climb-returns : climb-lts.Need-returns (climb-calls t) (climb-at t) climb.Post
-  climb-returns c = search climb-none-left
-
-  climb-word-requires : climb-lts.Need-word-requires (climb-calls t) (climb-at t) climb.Post
-  climb-word-requires c κs = search needs
-
-  climb-returns-2 : climb-lts.Need-returns-2 (climb-calls t) (climb-at t) climb.Post
-  climb-returns-2 c = search climb-top
-
-  climb-word-requires-2 : climb-lts.Need-word-requires-2 (climb-calls t) (climb-at t) climb.Post
-  climb-word-requires-2 c κs = search needs
-
-  climb-sub-climb : climb-lts.Need-sub-climb (climb-calls t) (climb-at t) climb.Post
-  climb-sub-climb c = search needs
-
-  climb-above-requires : climb-lts.Need-above-requires (climb-calls t) (climb-at t) climb.Post
-  climb-above-requires c κs = search needs
-
-  climb-climb-requires : climb-lts.Need-climb-requires (climb-calls t) (climb-at t) climb.Post
-  climb-climb-requires c κs = search needs
-
-  climb-own-requires : climb-lts.Need-own-requires (climb-calls t) (climb-at t) climb.Post
-  climb-own-requires c κs = search needs
-
-  climb-count-requires : climb-lts.Need-count-requires (climb-calls t) (climb-at t) climb.Post
-  climb-count-requires c κs = search needs
-
-  climb-add-result : climb-lts.Need-add-result (climb-calls t) (climb-at t) climb.Post
-  climb-add-result c = search needs
-
-  climb-same-length : climb-lts.Need-same-length (climb-calls t) (climb-at t) climb.Post
-  climb-same-length c = search needs
-
   climb-returns-3 : climb-lts.Need-returns-3 (climb-calls t) (climb-at t) climb.Post
   climb-returns-3 c =
       climb-more
@@ -74,4 +38,6 @@ module _ (t : ℕ) where
 pub +climb-spec : {M : Type 1} → statement M
 +climb-spec =
     close μ-climb
-    (λ t. climb-lts.spec (climb-calls t) (climb-at t) climb.Post (climb-returns t) (climb-word-requires t) (climb-returns-2 t) (climb-word-requires-2 t) (climb-sub-climb t) (climb-above-requires t) (climb-climb-requires t) (climb-own-requires t) (climb-count-requires t) (climb-add-result t) (climb-same-length t) (climb-returns-3 t))
+    (λ t. climb-lts.spec (climb-calls t) (climb-at t) climb.Post (λ c. search climb-none-left) (λ c κs. search needs)
+    (λ c. search climb-top) (λ c κs. search needs) (λ c. search needs) (λ c κs. search needs) (λ c κs. search needs)
+    (λ c κs. search needs) (λ c κs. search needs) (λ c. search needs) (λ c. search needs) (climb-returns-3 t))

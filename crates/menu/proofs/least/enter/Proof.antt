@@ -4,31 +4,7 @@ use Rattle.menu.proofs.least.enter.Statement.{statement}
 use Rattle.menu.proofs.least.enter.Tie as tie
 use Rattle.menu.proofs.LeastLaws.{enter-row}
 
-add-put : tie.Need-add-put
-add-put c = search needs
-
-put-requires : tie.Need-put-requires
-put-requires c κs = search needs
-
-add-mend : tie.Need-add-mend
-add-mend c = search needs
-
-mend-requires : tie.Need-mend-requires
-mend-requires c κs = search needs
-
-same-length : tie.Need-same-length
-same-length c = search needs
-
-returns : tie.Need-returns
-returns c = search enter-row
-
 pub enter-spec : {M : Type 1} → statement M
 enter-spec =
-    tie.close
-    (tie.spec
-    add-put
-    put-requires
-    add-mend
-    mend-requires
-    same-length
-    returns)
+    tie.close (tie.spec (λ c. search needs) (λ c κs. search needs) (λ c. search needs) (λ c κs. search needs) (λ c. search needs)
+    (λ c. search enter-row))

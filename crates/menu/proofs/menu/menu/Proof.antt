@@ -5,25 +5,10 @@ use Rattle.menu.proofs.menu.menu.Tie as tie
 use Rattle.menu.proofs.MenuLaws.{menu-short, menu-answer}
 use native.Mathlib.Omega.{arith}
 
-returns : tie.Need-returns
-returns c = search menu-short
-
-answer-requires : tie.Need-answer-requires
-answer-requires c κs = search needs
-
-zero-words-requires : tie.Need-zero-words-requires
-zero-words-requires c κs = search needs
-
-same-length : tie.Need-same-length
-same-length c = search needs
-
-same-length-2 : tie.Need-same-length-2
-same-length-2 c = search needs
-
 returns-2 : tie.Need-returns-2
 returns-2 c = menu-answer (c .before .before .before .before .before .before .before .before .before .before .before .before .before .before .before .args .source .now) (c .before .before .before .before .before .before .before .before .before .before .before .before .before .before .before .args .table .now) (c .before .before .before .before .before .before .before .before .before .before .before .before .before .before .before .args .strip .now) (c .before .before .before .before .before .before .before .before .before .before .before .if1 .left) (c .before .before .before .before .before .before .before .before .answer .last .1 .0) (c .before .before .before .before .before .before .before .before .answer .ensures) (omega arith) (c .before .before .zero-words .ensures)
 
 pub menu-spec : {M : Type 1} → statement M
 menu-spec =
-    tie.close
-    (tie.spec returns answer-requires zero-words-requires same-length same-length-2 returns-2)
+    tie.close (tie.spec (λ c. search menu-short) (λ c κs. search needs) (λ c κs. search needs) (λ c. search needs) (λ c. search needs)
+    returns-2)

@@ -29,15 +29,6 @@ abbrev methods-calls : ℕ → methods-lts.Claims
 methods-calls t = (kind-reads.Asked, kind-reads.Learnt, method-reads.Asked, method-reads.Learnt, asked methods-kinds.ps μ-methods methods.Pre t, methods.Post, linked-reads.Asked, linked-reads.Learnt)
 
 module _ (t : ℕ) where
-  methods-kind-requires : methods-lts.Need-kind-requires (methods-calls t) (methods-at t) methods.Post
-  methods-kind-requires c κs = search needs
-
-  methods-method-requires : methods-lts.Need-method-requires (methods-calls t) (methods-at t) methods.Post
-  methods-method-requires c κs = search needs
-
-  methods-enum-known-a : methods-lts.Need-enum-known-a (methods-calls t) (methods-at t) methods.Post
-  methods-enum-known-a c = search needs
-
   methods-methods-requires : methods-lts.Need-methods-requires (methods-calls t) (methods-at t) methods.Post
   methods-methods-requires c κs =
       let g = c .before .before .before .before .before .before .before .before .before .before .before .before in
@@ -53,28 +44,9 @@ module _ (t : ℕ) where
       (c .before .before .before .before .before .before .before .before .before .before .method .ensures .within) in
       (omega arith, omega arith, declared-fits (c .before .before .before .methods .ensures) (omega arith))
 
-  methods-same-length : methods-lts.Need-same-length (methods-calls t) (methods-at t) methods.Post
-  methods-same-length c = search needs
-
-  methods-returns : methods-lts.Need-returns (methods-calls t) (methods-at t) methods.Post
-  methods-returns c = search methods-more
-
-  methods-enum-known-a-2 : methods-lts.Need-enum-known-a-2 (methods-calls t) (methods-at t) methods.Post
-  methods-enum-known-a-2 c = search needs
-
-  methods-same-length-2 : methods-lts.Need-same-length-2 (methods-calls t) (methods-at t) methods.Post
-  methods-same-length-2 c = search needs
-
-  methods-returns-2 : methods-lts.Need-returns-2 (methods-calls t) (methods-at t) methods.Post
-  methods-returns-2 c = search methods-bad
-
-  methods-same-length-3 : methods-lts.Need-same-length-3 (methods-calls t) (methods-at t) methods.Post
-  methods-same-length-3 c = search needs
-
-  methods-returns-3 : methods-lts.Need-returns-3 (methods-calls t) (methods-at t) methods.Post
-  methods-returns-3 c = search methods-end
-
 pub +methods-spec : {M : Type 1} → statement M
 +methods-spec =
     close μ-methods
-    (λ t. methods-lts.spec (methods-calls t) (methods-at t) methods.Post (methods-kind-requires t) (methods-method-requires t) (methods-enum-known-a t) (methods-methods-requires t) (methods-linked-requires t) (methods-same-length t) (methods-returns t) (methods-enum-known-a-2 t) (methods-same-length-2 t) (methods-returns-2 t) (methods-same-length-3 t) (methods-returns-3 t))
+    (λ t. methods-lts.spec (methods-calls t) (methods-at t) methods.Post (λ c κs. search needs) (λ c κs. search needs) (λ c. search needs)
+    (methods-methods-requires t) (methods-linked-requires t) (λ c. search needs) (λ c. search methods-more) (λ c. search needs)
+    (λ c. search needs) (λ c. search methods-bad) (λ c. search needs) (λ c. search methods-end))

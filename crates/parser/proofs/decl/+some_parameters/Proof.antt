@@ -30,15 +30,6 @@ abbrev some-parameters-calls : ℕ → some-parameters-lts.Claims
 some-parameters-calls t = (variable-reads.Asked, variable-reads.Learnt, kind-reads.Asked, kind-reads.Learnt, link-reads.Asked, link-reads.Learnt, asked some-parameters-kinds.ps μ-some-parameters some-parameters.Pre t, some-parameters.Post, linked-reads.Asked, linked-reads.Learnt)
 
 module _ (t : ℕ) where
-  some-parameters-variable-requires : some-parameters-lts.Need-variable-requires (some-parameters-calls t) (some-parameters-at t) some-parameters.Post
-  some-parameters-variable-requires c κs = search needs
-
-  some-parameters-enum-known-a : some-parameters-lts.Need-enum-known-a (some-parameters-calls t) (some-parameters-at t) some-parameters.Post
-  some-parameters-enum-known-a c = search needs
-
-  some-parameters-kind-requires : some-parameters-lts.Need-kind-requires (some-parameters-calls t) (some-parameters-at t) some-parameters.Post
-  some-parameters-kind-requires c κs = search needs
-
   some-parameters-link-requires : some-parameters-lts.Need-link-requires (some-parameters-calls t) (some-parameters-at t) some-parameters.Post
   some-parameters-link-requires c κs =
       let w = within-ok (c .before .before .before .before .before .a .given .1)
@@ -50,9 +41,6 @@ module _ (t : ℕ) where
       let w = within-ok (c .before .before .before .before .before .before .before .before .a .given .1)
       (c .before .before .before .before .before .before .before .before .before .before .before .before .variable .ensures .0 .within) in
       omega arith
-
-  some-parameters-same-length : some-parameters-lts.Need-same-length (some-parameters-calls t) (some-parameters-at t) some-parameters.Post
-  some-parameters-same-length c = search needs
 
   some-parameters-returns : some-parameters-lts.Need-returns (some-parameters-calls t) (some-parameters-at t) some-parameters.Post
   some-parameters-returns c =
@@ -86,9 +74,6 @@ module _ (t : ℕ) where
       .ensures .0 .within) in
       (omega arith, omega arith, declared-fits (c .before .before .before .some-parameters .ensures) (omega arith))
 
-  some-parameters-same-length-2 : some-parameters-lts.Need-same-length-2 (some-parameters-calls t) (some-parameters-at t) some-parameters.Post
-  some-parameters-same-length-2 c = search needs
-
   some-parameters-returns-2 : some-parameters-lts.Need-returns-2 (some-parameters-calls t) (some-parameters-at t) some-parameters.Post
   some-parameters-returns-2 c =
       let g = c .before .before .before .before .before .before .before .before .before .before .before .before .before .before .before .before .before .before .before .before in
@@ -100,20 +85,11 @@ module _ (t : ℕ) where
       (c .before .before .before .before .before .before .before .before .if2 .taken)
       (c .before .before .before .before .before .before .some-parameters .ensures) (c .before .before .linked .ensures)
 
-  some-parameters-enum-known-a-2 : some-parameters-lts.Need-enum-known-a-2 (some-parameters-calls t) (some-parameters-at t) some-parameters.Post
-  some-parameters-enum-known-a-2 c = search needs
-
-  some-parameters-same-length-3 : some-parameters-lts.Need-same-length-3 (some-parameters-calls t) (some-parameters-at t) some-parameters.Post
-  some-parameters-same-length-3 c = search needs
-
   some-parameters-returns-3 : some-parameters-lts.Need-returns-3 (some-parameters-calls t) (some-parameters-at t) some-parameters.Post
   some-parameters-returns-3 c =
       let g = c .before .before .before .before .before .before .before .before .before .before .before .before in
       parameter-other (g .pre .1 .few) (c .before .before .before .before .before .before .before .before .before .variable .ensures .0)
       (c .before .before .before .before .before .a .given .1) (c .before .before .kind .ensures) (c .before .if1 .left) (c .if2 .left)
-
-  some-parameters-same-length-4 : some-parameters-lts.Need-same-length-4 (some-parameters-calls t) (some-parameters-at t) some-parameters.Post
-  some-parameters-same-length-4 c = search needs
 
   some-parameters-returns-4 : some-parameters-lts.Need-returns-4 (some-parameters-calls t) (some-parameters-at t) some-parameters.Post
   some-parameters-returns-4 c =
@@ -123,4 +99,8 @@ module _ (t : ℕ) where
 pub +some-parameters-spec : {M : Type 1} → statement M
 +some-parameters-spec =
     close μ-some-parameters
-    (λ t. some-parameters-lts.spec (some-parameters-calls t) (some-parameters-at t) some-parameters.Post (some-parameters-variable-requires t) (some-parameters-enum-known-a t) (some-parameters-kind-requires t) (some-parameters-link-requires t) (some-parameters-add-t19 t) (some-parameters-same-length t) (some-parameters-returns t) (some-parameters-add-some-parameters t) (some-parameters-some-parameters-requires t) (some-parameters-linked-requires t) (some-parameters-same-length-2 t) (some-parameters-returns-2 t) (some-parameters-enum-known-a-2 t) (some-parameters-same-length-3 t) (some-parameters-returns-3 t) (some-parameters-same-length-4 t) (some-parameters-returns-4 t))
+    (λ t. some-parameters-lts.spec (some-parameters-calls t) (some-parameters-at t) some-parameters.Post (λ c κs. search needs)
+    (λ c. search needs) (λ c κs. search needs) (some-parameters-link-requires t) (some-parameters-add-t19 t) (λ c. search needs)
+    (some-parameters-returns t) (some-parameters-add-some-parameters t) (some-parameters-some-parameters-requires t)
+    (some-parameters-linked-requires t) (λ c. search needs) (some-parameters-returns-2 t) (λ c. search needs) (λ c. search needs)
+    (some-parameters-returns-3 t) (λ c. search needs) (some-parameters-returns-4 t))

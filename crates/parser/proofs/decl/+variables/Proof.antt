@@ -29,18 +29,6 @@ abbrev variables-calls : ℕ → variables-lts.Claims
 variables-calls t = (starts-variable-reads.Asked, starts-variable-reads.Learnt, variable-reads.Asked, variable-reads.Learnt, followed-reads.Asked, followed-reads.Learnt, asked variables-kinds.ps μ-variables variables.Pre t, variables.Post, linked-reads.Asked, linked-reads.Learnt)
 
 module _ (t : ℕ) where
-  variables-starts-variable-requires : variables-lts.Need-starts-variable-requires (variables-calls t) (variables-at t) variables.Post
-  variables-starts-variable-requires c κs = search needs
-
-  variables-variable-requires : variables-lts.Need-variable-requires (variables-calls t) (variables-at t) variables.Post
-  variables-variable-requires c κs = search needs
-
-  variables-followed-requires : variables-lts.Need-followed-requires (variables-calls t) (variables-at t) variables.Post
-  variables-followed-requires c κs = search needs
-
-  variables-enum-known-b : variables-lts.Need-enum-known-b (variables-calls t) (variables-at t) variables.Post
-  variables-enum-known-b c = search needs
-
   variables-variables-requires : variables-lts.Need-variables-requires (variables-calls t) (variables-at t) variables.Post
   variables-variables-requires c κs =
       let w = follows-ok (c .before .before .b .given .1) (c .before .before .before .before .followed .ensures) (lit< tt)
@@ -53,9 +41,6 @@ module _ (t : ℕ) where
       (c .before .before .before .before .before .before .before .before .followed .ensures) (lit< tt)
       (c .before .before .before .before .before .before .before .before .before .before .before .before .variable .ensures .0 .within) in
       (omega arith, omega arith, declared-fits (c .before .before .before .variables .ensures) (omega arith))
-
-  variables-same-length : variables-lts.Need-same-length (variables-calls t) (variables-at t) variables.Post
-  variables-same-length c = search needs
 
   variables-returns : variables-lts.Need-returns (variables-calls t) (variables-at t) variables.Post
   variables-returns c =
@@ -70,12 +55,6 @@ module _ (t : ℕ) where
       (c .before .before .before .before .before .before .before .before .before .b .given .1)
       (c .before .before .before .before .before .before .variables .ensures) (c .before .before .linked .ensures)
 
-  variables-enum-known-b-2 : variables-lts.Need-enum-known-b-2 (variables-calls t) (variables-at t) variables.Post
-  variables-enum-known-b-2 c = search needs
-
-  variables-same-length-2 : variables-lts.Need-same-length-2 (variables-calls t) (variables-at t) variables.Post
-  variables-same-length-2 c = search needs
-
   variables-returns-2 : variables-lts.Need-returns-2 (variables-calls t) (variables-at t) variables.Post
   variables-returns-2 c =
       let g = c .before .before .before .before .before .before .before .before .before .before .before .before .before in
@@ -85,13 +64,9 @@ module _ (t : ℕ) where
       (c .before .before .before .before .before .before .before .variable .ensures .0) (c .before .before .before .followed .ensures)
       (c .before .b2 .given .1)
 
-  variables-same-length-3 : variables-lts.Need-same-length-3 (variables-calls t) (variables-at t) variables.Post
-  variables-same-length-3 c = search needs
-
-  variables-returns-3 : variables-lts.Need-returns-3 (variables-calls t) (variables-at t) variables.Post
-  variables-returns-3 c = search variables-end
-
 pub +variables-spec : {M : Type 1} → statement M
 +variables-spec =
     close μ-variables
-    (λ t. variables-lts.spec (variables-calls t) (variables-at t) variables.Post (variables-starts-variable-requires t) (variables-variable-requires t) (variables-followed-requires t) (variables-enum-known-b t) (variables-variables-requires t) (variables-linked-requires t) (variables-same-length t) (variables-returns t) (variables-enum-known-b-2 t) (variables-same-length-2 t) (variables-returns-2 t) (variables-same-length-3 t) (variables-returns-3 t))
+    (λ t. variables-lts.spec (variables-calls t) (variables-at t) variables.Post (λ c κs. search needs) (λ c κs. search needs)
+    (λ c κs. search needs) (λ c. search needs) (variables-variables-requires t) (variables-linked-requires t) (λ c. search needs)
+    (variables-returns t) (λ c. search needs) (λ c. search needs) (variables-returns-2 t) (λ c. search needs) (λ c. search variables-end))

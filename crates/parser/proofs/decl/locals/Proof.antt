@@ -6,42 +6,13 @@ use Rattle.parser.proofs.Methods.{locals-bad, locals-ok}
 use Rattle.parser.proofs.decl.locals.Statement.{statement}
 use Rattle.parser.proofs.decl.locals.Tie as tie
 
-opened-requires : tie.Need-opened-requires
-opened-requires c κs = search needs
-
-enum-known-a : tie.Need-enum-known-a
-enum-known-a c = search needs
-
 body-requires : tie.Need-body-requires
 body-requires c κs =
     let w = within-ok (c .before .before .a .given .1)
     (c .before .before .before .before .before .before .opened .ensures .piece .within) in
     omega arith
 
-enum-known-a-2 : tie.Need-enum-known-a-2
-enum-known-a-2 c = search needs
-
-same-length : tie.Need-same-length
-same-length c = search needs
-
-returns : tie.Need-returns
-returns c = search locals-ok
-
-same-length-2 : tie.Need-same-length-2
-same-length-2 c = search needs
-
-returns-2 : tie.Need-returns-2
-returns-2 c = search locals-bad
-
 pub locals-spec : {M : Type 1} → statement M
 locals-spec =
-    tie.close
-    (tie.spec
-    opened-requires
-    enum-known-a
-    body-requires
-    enum-known-a-2
-    same-length
-    returns
-    same-length-2
-    returns-2)
+    tie.close (tie.spec (λ c κs. search needs) (λ c. search needs) body-requires (λ c. search needs) (λ c. search needs)
+    (λ c. search locals-ok) (λ c. search needs) (λ c. search locals-bad))

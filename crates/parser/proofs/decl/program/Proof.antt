@@ -10,33 +10,12 @@ use Rattle.parser.specs.Parse.{mainHead}
 use Rattle.parser.proofs.decl.program.Statement.{statement}
 use Rattle.parser.proofs.decl.program.Tie as tie
 
-slice-aggregate-matched : tie.Need-slice-aggregate-matched
-slice-aggregate-matched c = search needs
-
-matched-requires : tie.Need-matched-requires
-matched-requires c κs = search needs
-
-same-length : tie.Need-same-length
-same-length c = search needs
-
-returns : tie.Need-returns
-returns c = search program-head
-
 single-requires : tie.Need-single-requires
 single-requires c κs =
     let g = c .before .before .before .before .before .before in
     let w = matched-there (g .args .table .now) (g .args .n) 0 mainHead (omega arith) (omega arith) in
     let l = c .before .before .matched .ensures in
     omega arith
-
-followed-requires : tie.Need-followed-requires
-followed-requires c κs = search needs
-
-followed-requires-2 : tie.Need-followed-requires-2
-followed-requires-2 c κs = search needs
-
-enum-known-c : tie.Need-enum-known-c
-enum-known-c c = search needs
 
 classes-requires : tie.Need-classes-requires
 classes-requires c κs =
@@ -48,22 +27,10 @@ classes-requires c κs =
     let l = g .pre .few in
     omega arith
 
-enum-known-d : tie.Need-enum-known-d
-enum-known-d c = search needs
-
 link-requires : tie.Need-link-requires
 link-requires c κs =
     let w = within-ok (c .before .before .d .given .1) (c .before .before .before .before .before .before .classes .ensures .within) in
     omega arith
-
-enum-known-d-2 : tie.Need-enum-known-d-2
-enum-known-d-2 c = search needs
-
-enum-known-c-2 : tie.Need-enum-known-c-2
-enum-known-c-2 c = search needs
-
-same-length-2 : tie.Need-same-length-2
-same-length-2 c = search needs
 
 returns-2 : tie.Need-returns-2
 returns-2 c =
@@ -80,9 +47,6 @@ returns-2 c =
     (c .before .before .before .before .before .before .before .before .before .classes .ensures)
     (c .before .before .before .before .before .d .given .1) (c .before .before .link .ensures)
 
-same-length-3 : tie.Need-same-length-3
-same-length-3 c = search needs
-
 returns-3 : tie.Need-returns-3
 returns-3 c =
     let g = c .before .before .before .before .before .before .before .before .before .before .before .before .before .before .before .before .before .before .before .before .before .before .before in
@@ -96,9 +60,6 @@ returns-3 c =
     (c .before .before .before .before .before .before .before .before .c .given .1)
     (c .before .before .before .before .before .classes .ensures) (c .before .d2 .given .1)
 
-same-length-4 : tie.Need-same-length-4
-same-length-4 c = search needs
-
 returns-4 : tie.Need-returns-4
 returns-4 c =
     let g = c .before .before .before .before .before .before .before .before .before .before .before .before .before .before .before .before in
@@ -110,24 +71,6 @@ returns-4 c =
 
 pub program-spec : {M : Type 1} → statement M
 program-spec =
-    tie.close
-    (tie.spec
-    slice-aggregate-matched
-    matched-requires
-    same-length
-    returns
-    single-requires
-    followed-requires
-    followed-requires-2
-    enum-known-c
-    classes-requires
-    enum-known-d
-    link-requires
-    enum-known-d-2
-    enum-known-c-2
-    same-length-2
-    returns-2
-    same-length-3
-    returns-3
-    same-length-4
-    returns-4)
+    tie.close (tie.spec (λ c. search needs) (λ c κs. search needs) (λ c. search needs) (λ c. search program-head) single-requires
+    (λ c κs. search needs) (λ c κs. search needs) (λ c. search needs) classes-requires (λ c. search needs) link-requires
+    (λ c. search needs) (λ c. search needs) (λ c. search needs) returns-2 (λ c. search needs) returns-3 (λ c. search needs) returns-4)

@@ -8,18 +8,6 @@ use Rattle.parser.proofs.Methods.{returned-bad, returned-ok}
 use Rattle.parser.proofs.decl.returned.Statement.{statement}
 use Rattle.parser.proofs.decl.returned.Tie as tie
 
-operation-requires : tie.Need-operation-requires
-operation-requires c κs = search needs
-
-followed-requires : tie.Need-followed-requires
-followed-requires c κs = search needs
-
-followed-requires-2 : tie.Need-followed-requires-2
-followed-requires-2 c κs = search needs
-
-enum-known-c : tie.Need-enum-known-c
-enum-known-c c = search needs
-
 method-row-requires : tie.Need-method-row-requires
 method-row-requires c κs =
     let g = c .before .before .before .before .before .before .before .before .before .before .before .before .before in
@@ -29,12 +17,6 @@ method-row-requires c κs =
     (c .before .before .before .before .before .before .before .before .before .before .operation .ensures .within))) in
     let l = g .pre in
     omega arith
-
-enum-known-c-2 : tie.Need-enum-known-c-2
-enum-known-c-2 c = search needs
-
-same-length : tie.Need-same-length
-same-length c = search needs
 
 returns : tie.Need-returns
 returns c =
@@ -46,23 +28,7 @@ returns c =
     (c .before .before .before .before .before .before .before .followed2 .ensures) (omega arith)
     (c .before .before .before .before .before .c .given .1) (c .before .before .method-row .ensures)
 
-same-length-2 : tie.Need-same-length-2
-same-length-2 c = search needs
-
-returns-2 : tie.Need-returns-2
-returns-2 c = search returned-bad
-
 pub returned-spec : {M : Type 1} → statement M
 returned-spec =
-    tie.close
-    (tie.spec
-    operation-requires
-    followed-requires
-    followed-requires-2
-    enum-known-c
-    method-row-requires
-    enum-known-c-2
-    same-length
-    returns
-    same-length-2
-    returns-2)
+    tie.close (tie.spec (λ c κs. search needs) (λ c κs. search needs) (λ c κs. search needs) (λ c. search needs) method-row-requires
+    (λ c. search needs) (λ c. search needs) returns (λ c. search needs) (λ c. search returned-bad))

@@ -4,22 +4,6 @@ use borrow.Author.Needs.{needs}
 use Rattle.parser.proofs.decl.starts_variable.Statement.{statement}
 use Rattle.parser.proofs.decl.starts_variable.Tie as tie
 
-add-follows-type : tie.Need-add-follows-type
-add-follows-type c = search needs
-
-follows-type-requires : tie.Need-follows-type-requires
-follows-type-requires c κs = search needs
-
-kind-requires : tie.Need-kind-requires
-kind-requires c κs = search needs
-
-begins-type-requires : tie.Need-begins-type-requires
-begins-type-requires c κs = search needs
-
-returns : tie.Need-returns
-returns c = search starts-here
-
 pub starts-variable-spec : {M : Type 1} → statement M
 starts-variable-spec =
-    tie.close
-    (tie.spec add-follows-type follows-type-requires kind-requires begins-type-requires returns)
+    tie.close (tie.spec (λ c. search needs) (λ c κs. search needs) (λ c κs. search needs) (λ c κs. search needs) (λ c. search starts-here))

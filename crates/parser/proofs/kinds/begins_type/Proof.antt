@@ -14,9 +14,6 @@ returns-2 : tie.Need-returns-2
 unfolding beginsType
 returns-2 c = simp (ne-eqb _ _ (c .before .if1 .left), eq-eqb _ _ (c .if2 .taken))
 
-is-name-requires : tie.Need-is-name-requires
-is-name-requires c κs = search needs
-
 returns-3 : tie.Need-returns-3
 unfolding beginsType
 returns-3 c =
@@ -37,4 +34,4 @@ returns-4 c =
     )
 
 pub begins-type-spec : {M : Type 1} → statement M
-begins-type-spec = tie.close (tie.spec returns returns-2 is-name-requires returns-3 returns-4)
+begins-type-spec = tie.close (tie.spec returns returns-2 (λ c κs. search needs) returns-3 returns-4)

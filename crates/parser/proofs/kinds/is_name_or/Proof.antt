@@ -4,12 +4,6 @@ use borrow.Author.Tests.{eq-eqb, ne-eqb}
 use Rattle.parser.proofs.kinds.is_name_or.Statement.{statement}
 use Rattle.parser.proofs.kinds.is_name_or.Tie as tie
 
-returns : tie.Need-returns
-returns c = simp (eq-eqb _ _ (c .if1 .taken))
-
-returns-2 : tie.Need-returns-2
-returns-2 c = simp (ne-eqb _ _ (c .before .if1 .left), eq-eqb _ _ (c .if2 .taken))
-
 returns-3 : tie.Need-returns-3
 returns-3 c = simp (ne-eqb _ _ (c .before .before .if1 .left), ne-eqb _ _ (c .before .if2 .left), eq-eqb _ _ (c .if3 .taken))
 
@@ -21,9 +15,6 @@ returns-4 c =
       ne-eqb _ _ (c .before .if3 .left),
       eq-eqb _ _ (c .if4 .taken),
     )
-
-is-name-requires : tie.Need-is-name-requires
-is-name-requires c κs = search needs
 
 returns-5 : tie.Need-returns-5
 returns-5 c =
@@ -37,4 +28,5 @@ returns-5 c =
 
 pub is-name-or-spec : {M : Type 1} → statement M
 is-name-or-spec =
-    tie.close (tie.spec returns returns-2 returns-3 returns-4 is-name-requires returns-5)
+    tie.close (tie.spec (λ c. simp (eq-eqb _ _ (c .if1 .taken))) (λ c. simp (ne-eqb _ _ (c .before .if1 .left), eq-eqb _ _ (c .if2 .taken)))
+    returns-3 returns-4 (λ c κs. search needs) returns-5)

@@ -7,17 +7,8 @@ use Rattle.parser.proofs.Pieces.{whole-done, whole-refused, fits-at}
 use Rattle.parser.proofs.parts.linked.Statement.{statement}
 use Rattle.parser.proofs.parts.linked.Tie as tie
 
-enum-known-rest : tie.Need-enum-known-rest
-enum-known-rest c = search needs
-
 link-requires : tie.Need-link-requires
 link-requires c κs = omega (arith, fits-at (c .before .before .rest .given .1) (c .before .before .before .before .before .pre .2))
-
-enum-known-rest-2 : tie.Need-enum-known-rest-2
-enum-known-rest-2 c = search needs
-
-same-length : tie.Need-same-length
-same-length c = search needs
 
 returns : tie.Need-returns
 returns c =
@@ -25,10 +16,7 @@ returns c =
     (c .before .before .before .before .before .before .before .before .args .row) x)
     (c .before .before .before .before .before .rest .given .1) (c .before .before .link .ensures)
 
-returns-2 : tie.Need-returns-2
-returns-2 c = whole-refused _ _ (c .before .rest2 .given .1)
-
 pub linked-spec : {M : Type 1} → statement M
 linked-spec =
-    tie.close
-    (tie.spec enum-known-rest link-requires enum-known-rest-2 same-length returns returns-2)
+    tie.close (tie.spec (λ c. search needs) link-requires (λ c. search needs) (λ c. search needs) returns
+    (λ c. whole-refused _ _ (c .before .rest2 .given .1)))

@@ -8,17 +8,8 @@ use Rattle.parser.proofs.Pieces.{whole-done, whole-refused, fits-at}
 use Rattle.parser.proofs.parts.one_part.Statement.{statement}
 use Rattle.parser.proofs.parts.one_part.Tie as tie
 
-enum-known-part : tie.Need-enum-known-part
-enum-known-part c = search needs
-
 node-requires : tie.Need-node-requires
 node-requires c κs = omega (arith, fits-at (c .before .before .part .given .1) (c .before .before .before .before .before .pre .2))
-
-enum-known-part-2 : tie.Need-enum-known-part-2
-enum-known-part-2 c = search needs
-
-same-length : tie.Need-same-length
-same-length c = search needs
 
 returns : tie.Need-returns
 returns c =
@@ -28,10 +19,7 @@ returns c =
     (c .before .before .before .before .before .before .before .before .args .row)) x 2048)
     (c .before .before .before .before .before .part .given .1) (c .before .before .node .ensures)
 
-returns-2 : tie.Need-returns-2
-returns-2 c = whole-refused _ _ (c .before .part2 .given .1)
-
 pub one-part-spec : {M : Type 1} → statement M
 one-part-spec =
-    tie.close
-    (tie.spec enum-known-part node-requires enum-known-part-2 same-length returns returns-2)
+    tie.close (tie.spec (λ c. search needs) node-requires (λ c. search needs) (λ c. search needs) returns
+    (λ c. whole-refused _ _ (c .before .part2 .given .1)))

@@ -10,23 +10,11 @@ use Rattle.parser.proofs.Pieces.{mode-fits, follows-within, follows-fit
 use Rattle.parser.proofs.stmt.assign_element.Statement.{statement}
 use Rattle.parser.proofs.stmt.assign_element.Tie as tie
 
-add-operation : tie.Need-add-operation
-add-operation c = search needs
-
 operation-requires : tie.Need-operation-requires
 operation-requires c κs =
     let w = there (c .before .before .args .table .now) (c .before .before .args .n) (c .before .before .args .i + 1) _ 36 refl
     (c .before .before .pre .2) (lit< tt) in
     omega arith
-
-followed-requires : tie.Need-followed-requires
-followed-requires c κs = search needs
-
-followed-requires-2 : tie.Need-followed-requires-2
-followed-requires-2 c κs = search needs
-
-enum-known-c : tie.Need-enum-known-c
-enum-known-c c = search needs
 
 operation-requires-2 : tie.Need-operation-requires-2
 operation-requires-2 c κs =
@@ -37,9 +25,6 @@ operation-requires-2 c κs =
     (c .before .before .before .before .before .before .before .before .before .before .operation .ensures .within))) in
     let l = g .pre .0 in
     omega arith
-
-followed-requires-3 : tie.Need-followed-requires-3
-followed-requires-3 c κs = search needs
 
 two-parts-requires : tie.Need-two-parts-requires
 two-parts-requires c κs =
@@ -60,12 +45,6 @@ two-parts-requires c κs =
           (mode-fits (g .pre .0 .few) (c .before .before .before .before .before .operation2 .ensures)),
     )
 
-enum-known-c-2 : tie.Need-enum-known-c-2
-enum-known-c-2 c = search needs
-
-same-length : tie.Need-same-length
-same-length c = search needs
-
 returns : tie.Need-returns
 returns c =
     let g = c .before .before .before .before .before .before .before .before .before .before .before .before .before .before .before .before .before .before .before .before .before .before in
@@ -78,9 +57,6 @@ returns c =
     (c .before .before .before .before .before .before .before .before .operation2 .ensures)
     (c .before .before .before .before .followed3 .ensures) (c .before .before .two-parts .ensures)
 
-same-length-2 : tie.Need-same-length-2
-same-length-2 c = search needs
-
 returns-2 : tie.Need-returns-2
 returns-2 c =
     let g = c .before .before .before .before .before .before .before .before .before .before .before .before in
@@ -91,18 +67,6 @@ returns-2 c =
 
 pub assign-element-spec : {M : Type 1} → statement M
 assign-element-spec =
-    tie.close
-    (tie.spec
-    add-operation
-    operation-requires
-    followed-requires
-    followed-requires-2
-    enum-known-c
-    operation-requires-2
-    followed-requires-3
-    two-parts-requires
-    enum-known-c-2
-    same-length
-    returns
-    same-length-2
+    tie.close (tie.spec (λ c. search needs) operation-requires (λ c κs. search needs) (λ c κs. search needs) (λ c. search needs)
+    operation-requires-2 (λ c κs. search needs) two-parts-requires (λ c. search needs) (λ c. search needs) returns (λ c. search needs)
     returns-2)

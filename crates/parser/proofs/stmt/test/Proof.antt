@@ -8,15 +8,6 @@ use Rattle.parser.proofs.Statements.{test-open, test-ok}
 use Rattle.parser.proofs.stmt.test.Statement.{statement}
 use Rattle.parser.proofs.stmt.test.Tie as tie
 
-add-kind : tie.Need-add-kind
-add-kind c = search needs
-
-kind-requires : tie.Need-kind-requires
-kind-requires c κs = search needs
-
-add-operation : tie.Need-add-operation
-add-operation c = search needs
-
 operation-requires : tie.Need-operation-requires
 operation-requires c κs =
     let g = c .before .before .before .before .before in
@@ -24,35 +15,7 @@ operation-requires c κs =
     (lit< tt) in
     omega arith
 
-followed-requires : tie.Need-followed-requires
-followed-requires c κs = search needs
-
-same-length : tie.Need-same-length
-same-length c = search needs
-
-returns : tie.Need-returns
-returns c = search test-ok
-
-add-t8 : tie.Need-add-t8
-add-t8 c = search needs
-
-same-length-2 : tie.Need-same-length-2
-same-length-2 c = search needs
-
-returns-2 : tie.Need-returns-2
-returns-2 c = search test-open
-
 pub test-spec : {M : Type 1} → statement M
 test-spec =
-    tie.close
-    (tie.spec
-    add-kind
-    kind-requires
-    add-operation
-    operation-requires
-    followed-requires
-    same-length
-    returns
-    add-t8
-    same-length-2
-    returns-2)
+    tie.close (tie.spec (λ c. search needs) (λ c κs. search needs) (λ c. search needs) operation-requires (λ c κs. search needs)
+    (λ c. search needs) (λ c. search test-ok) (λ c. search needs) (λ c. search needs) (λ c. search test-open))

@@ -8,18 +8,6 @@ use borrow.Author.Needs.{needs}
 use Rattle.reader.proofs.read.place.Statement.{statement}
 use Rattle.reader.proofs.read.place.Tie as tie
 
-add-result : tie.Need-add-result
-add-result c = search needs
-
-mul-result : tie.Need-mul-result
-mul-result c = search needs
-
-shared-slice-read-result : tie.Need-shared-slice-read-result
-shared-slice-read-result c = search needs
-
-cast-result : tie.Need-cast-result
-cast-result c = omega (arith, c .shared-slice-known .given (2048 + c .before .before .args .k))
-
 returns : tie.Need-returns
 unfolding placeIn col
 returns c = simp (lt-ltb _ _ (c .before .if1 .taken))
@@ -30,5 +18,5 @@ returns-2 c = simp (le-ltb _ _ (c .if1 .left))
 
 pub place-spec : {M : Type 1} → statement M
 place-spec =
-    tie.close
-    (tie.spec add-result mul-result shared-slice-read-result cast-result returns returns-2)
+    tie.close (tie.spec (λ c. search needs) (λ c. search needs) (λ c. search needs)
+    (λ c. omega (arith, c .shared-slice-known .given (2048 + c .before .before .args .k))) returns returns-2)

@@ -29,23 +29,17 @@ abbrev μ-node : Measures 1 node-kinds.ps ℕ
 abbrev node-at : ℕ → In 1 node-kinds.ps
 node-at t = and 1 node-kinds.ps (is 1 node-kinds.ps μ-node t) node.Pre
 
-abbrev node-below : ℕ → In 1 node-kinds.ps
-node-below t = and 1 node-kinds.ps (falls 1 node-kinds.ps _<_ μ-node t) node.Pre
-
 abbrev μ-part : Measures 1 part-kinds.ps ℕ
 μ-part κs a = 2 * (66 - a .1 .1 .1 .1 .0) + 1
 
 abbrev part-at : ℕ → In 1 part-kinds.ps
 part-at t = and 1 part-kinds.ps (is 1 part-kinds.ps μ-part t) part.Pre
 
-abbrev part-below : ℕ → In 1 part-kinds.ps
-part-below t = and 1 part-kinds.ps (falls 1 part-kinds.ps _<_ μ-part t) part.Pre
-
 abbrev node-calls : ℕ → node-lts.Claims
-node-calls t = (column-reads.Asked, column-reads.Learnt, kind-reads.Asked, kind-reads.Learnt, part-below t, part.Post, join-reads.Asked, join-reads.Learnt, whole-reads.Asked, whole-reads.Learnt)
+node-calls t = (column-reads.Asked, column-reads.Learnt, kind-reads.Asked, kind-reads.Learnt, and 1 part-kinds.ps (falls 1 part-kinds.ps _<_ μ-part t) part.Pre, part.Post, join-reads.Asked, join-reads.Learnt, whole-reads.Asked, whole-reads.Learnt)
 
 abbrev part-calls : ℕ → part-lts.Claims
-part-calls t = (nothing-reads.Asked, nothing-reads.Learnt, node-below t, node.Post, join-reads.Asked, join-reads.Learnt, following-reads.Asked, following-reads.Learnt)
+part-calls t = (nothing-reads.Asked, nothing-reads.Learnt, and 1 node-kinds.ps (falls 1 node-kinds.ps _<_ μ-node t) node.Pre, node.Post, join-reads.Asked, join-reads.Learnt, following-reads.Asked, following-reads.Learnt)
 
 abbrev part-Inv-loop : part-lts.InvT-loop
 part-Inv-loop table n chain row d all₀ at₀ all at = SoFar (λ i w. Walks table n chain i d w) row at all
@@ -54,74 +48,17 @@ abbrev part-μ-loop : part-lts.MeasureT-loop
 part-μ-loop table n chain row d all₀ at₀ all at = 2048 - at
 
 module _ (t : ℕ) where
-  node-column-requires : node-lts.Need-column-requires (node-calls t) (node-at t) node.Post
-  node-column-requires c κs = search needs
-
   node-returns : node-lts.Need-returns (node-calls t) (node-at t) node.Post
   node-returns c = node-far (c .before .before .before .pre .1 .1) (c .before .if1 .taken) (c .column .ensures .0) (c .column .ensures .1)
-
-  node-kind-requires : node-lts.Need-kind-requires (node-calls t) (node-at t) node.Post
-  node-kind-requires c κs = search needs
-
-  node-column-requires-2 : node-lts.Need-column-requires-2 (node-calls t) (node-at t) node.Post
-  node-column-requires-2 c κs = search needs
-
-  node-add-part : node-lts.Need-add-part (node-calls t) (node-at t) node.Post
-  node-add-part c = search needs
-
-  node-part-requires : node-lts.Need-part-requires (node-calls t) (node-at t) node.Post
-  node-part-requires c κs = search needs
-
-  node-column-requires-3 : node-lts.Need-column-requires-3 (node-calls t) (node-at t) node.Post
-  node-column-requires-3 c κs = search needs
-
-  node-add-part-2 : node-lts.Need-add-part-2 (node-calls t) (node-at t) node.Post
-  node-add-part-2 c = search needs
-
-  node-part-requires-2 : node-lts.Need-part-requires-2 (node-calls t) (node-at t) node.Post
-  node-part-requires-2 c κs = search needs
-
-  node-join-requires : node-lts.Need-join-requires (node-calls t) (node-at t) node.Post
-  node-join-requires c κs = search needs
-
-  node-column-requires-4 : node-lts.Need-column-requires-4 (node-calls t) (node-at t) node.Post
-  node-column-requires-4 c κs = search needs
-
-  node-add-part-3 : node-lts.Need-add-part-3 (node-calls t) (node-at t) node.Post
-  node-add-part-3 c = search needs
-
-  node-part-requires-3 : node-lts.Need-part-requires-3 (node-calls t) (node-at t) node.Post
-  node-part-requires-3 c κs = search needs
-
-  node-join-requires-2 : node-lts.Need-join-requires-2 (node-calls t) (node-at t) node.Post
-  node-join-requires-2 c κs = search needs
-
-  node-whole-requires : node-lts.Need-whole-requires (node-calls t) (node-at t) node.Post
-  node-whole-requires c κs = search needs
 
   node-returns-2 : node-lts.Need-returns-2 (node-calls t) (node-at t) node.Post
   node-returns-2 c = node-three _ _ (c .before .before .before .before .before .before .before .before .before .before .kind .ensures) (c .before .before .before .before .before .before .before .before .before .column2 .ensures .0) (c .before .before .before .before .before .before .before .before .part .ensures) (c .before .before .before .before .before .before .before .column3 .ensures .0) (c .before .before .before .before .before .before .part2 .ensures) (c .before .before .before .before .before .join .ensures) (c .before .before .before .before .before .before .before .before .before .before .before .before .before .pre .1 .1) (c .before .before .before .before .before .before .before .before .before .before .before .if1 .left) (c .before .before .before .before .if2 .taken) (c .before .before .before .column4 .ensures .0) (c .before .before .part3 .ensures) (c .before .join2 .ensures) (c .whole .ensures)
 
-  node-whole-requires-2 : node-lts.Need-whole-requires-2 (node-calls t) (node-at t) node.Post
-  node-whole-requires-2 c κs = search needs
-
   node-returns-3 : node-lts.Need-returns-3 (node-calls t) (node-at t) node.Post
   node-returns-3 c = node-two _ _ (c .before .before .before .before .before .before .before .kind .ensures) (c .before .before .before .before .before .before .column2 .ensures .0) (c .before .before .before .before .before .part .ensures) (c .before .before .before .before .column3 .ensures .0) (c .before .before .before .part2 .ensures) (c .before .before .join .ensures) (c .before .before .before .before .before .before .before .before .before .before .pre .1 .1) (c .before .before .before .before .before .before .before .before .if1 .left) (c .before .if2 .left) (c .whole2 .ensures)
 
-  part-nothing-requires : part-lts.Need-nothing-requires (part-calls t) (part-at t) part.Post part-Inv-loop part-μ-loop
-  part-nothing-requires c κs = search needs
-
   part-loop-holds : part-lts.Need-loop-holds (part-calls t) (part-at t) part.Post part-Inv-loop part-μ-loop
   part-loop-holds c = so-far-none _ (c .nothing .ensures .0) (c .nothing .ensures .1) (λ rest w k j. part-none (c .nothing .ensures .0) (c .nothing .ensures .1) k j)
-
-  part-node-requires : part-lts.Need-node-requires (part-calls t) (part-at t) part.Post part-Inv-loop part-μ-loop
-  part-node-requires c κs = search needs
-
-  part-join-requires : part-lts.Need-join-requires (part-calls t) (part-at t) part.Post part-Inv-loop part-μ-loop
-  part-join-requires c κs = search needs
-
-  part-following-requires : part-lts.Need-following-requires (part-calls t) (part-at t) part.Post part-Inv-loop part-μ-loop
-  part-following-requires c κs = search needs
 
   part-loop-less : part-lts.Need-loop-less (part-calls t) (part-at t) part.Post part-Inv-loop part-μ-loop
   part-loop-less c = omega (arith, follower-rises (c .before .before .before .before .before .before .before .args .table .now) (c .before .before .before .before .loop .at) (c .before .before .before .before .before .before .before .args .chain) (c .before .before .before .loop-test .taken))
@@ -135,5 +72,9 @@ module _ (t : ℕ) where
 pub +node+part-spec : {M : Type 1} → statement M
 +node+part-spec =
     close μ-node μ-part
-    (λ t. node-lts.spec (node-calls t) (node-at t) node.Post (node-column-requires t) (node-returns t) (node-kind-requires t) (node-column-requires-2 t) (node-add-part t) (node-part-requires t) (node-column-requires-3 t) (node-add-part-2 t) (node-part-requires-2 t) (node-join-requires t) (node-column-requires-4 t) (node-add-part-3 t) (node-part-requires-3 t) (node-join-requires-2 t) (node-whole-requires t) (node-returns-2 t) (node-whole-requires-2 t) (node-returns-3 t))
-    (λ t. part-lts.spec (part-calls t) (part-at t) part.Post part-Inv-loop part-μ-loop (part-nothing-requires t) (part-loop-holds t) (part-node-requires t) (part-join-requires t) (part-following-requires t) (part-loop-less t) (part-loop-again t) (part-returns t))
+    (λ t. node-lts.spec (node-calls t) (node-at t) node.Post (λ c κs. search needs) (node-returns t) (λ c κs. search needs)
+    (λ c κs. search needs) (λ c. search needs) (λ c κs. search needs) (λ c κs. search needs) (λ c. search needs) (λ c κs. search needs)
+    (λ c κs. search needs) (λ c κs. search needs) (λ c. search needs) (λ c κs. search needs) (λ c κs. search needs) (λ c κs. search needs)
+    (node-returns-2 t) (λ c κs. search needs) (node-returns-3 t))
+    (λ t. part-lts.spec (part-calls t) (part-at t) part.Post part-Inv-loop part-μ-loop (λ c κs. search needs) (part-loop-holds t)
+    (λ c κs. search needs) (λ c κs. search needs) (λ c κs. search needs) (part-loop-less t) (part-loop-again t) (part-returns t))

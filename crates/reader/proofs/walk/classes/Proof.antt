@@ -16,23 +16,8 @@ Inv-loop table n row all₀ at₀ all at = SoFar (WalksClasses table n) row at a
 abbrev μ-loop : tie.MeasureT-loop
 μ-loop table n row all₀ at₀ all at = 2048 - at
 
-nothing-requires : tie.Need-nothing-requires Inv-loop μ-loop
-nothing-requires c κs = search needs
-
 loop-holds : tie.Need-loop-holds Inv-loop μ-loop
 loop-holds c = so-far-none _ (c .nothing .ensures .0) (c .nothing .ensures .1) (λ rest w k j. classes-none (c .nothing .ensures .0) (c .nothing .ensures .1) k j)
-
-column-requires : tie.Need-column-requires Inv-loop μ-loop
-column-requires c κs = search needs
-
-methods-requires : tie.Need-methods-requires Inv-loop μ-loop
-methods-requires c κs = search needs
-
-join-requires : tie.Need-join-requires Inv-loop μ-loop
-join-requires c κs = search needs
-
-following-requires : tie.Need-following-requires Inv-loop μ-loop
-following-requires c κs = search needs
 
 loop-less : tie.Need-loop-less Inv-loop μ-loop
 loop-less c = omega (arith, follower-rises (c .before .before .before .before .before .before .before .before .args .table .now) (c .before .before .before .before .before .loop .at) true (c .before .before .before .before .loop-test .taken))
@@ -45,5 +30,5 @@ returns c = so-far-end _ (c .before .before .nothing .result) (c .before .before
 
 pub classes-spec : {M : Type 1} → statement M
 classes-spec =
-    tie.close
-    (tie.spec Inv-loop μ-loop nothing-requires loop-holds column-requires methods-requires join-requires following-requires loop-less loop-again returns)
+    tie.close (tie.spec Inv-loop μ-loop (λ c κs. search needs) loop-holds (λ c κs. search needs) (λ c κs. search needs)
+    (λ c κs. search needs) (λ c κs. search needs) loop-less loop-again returns)

@@ -7,18 +7,6 @@ use borrow.Author.Needs.{needs}
 use Rattle.reader.proofs.walk.column.Statement.{statement}
 use Rattle.reader.proofs.walk.column.Tie as tie
 
-mul-result : tie.Need-mul-result
-mul-result c = search needs
-
-add-result : tie.Need-add-result
-add-result c = search needs
-
-mul-result-2 : tie.Need-mul-result-2
-mul-result-2 c = search needs
-
-shared-slice-read-result : tie.Need-shared-slice-read-result
-shared-slice-read-result c = search needs
-
 cast-result : tie.Need-cast-result
 cast-result c = omega (arith, c .shared-slice-known .given (2048 * c .before .args .k + c .before .args .row))
 
@@ -27,6 +15,4 @@ unfolding col
 returns c = (refl, omega (arith, c .shared-slice-known .given (2048 * c .before .args .k + c .before .args .row)))
 
 pub column-spec : {M : Type 1} → statement M
-column-spec =
-    tie.close
-    (tie.spec mul-result add-result mul-result-2 shared-slice-read-result cast-result returns)
+column-spec = tie.close (tie.spec (λ c. search needs) (λ c. search needs) (λ c. search needs) (λ c. search needs) cast-result returns)

@@ -22,33 +22,12 @@ abbrev μ-perform : Measures 4 perform-kinds.ps ℕ
 abbrev perform-at : ℕ → In 4 perform-kinds.ps
 perform-at t = and 4 perform-kinds.ps (is 4 perform-kinds.ps μ-perform t) perform.Pre
 
-abbrev perform-below : ℕ → In 4 perform-kinds.ps
-perform-below t = and 4 perform-kinds.ps (falls 4 perform-kinds.ps _<_ μ-perform t) perform.Pre
-
 abbrev perform-calls : ℕ → perform-lts.Claims
-perform-calls t = (accepted-reads.Asked, accepted-reads.Learnt, find-reads.Asked, find-reads.Learnt, perform-below t, perform.Post, zero-words-reads.Asked, zero-words-reads.Learnt, zero-numbers-reads.Asked, zero-numbers-reads.Learnt, refusal-reads.Asked, refusal-reads.Learnt)
+perform-calls t = (accepted-reads.Asked, accepted-reads.Learnt, find-reads.Asked, find-reads.Learnt, and 4 perform-kinds.ps (falls 4 perform-kinds.ps _<_ μ-perform t) perform.Pre, perform.Post, zero-words-reads.Asked, zero-words-reads.Learnt, zero-numbers-reads.Asked, zero-numbers-reads.Learnt, refusal-reads.Asked, refusal-reads.Learnt)
 
 module _ (t : ℕ) where
   perform-accepted-requires : perform-lts.Need-accepted-requires (perform-calls t) (perform-at t) perform.Post
   perform-accepted-requires c κs = let d = c .before .before .before .before .before .before .before in search (needs, accepted-few (d .pre .1 .4) (omega arith))
-
-  perform-same-length : perform-lts.Need-same-length (perform-calls t) (perform-at t) perform.Post
-  perform-same-length c = search needs
-
-  perform-same-length-2 : perform-lts.Need-same-length-2 (perform-calls t) (perform-at t) perform.Post
-  perform-same-length-2 c = search needs
-
-  perform-same-length-3 : perform-lts.Need-same-length-3 (perform-calls t) (perform-at t) perform.Post
-  perform-same-length-3 c = search needs
-
-  perform-returns : perform-lts.Need-returns (perform-calls t) (perform-at t) perform.Post
-  perform-returns c = search performed
-
-  perform-find-requires : perform-lts.Need-find-requires (perform-calls t) (perform-at t) perform.Post
-  perform-find-requires c κs = search needs
-
-  perform-enum-known-f : perform-lts.Need-enum-known-f (perform-calls t) (perform-at t) perform.Post
-  perform-enum-known-f c = search needs
 
   perform-perform-requires : perform-lts.Need-perform-requires (perform-calls t) (perform-at t) perform.Post
   perform-perform-requires c κs =
@@ -58,67 +37,14 @@ module _ (t : ℕ) where
       let some = accepted-some (d .args .source .now) _ g q in
       (omega (arith, some, d .pre .0), (search needs, search needs, search needs, search needs, now-known _ _ g q))
 
-  perform-zero-words-requires : perform-lts.Need-zero-words-requires (perform-calls t) (perform-at t) perform.Post
-  perform-zero-words-requires c κs = search needs
-
-  perform-zero-numbers-requires : perform-lts.Need-zero-numbers-requires (perform-calls t) (perform-at t) perform.Post
-  perform-zero-numbers-requires c κs = search needs
-
-  perform-enum-known-f-2 : perform-lts.Need-enum-known-f-2 (perform-calls t) (perform-at t) perform.Post
-  perform-enum-known-f-2 c = search needs
-
-  perform-zero-words-requires-2 : perform-lts.Need-zero-words-requires-2 (perform-calls t) (perform-at t) perform.Post
-  perform-zero-words-requires-2 c κs = search needs
-
-  perform-zero-numbers-requires-2 : perform-lts.Need-zero-numbers-requires-2 (perform-calls t) (perform-at t) perform.Post
-  perform-zero-numbers-requires-2 c κs = search needs
-
-  perform-refusal-requires : perform-lts.Need-refusal-requires (perform-calls t) (perform-at t) perform.Post
-  perform-refusal-requires c κs = search needs
-
-  perform-same-length-4 : perform-lts.Need-same-length-4 (perform-calls t) (perform-at t) perform.Post
-  perform-same-length-4 c = search needs
-
-  perform-same-length-5 : perform-lts.Need-same-length-5 (perform-calls t) (perform-at t) perform.Post
-  perform-same-length-5 c = search needs
-
-  perform-same-length-6 : perform-lts.Need-same-length-6 (perform-calls t) (perform-at t) perform.Post
-  perform-same-length-6 c = search needs
-
   perform-returns-2 : perform-lts.Need-returns-2 (perform-calls t) (perform-at t) perform.Post
   perform-returns-2 c = checked _ _ _ (c .before .before .before .before .before .before .before .before .before .before .before .perform .ensures) (search needs) (search needs) (c .before .before .before .before .before .zero-words .ensures) (c .before .zero-numbers .ensures)
 
-  perform-same-length-7 : perform-lts.Need-same-length-7 (perform-calls t) (perform-at t) perform.Post
-  perform-same-length-7 c = search needs
-
-  perform-same-length-8 : perform-lts.Need-same-length-8 (perform-calls t) (perform-at t) perform.Post
-  perform-same-length-8 c = search needs
-
-  perform-returns-3 : perform-lts.Need-returns-3 (perform-calls t) (perform-at t) perform.Post
-  perform-returns-3 c = search unperformed
-
 pub +perform-spec : {M : Type 1} → statement M
-+perform-spec = close μ-perform λ t. perform-lts.spec (perform-calls t)
-    (perform-at t)
-    perform.Post
-    (perform-accepted-requires t)
-    (perform-same-length t)
-    (perform-same-length-2 t)
-    (perform-same-length-3 t)
-    (perform-returns t)
-    (perform-find-requires t)
-    (perform-enum-known-f t)
-    (perform-perform-requires t)
-    (perform-zero-words-requires t)
-    (perform-zero-numbers-requires t)
-    (perform-enum-known-f-2 t)
-    (perform-zero-words-requires-2 t)
-    (perform-zero-numbers-requires-2 t)
-    (perform-refusal-requires t)
-    (perform-same-length-4 t)
-    (perform-same-length-5 t)
-    (perform-same-length-6 t)
-    (perform-returns-2 t)
-    (perform-same-length-7 t)
-    (perform-same-length-8 t)
-    (perform-returns-3 t)
++perform-spec =
+    close μ-perform
+    (λ t. perform-lts.spec (perform-calls t) (perform-at t) perform.Post (perform-accepted-requires t) (λ c. search needs)
+    (λ c. search needs) (λ c. search needs) (λ c. search performed) (λ c κs. search needs) (λ c. search needs)
+    (perform-perform-requires t) (λ c κs. search needs) (λ c κs. search needs) (λ c. search needs) (λ c κs. search needs)
+    (λ c κs. search needs) (λ c κs. search needs) (λ c. search needs) (λ c. search needs) (λ c. search needs) (perform-returns-2 t)
+    (λ c. search needs) (λ c. search needs) (λ c. search unperformed))

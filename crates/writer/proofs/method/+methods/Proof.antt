@@ -19,9 +19,6 @@ abbrev μ-methods : Measures 4 methods-kinds.ps ℕ
 abbrev methods-at : ℕ → In 4 methods-kinds.ps
 methods-at t = and 4 methods-kinds.ps (is 4 methods-kinds.ps μ-methods t) methods.Pre
 
-abbrev methods-below : ℕ → In 4 methods-kinds.ps
-methods-below t = and 4 methods-kinds.ps (falls 4 methods-kinds.ps _<_ μ-methods t) methods.Pre
-
 abbrev methods-calls : ℕ → methods-lts.Claims
 methods-calls t = (
   enter-reads.Asked,
@@ -30,38 +27,11 @@ methods-calls t = (
   method-reads.Learnt,
   word-reads.Asked,
   word-reads.Learnt,
-  methods-below t,
+  and 4 methods-kinds.ps (falls 4 methods-kinds.ps _<_ μ-methods t) methods.Pre,
   methods.Post,
 )
 
 module _ (t : ℕ) where
-  methods-returns : methods-lts.Need-returns (methods-calls t) (methods-at t) methods.Post
-  methods-returns c = search methods-none
-
-  methods-returns-2 : methods-lts.Need-returns-2 (methods-calls t) (methods-at t) methods.Post
-  methods-returns-2 c = search methods-end
-
-  methods-enter-requires : methods-lts.Need-enter-requires (methods-calls t) (methods-at t) methods.Post
-  methods-enter-requires c κs = search needs
-
-  methods-method-requires : methods-lts.Need-method-requires (methods-calls t) (methods-at t) methods.Post
-  methods-method-requires c κs = search needs
-
-  methods-word-requires : methods-lts.Need-word-requires (methods-calls t) (methods-at t) methods.Post
-  methods-word-requires c κs = search needs
-
-  methods-sub-methods : methods-lts.Need-sub-methods (methods-calls t) (methods-at t) methods.Post
-  methods-sub-methods c = search needs
-
-  methods-methods-requires : methods-lts.Need-methods-requires (methods-calls t) (methods-at t) methods.Post
-  methods-methods-requires c κs = search needs
-
-  methods-same-length : methods-lts.Need-same-length (methods-calls t) (methods-at t) methods.Post
-  methods-same-length c = search needs
-
-  methods-same-length-2 : methods-lts.Need-same-length-2 (methods-calls t) (methods-at t) methods.Post
-  methods-same-length-2 c = search needs
-
   methods-returns-3 : methods-lts.Need-returns-3 (methods-calls t) (methods-at t) methods.Post
   methods-returns-3 c =
       let d = c .before .before .before .before in
@@ -75,6 +45,6 @@ module _ (t : ℕ) where
 pub +methods-spec : {M : Type 1} → statement M
 +methods-spec =
     close μ-methods
-    (λ t. methods-lts.spec (methods-calls t) (methods-at t) methods.Post (methods-returns t) (methods-returns-2 t)
-    (methods-enter-requires t) (methods-method-requires t) (methods-word-requires t) (methods-sub-methods t) (methods-methods-requires t)
-    (methods-same-length t) (methods-same-length-2 t) (methods-returns-3 t))
+    (λ t. methods-lts.spec (methods-calls t) (methods-at t) methods.Post (λ c. search methods-none) (λ c. search methods-end)
+    (λ c κs. search needs) (λ c κs. search needs) (λ c κs. search needs) (λ c. search needs) (λ c κs. search needs) (λ c. search needs)
+    (λ c. search needs) (methods-returns-3 t))
