@@ -17,14 +17,14 @@ use Rattle.base.specs.contracts.Table.{col}
 use Rattle.lexer.specs.Kinds.{isName}
 use Rattle.lexer.specs.Tokens.{Token}
 use Rattle.parser.specs.Tree.{Name, Sort.arguments, Part, Expression, placeE}
-use Rattle.parser.specs.Tree.{Element, Element.int, Element.boolean, Element.class, Ty, Ty.plain, Ty.arrayOf}
+use Rattle.parser.specs.Tree.{Element.int, Element.boolean, Element.class, Ty, Ty.plain, Ty.arrayOf}
 use Rattle.parser.specs.Tree.{Part.noArguments, Part.argument, Variable, Class}
 use Rattle.parser.specs.contracts.Layout.{absent, rowOf, rowVariables}
 use Rattle.parser.specs.contracts.Post.{isAtom, kindInTable}
 use Rattle.reader.specs.contracts.Spans.{Spans}
 use Rattle.reader.specs.laws.SpanLaws.{inside}
 use Rattle.typesystem.specs.ClassTable.{Found, Context, chain, methodOf}
-use Rattle.typesystem.specs.Judge.{judge, must, receiver, ofArray, arity, invocation}
+use Rattle.typesystem.specs.Judge.{judge, must, receiver, arity, invocation}
 use Rattle.lookup.specs.declared.answer.Judged.{Judged}
 use Rattle.lookup.specs.declared.answer.Judged.the-variants.{Fine, Refused}
 use Rattle.lookup.specs.contracts.HeldClasses.{wordAt, NameNumber, MaybeNumber, no-name, a-name, noType, VariablesHeld, more-variables}

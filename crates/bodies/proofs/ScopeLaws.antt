@@ -18,12 +18,14 @@ use Rattle.bodies.specs.declared.scope.Scope.{Scope}
 use Rattle.bodies.specs.contracts.Scoping.{InScope, Means, NameTyped}
 
 -- what a list of variables says of a name
-listed : {tab : List ℕ} {n x t : ℕ} (row : ℕ) → VariableTyped tab n n row x t → {ts : List Token} → Lexemes tab n ts → {vs : List Variable} → ListedAt tab n ts row vs
+listed : {tab : List ℕ} {n x t : ℕ} (row : ℕ) → VariableTyped tab n n row x t → {ts : List Token} → Lexemes tab n ts
+    → {vs : List Variable} → ListedAt tab n ts row vs
     → (text : List ℕ) → NameNumber ts text x → SlotTyped ts (variableNamed vs text) t
 listed row v {ts} lx {vs} l text sp = v .says ts lx vs (l .at) (l .stand) (l .few) text sp
 
 -- a variable is what the name means
-variable-means : {ts : List Token} (G : List Class) (Γ : Context) (text : List ℕ) {t : ℕ} → t < noType → SlotTyped ts (variableNamed (Γ .variables) text) t → Means ts (meaning G Γ text) t
+variable-means : {ts : List Token} (G : List Class) (Γ : Context) (text : List ℕ) {t : ℕ} → t < noType
+    → SlotTyped ts (variableNamed (Γ .variables) text) t → Means ts (meaning G Γ text) t
 unfolding meaning
 variable-means G Γ text low h = let w = typed-some low h in rw (w .1) (typed (w .2))
 
@@ -53,7 +55,8 @@ module _ {tab : List ℕ} {s : Scope} {x t : ℕ} (first : VariableTyped tab (s 
 
   module _ (high : noType ≤ t) {u : ℕ} (second : VariableTyped tab (s .tokens) (s .tokens) (s .locals) x u) where
     -- what parameters and locals say
-    both : {ts : List Token} {G : List Class} {Γ : Context} → InScope tab ts G Γ s → (text : List ℕ) → NameNumber ts text x → SlotTyped ts (variableNamed (Γ .variables) text) u
+    both : {ts : List Token} {G : List Class} {Γ : Context} → InScope tab ts G Γ s → (text : List ℕ) → NameNumber ts text x
+        → SlotTyped ts (variableNamed (Γ .variables) text) u
     both {ts} i text sp =
         let few : length ts ≤ 2048 = omega (arith, i .world .tokens .count, i .world .tokens .few) in
         rw (i .seen)

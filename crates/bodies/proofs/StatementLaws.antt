@@ -4,7 +4,6 @@ use Prim.Native.Nat.{ℕ, _+_, _≤_, _<_, _-_}
 use native.Mathlib.Omega.{arith}
 use mathlib.Core.Path.{_≡_, refl, sym, ap, _∙_, subst}
 use mathlib.Core.List.{List}
-use mathlib.Core.Bool.{Bool, true, false}
 use borrow.Author.Tests.{ne-eqb}
 use Rattle.base.specs.Codes.{wrongType}
 use Rattle.base.specs.Outcome.{_>>=_}

@@ -34,7 +34,8 @@ use Rattle.declarations.proofs.MarkLaws.{below-more, none-marked}
 -- ROWS
 
 -- a word of the row of a class
-class-word : {tab : List ℕ} {n : ℕ} {ts : List Token} → Lexemes tab n ts → (k : Class) {row : ℕ} → k .name .row ≡ row → ClassHeld tab n ts k → (j : ℕ) {w v : ℕ}
+class-word : {tab : List ℕ} {n : ℕ} {ts : List Token} → Lexemes tab n ts → (k : Class) {row : ℕ} → k .name .row ≡ row
+    → ClassHeld tab n ts k → (j : ℕ) {w v : ℕ}
     → w ≡ wordAt tab j row → col tab j (k .name .row) ≡ v → w ≡ v
 class-word {tab} lx k at s j e c = e ∙ ap (wordAt tab j) (sym at) ∙ word-in tab j (k .name .row) (row-there lx (k .name .row) (s .named .token .there)) c
 
@@ -44,7 +45,8 @@ pub record FirstClass (tab : List ℕ) (n : ℕ) (ts : List Token) (k : Class) (
   pub stands : ClassHeld tab n ts k
   pub rest : {next : ℕ} → next ≡ wordAt tab 6 row → (left ≡ 0 → ⊥) → ClassesAt tab n ts ks (left - 1) next
 
-pub first-class : {tab : List ℕ} {n : ℕ} {ts : List Token} → Lexemes tab n ts → {k : Class} {ks : List Class} {left row : ℕ} → ClassesAt tab n ts (k ∷ ks) left row
+pub first-class : {tab : List ℕ} {n : ℕ} {ts : List Token} → Lexemes tab n ts → {k : Class} {ks : List Class} {left row : ℕ}
+    → ClassesAt tab n ts (k ∷ ks) left row
     → FirstClass tab n ts k ks left row
 first-class {tab} {n} {ts} lx {k} {ks} {left} {row} a = go (a .stand)
   where
@@ -62,7 +64,8 @@ module _ {tab : List ℕ} {class p : ℕ} (e₃ : p ≡ wordAt tab 3 class) wher
   unfolding ParentMatches
   orphan-none far = record { says = λ n ts G w k at s. go n ts G w (k .parent) (s .parent-matches) (class-word (w .tokens) k at s 3 e₃ (s .above)) }
     where
-      go : (n : ℕ) (ts : List Token) (G : List Class) → ClassTableHeld tab n ts G → (q : Option Name) → ParentMatches ts q → p ≡ rowParent q → false ≡ orphaned G q
+      go : (n : ℕ) (ts : List Token) (G : List Class) → ClassTableHeld tab n ts G → (q : Option Name) → ParentMatches ts q
+          → p ≡ rowParent q → false ≡ orphaned G q
       go n ts G w none m e = refl
       go n ts G w (some q) m e = absurd (omega (arith, e, row-there (w .tokens) (q .row) (m .token .there)))
 
@@ -70,11 +73,13 @@ module _ {tab : List ℕ} {class p : ℕ} (e₃ : p ≡ wordAt tab 3 class) wher
   unfolding ParentMatches
   orphan-is near {x} {c} e₂ e₇ = record { says = λ n ts G w k at s. go n ts G w (k .parent) (s .parent-matches) (class-word (w .tokens) k at s 3 e₃ (s .above)) }
     where
-      found : (n : ℕ) (ts : List Token) (G : List Class) (q : Name) → ClassAt tab n ts G (some (q .text)) x c → leb absent c ≡ orphaned G (some q)
+      found : (n : ℕ) (ts : List Token) (G : List Class) (q : Name) → ClassAt tab n ts G (some (q .text)) x c
+          → leb absent c ≡ orphaned G (some q)
       found n ts G q (no-class e far) = rw (e, le-leb absent c far)
       found n ts G q (a-class k e at low s sp) = rw (e, lt-leb absent c low)
 
-      go : (n : ℕ) (ts : List Token) (G : List Class) → ClassTableHeld tab n ts G → (q : Option Name) → ParentMatches ts q → p ≡ rowParent q → leb absent c ≡ orphaned G q
+      go : (n : ℕ) (ts : List Token) (G : List Class) → ClassTableHeld tab n ts G → (q : Option Name) → ParentMatches ts q
+          → p ≡ rowParent q → leb absent c ≡ orphaned G q
       go n ts G w none m e = absurd (omega (arith, e))
       go n ts G w (some q) m e =
           found n ts G q (class-at w (some (q .text)) x c (a-name (subst (NameNumber ts (q .text)) (ap (wordAt tab 2) (sym e) ∙ sym e₂) (name-word (w .tokens) (q .row) (m .token)))) e₇)
@@ -99,29 +104,34 @@ module _ {tab : List ℕ} {left row : ℕ} where
   unfolding knownParents
   parents-absent far = record { says = λ n ts G w ks a. go n ts G w ks a }
     where
-      go : (n : ℕ) (ts : List Token) (G : List Class) → ClassTableHeld tab n ts G → (ks : List Class) → ClassesAt tab n ts ks left row → Fine 0 ≡ asJudged (knownParents G ks)
+      go : (n : ℕ) (ts : List Token) (G : List Class) → ClassTableHeld tab n ts G → (ks : List Class) → ClassesAt tab n ts ks left row
+          → Fine 0 ≡ asJudged (knownParents G ks)
       go n ts G w [] a = refl
       go n ts G w (k ∷ ks) a = absurd (omega (arith, first-class (w .tokens) a .near))
 
   module _ (near : row < absent) {b : Bool} (h : OrphanAt tab row b) where
-    pub parents-orphan : b ≡ true → {p q : ℕ} → p ≡ wordAt tab 3 row → q ≡ wordAt tab 1 p → ParentsJudged tab left row (Refused parentUnknown q)
+    pub parents-orphan : b ≡ true → {p q : ℕ} → p ≡ wordAt tab 3 row → q ≡ wordAt tab 1 p
+        → ParentsJudged tab left row (Refused parentUnknown q)
     unfolding knownParents ParentMatches
     parents-orphan is {p} {q} e₃ e₁ = record { says = λ n ts G w ks a. go n ts G w ks a }
       where
-        parent : (n : ℕ) (ts : List Token) (G : List Class) → ClassTableHeld tab n ts G → (o : Option Name) → ParentMatches ts o → p ≡ rowParent o → true ≡ orphaned G o
+        parent : (n : ℕ) (ts : List Token) (G : List Class) → ClassTableHeld tab n ts G → (o : Option Name) → ParentMatches ts o
+            → p ≡ rowParent o → true ≡ orphaned G o
             → knownParent G o ≡ refused parentUnknown q
         parent n ts G w none m e r = absurd (true≢false r)
         parent n ts G w (some x) m e r =
             unknown (classNamed G (x .text)) (x .start) r
             ∙ ap (λ (i : ℕ). refused parentUnknown i) (sym (e₁ ∙ ap (wordAt tab 1) e ∙ start-word (w .tokens) (x .row) (m .token .there) ∙ m .start))
 
-        go : (n : ℕ) (ts : List Token) (G : List Class) → ClassTableHeld tab n ts G → (ks : List Class) → ClassesAt tab n ts ks left row → Refused parentUnknown q ≡ asJudged (knownParents G ks)
+        go : (n : ℕ) (ts : List Token) (G : List Class) → ClassTableHeld tab n ts G → (ks : List Class) → ClassesAt tab n ts ks left row
+            → Refused parentUnknown q ≡ asJudged (knownParents G ks)
         go n ts G w [] a = absurd (omega (arith, a .here))
         go n ts G w (k ∷ ks) a =
             let s = first-class (w .tokens) a .stands in
             rw (parent n ts G w (k .parent) (s .parent-matches) (class-word (w .tokens) k (a .here) s 3 e₃ (s .above)) (sym is ∙ h .says n ts G w k (a .here) s))
 
-    pub parents-next : (left ≡ 0 → ⊥) → b ≡ false → {next : ℕ} {r : Judged} → next ≡ wordAt tab 6 row → ParentsJudged tab (left - 1) next r → ParentsJudged tab left row r
+    pub parents-next : (left ≡ 0 → ⊥) → b ≡ false → {next : ℕ} {r : Judged} → next ≡ wordAt tab 6 row
+        → ParentsJudged tab (left - 1) next r → ParentsJudged tab left row r
     unfolding knownParents
     parents-next more is {next} {r} e₆ h′ = record { says = λ n ts G w ks a. go n ts G w ks a }
       where
@@ -129,7 +139,8 @@ module _ {tab : List ℕ} {left row : ℕ} where
         parent G none r = refl
         parent G (some x) r = known-class (classNamed G (x .text)) (x .start) r
 
-        go : (n : ℕ) (ts : List Token) (G : List Class) → ClassTableHeld tab n ts G → (ks : List Class) → ClassesAt tab n ts ks left row → r ≡ asJudged (knownParents G ks)
+        go : (n : ℕ) (ts : List Token) (G : List Class) → ClassTableHeld tab n ts G → (ks : List Class) → ClassesAt tab n ts ks left row
+            → r ≡ asJudged (knownParents G ks)
         go n ts G w [] a = absurd (omega (arith, a .here))
         go n ts G w (k ∷ ks) a =
             let f = first-class (w .tokens) a in
@@ -138,12 +149,14 @@ module _ {tab : List ℕ} {left row : ℕ} where
 -- MEMBERS
 
 -- after the fields no word has reached the stamp of the methods
-fields-below : {tab : List ℕ} {n stamp first : ℕ} {before mid : List ℕ} {f : Judged} → StampsBelow stamp before → FieldsJudged tab n n stamp first before mid f → StampsBelow (stamp + 1) mid
+fields-below : {tab : List ℕ} {n stamp first : ℕ} {before mid : List ℕ} {f : Judged} → StampsBelow stamp before
+    → FieldsJudged tab n n stamp first before mid f → StampsBelow (stamp + 1) mid
 fields-below {stamp = stamp} new h = h .below (stamp + 1) (omega arith) (below-more (omega arith) new)
 
 module _ {tab : List ℕ} {n stamp class first : ℕ} (e₄ : first ≡ wordAt tab 4 class) {before mid : List ℕ} (new : StampsBelow stamp before)
     {f : Judged} (h : FieldsJudged tab n n stamp first before mid f) where
-  own-fields : {ts : List Token} {G : List Class} → ClassTableHeld tab n ts G → (k : Class) → k .name .row ≡ class → ClassHeld tab n ts k → f ≡ asJudged (fields G [] (k .fields))
+  own-fields : {ts : List Token} {G : List Class} → ClassTableHeld tab n ts G → (k : Class) → k .name .row ≡ class → ClassHeld tab n ts k
+      → f ≡ asJudged (fields G [] (k .fields))
   own-fields {ts} {G} w k at s =
       h .says ts G w [] (k .fields) (record { here = sym (class-word (w .tokens) k at s 4 e₄ (s .first)); stand = s .fields; few = s .few-fields; marked = none-marked new })
 
@@ -153,7 +166,8 @@ module _ {tab : List ℕ} {n stamp class first : ℕ} (e₄ : first ≡ wordAt t
     says = λ ts G w l k at s own. ap asJudged (sym (stops (fields G [] (k .fields)) (λ _. heads G k [] (k .methods)) (own-fields w k at s) is));
   }
 
-  pub members-next : {classes u : ℕ} → f ≡ Fine u → {methods p : ℕ} {after : List ℕ} {r : Judged} → methods ≡ wordAt tab 5 class → Above tab class p
+  pub members-next : {classes u : ℕ} → f ≡ Fine u → {methods p : ℕ} {after : List ℕ} {r : Judged} → methods ≡ wordAt tab 5 class
+      → Above tab class p
       → HeadsJudged tab n classes n p (stamp + 1) methods mid after r → MembersJudged tab n classes stamp class after r
   members-next is {methods} {p} {after} {r} e₅ up h′ = record {
     below = h′ .below (stamp + 2) (omega arith) (below-more (omega arith) (fields-below new h));
@@ -178,7 +192,8 @@ module _ {tab : List ℕ} {n classes left row : ℕ} where
   unfolding declarations
   declarations-absent far = record { says = λ ts G w l ks a own. go ts G w ks a }
     where
-      go : (ts : List Token) (G : List Class) → ClassTableHeld tab n ts G → (ks : List Class) → ClassesAt tab n ts ks left row → Fine 0 ≡ asJudged (declarations G ks)
+      go : (ts : List Token) (G : List Class) → ClassTableHeld tab n ts G → (ks : List Class) → ClassesAt tab n ts ks left row
+          → Fine 0 ≡ asJudged (declarations G ks)
       go ts G w [] a = refl
       go ts G w (k ∷ ks) a = absurd (omega (arith, first-class (w .tokens) a .near))
 
@@ -186,7 +201,8 @@ module _ {tab : List ℕ} {n classes left row : ℕ} where
     pub declarations-stop : {number p : ℕ} → o ≡ Refused number p → DeclarationsJudged tab n classes left row (Refused number p)
     declarations-stop {number} {p} is = record { says = λ ts G w l ks a own. go ts G w l ks a own }
       where
-        go : (ts : List Token) (G : List Class) → ClassTableHeld tab n ts G → length G ≡ classes → (ks : List Class) → ClassesAt tab n ts ks left row → FoundByName G ks
+        go : (ts : List Token) (G : List Class) → ClassTableHeld tab n ts G → length G ≡ classes → (ks : List Class)
+            → ClassesAt tab n ts ks left row → FoundByName G ks
             → Refused number p ≡ asJudged (declarations G ks)
         go ts G w l [] a own = absurd (omega (arith, a .here))
         go ts G w l (k ∷ ks) a (all-cons own owns) =
@@ -198,7 +214,8 @@ module _ {tab : List ℕ} {n classes left row : ℕ} where
         → DeclarationsJudged tab n classes (left - 1) next r → DeclarationsJudged tab n classes left row r
     declarations-next more is {next} {r} e₆ h′ = record { says = λ ts G w l ks a own. go ts G w l ks a own }
       where
-        go : (ts : List Token) (G : List Class) → ClassTableHeld tab n ts G → length G ≡ classes → (ks : List Class) → ClassesAt tab n ts ks left row → FoundByName G ks
+        go : (ts : List Token) (G : List Class) → ClassTableHeld tab n ts G → length G ≡ classes → (ks : List Class)
+            → ClassesAt tab n ts ks left row → FoundByName G ks
             → r ≡ asJudged (declarations G ks)
         go ts G w l [] a own = absurd (omega (arith, a .here))
         go ts G w l (k ∷ ks) a (all-cons own owns) =

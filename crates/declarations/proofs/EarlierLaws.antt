@@ -42,7 +42,8 @@ onto-last : (earlier xs : List (List ℕ)) (x : List ℕ) → onto earlier (xs +
 onto-last earlier [] x = refl
 onto-last earlier (y ∷ ys) x = onto-last (y ∷ earlier) ys x
 
-pub onto-next : {A : Type 0} (f : A → List ℕ) (earlier : List (List ℕ)) (us : List A) (v : A) → onto earlier (map f (us ++ v ∷ [])) ≡ f v ∷ onto earlier (map f us)
+pub onto-next : {A : Type 0} (f : A → List ℕ) (earlier : List (List ℕ)) (us : List A) (v : A)
+    → onto earlier (map f (us ++ v ∷ [])) ≡ f v ∷ onto earlier (map f us)
 onto-next f earlier us v = ap (onto earlier) (map-append f us (v ∷ [])) ∙ onto-last earlier (map f us) (f v)
 
 -- ROWS
@@ -61,7 +62,8 @@ pub record DeclaredAt (tab : List ℕ) (ts : List Token) (v : Variable) (row : �
   pub start : wordAt tab 1 row ≡ v .name .start
 
 module _ {tab : List ℕ} {n : ℕ} {ts : List Token} (lx : Lexemes tab n ts) where
-  declared-at : (v : Variable) {row : ℕ} → v .name .row ≡ row → VariableMatches ts v → col tab 3 (v .name .row) ≡ v .type .row → DeclaredAt tab ts v row
+  declared-at : (v : Variable) {row : ℕ} → v .name .row ≡ row → VariableMatches ts v → col tab 3 (v .name .row) ≡ v .type .row
+      → DeclaredAt tab ts v row
   declared-at v {row} at m c₃ =
       let there = m .name .token .there in
       subst (DeclaredAt tab ts v) at (record {
@@ -81,7 +83,8 @@ module _ {tab : List ℕ} {n : ℕ} {ts : List Token} (lx : Lexemes tab n ts) wh
 -- VARIABLES
 
 -- whether a name is that of one of the variables of a list
-pub listed-repeated : {tab : List ℕ} {n : ℕ} {ts : List Token} → Lexemes tab n ts → {first count : ℕ} (vs : List Variable) → VariablesListed tab ts vs first count → {x : ℕ} {r : Bool}
+pub listed-repeated : {tab : List ℕ} {n : ℕ} {ts : List Token} → Lexemes tab n ts → {first count : ℕ} (vs : List Variable)
+    → VariablesListed tab ts vs first count → {x : ℕ} {r : Bool}
     → Repeated tab count first x r → (text : List ℕ) → NameNumber ts text x → r ≡ occurs text (map textOf vs)
 listed-repeated {tab} {ts = ts} lx {first} vs l h text sp =
     let names = variable-names lx vs [] (subst (VariablesHeld tab ts) (sym (append-nil vs)) (l .stand)) in
@@ -107,7 +110,8 @@ module _ {tab : List ℕ} {n : ℕ} {ts : List Token} (lx : Lexemes tab n ts) {f
       go : VariablesHeld tab ts (v ∷ vs) → DeclaredAt tab ts v row
       go (more-variables m c₃ c₆ s) = declared-at lx v (a .here) m c₃
 
-  pub variable-repeated : {x : ℕ} {r : Bool} → Repeated tab index first x r → (text : List ℕ) → NameNumber ts text x → r ≡ occurs text (map textOf us)
+  pub variable-repeated : {x : ℕ} {r : Bool} → Repeated tab index first x r → (text : List ℕ) → NameNumber ts text x
+      → r ≡ occurs text (map textOf us)
   variable-repeated {x} {r} h text sp =
       h .says ts (map textOf us) (subst (λ (i : ℕ). Names tab ts i (map textOf us)) (a .begins) (variable-names lx us (v ∷ vs) (a .stand)))
       (length-map us textOf ∙ a .before) text sp
@@ -132,7 +136,8 @@ pub record First (tab : List ℕ) (ts : List Token) (v : Variable) (vs : List Va
   pub next : wordAt tab 6 row ≡ rowVariables vs
   pub rest : VariablesHeld tab ts vs
 
-pub first-of : {tab : List ℕ} {n : ℕ} {ts : List Token} → Lexemes tab n ts → {v : Variable} {vs : List Variable} {row : ℕ} → v .name .row ≡ row → VariablesHeld tab ts (v ∷ vs)
+pub first-of : {tab : List ℕ} {n : ℕ} {ts : List Token} → Lexemes tab n ts → {v : Variable} {vs : List Variable} {row : ℕ}
+    → v .name .row ≡ row → VariablesHeld tab ts (v ∷ vs)
     → First tab ts v vs row
 first-of {tab} lx {v} {vs} at (more-variables m c₃ c₆ s) =
     let there = row-there lx (v .name .row) (m .name .token .there) in
@@ -145,12 +150,14 @@ pub record FirstMethod (tab : List ℕ) (n : ℕ) (ts : List Token) (m : Method)
   pub next : wordAt tab 6 row ≡ rowMethods ms
   pub rest : MethodsHeld tab n ts ms
 
-pub first-method : {tab : List ℕ} {n : ℕ} {ts : List Token} → Lexemes tab n ts → {m : Method} {ms : List Method} {row : ℕ} → m .name .row ≡ row → MethodsHeld tab n ts (m ∷ ms)
+pub first-method : {tab : List ℕ} {n : ℕ} {ts : List Token} → Lexemes tab n ts → {m : Method} {ms : List Method} {row : ℕ}
+    → m .name .row ≡ row → MethodsHeld tab n ts (m ∷ ms)
     → FirstMethod tab n ts m ms row
 first-method {tab} lx {m} {ms} at (more-methods h c₆ s) =
     let there = row-there lx (m .name .row) (h .head .name .token .there) in
     record { near = omega (arith, at, there); stands = h; next = ap (wordAt tab 6) (sym at) ∙ word-in tab 6 (m .name .row) there c₆; rest = s }
 
-pub method-declared : {tab : List ℕ} {n : ℕ} {ts : List Token} → Lexemes tab n ts → (m : Method) {row : ℕ} → m .name .row ≡ row → MethodHeld tab n ts m
+pub method-declared : {tab : List ℕ} {n : ℕ} {ts : List Token} → Lexemes tab n ts → (m : Method) {row : ℕ} → m .name .row ≡ row
+    → MethodHeld tab n ts m
     → DeclaredAt tab ts (headOf m) row
 method-declared lx m at s = declared-at lx (headOf m) at (s .head) (s .result)

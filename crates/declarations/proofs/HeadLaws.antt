@@ -37,7 +37,8 @@ use Rattle.declarations.proofs.VariableLaws.{declared-known, type-place
 -- PARAMETER TYPES
 
 -- the number of the type of the variable of a row
-type-code : {tab : List ℕ} {n : ℕ} {ts : List Token} → Lexemes tab n ts → {v : Variable} {row t p : ℕ} → DeclaredAt tab ts v row → t ≡ wordAt tab 3 row → TypeOf tab n t p
+type-code : {tab : List ℕ} {n : ℕ} {ts : List Token} → Lexemes tab n ts → {v : Variable} {row t p : ℕ} → DeclaredAt tab ts v row
+    → t ≡ wordAt tab 3 row → TypeOf tab n t p
     → Codes ts (v .type .type) p
 type-code {ts = ts} lx {v} d e₃ h = h .says ts lx (v .type .row) (sym (d .type) ∙ sym e₃) (v .type .type) (d .matches .type)
 
@@ -49,7 +50,8 @@ module _ {tab : List ℕ} {n left a b : ℕ} where
   unfolding sameTypes
   types-first-ends far = record { says = λ ts lx vs ws d s f r few few′. go ts lx vs ws d s f r }
     where
-      go : (ts : List Token) → Lexemes tab n ts → (vs ws : List Variable) → rowVariables vs ≡ a → VariablesHeld tab ts vs → rowVariables ws ≡ b → VariablesHeld tab ts ws
+      go : (ts : List Token) → Lexemes tab n ts → (vs ws : List Variable) → rowVariables vs ≡ a → VariablesHeld tab ts vs
+          → rowVariables ws ≡ b → VariablesHeld tab ts ws
           → leb absent b ≡ sameTypes vs ws
       go ts lx [] [] d s f r = le-leb absent b (omega (arith, f))
       go ts lx [] (w ∷ ws) d s f r = lt-leb absent b (first-of lx f r .near)
@@ -60,7 +62,8 @@ module _ {tab : List ℕ} {n left a b : ℕ} where
     unfolding sameTypes
     types-second-ends far = record { says = λ ts lx vs ws d s f r few few′. go ts lx vs ws d f r }
       where
-        go : (ts : List Token) → Lexemes tab n ts → (vs ws : List Variable) → rowVariables vs ≡ a → rowVariables ws ≡ b → VariablesHeld tab ts ws → false ≡ sameTypes vs ws
+        go : (ts : List Token) → Lexemes tab n ts → (vs ws : List Variable) → rowVariables vs ≡ a → rowVariables ws ≡ b
+            → VariablesHeld tab ts ws → false ≡ sameTypes vs ws
         go ts lx [] ws d f r = absurd (omega (arith, d))
         go ts lx (v ∷ vs) [] d f r = refl
         go ts lx (v ∷ vs) (w ∷ ws) d f r = absurd (omega (arith, first-of lx f r .near))
@@ -70,7 +73,8 @@ module _ {tab : List ℕ} {n left a b : ℕ} where
       unfolding sameTypes
       types-differ other = record { says = λ ts lx vs ws d s f r few few′. go ts lx vs ws d s f r }
         where
-          go : (ts : List Token) → Lexemes tab n ts → (vs ws : List Variable) → rowVariables vs ≡ a → VariablesHeld tab ts vs → rowVariables ws ≡ b → VariablesHeld tab ts ws
+          go : (ts : List Token) → Lexemes tab n ts → (vs ws : List Variable) → rowVariables vs ≡ a → VariablesHeld tab ts vs
+              → rowVariables ws ≡ b → VariablesHeld tab ts ws
               → false ≡ sameTypes vs ws
           go ts lx [] ws d s f r = absurd (omega (arith, d))
           go ts lx (v ∷ vs) [] d s f r = absurd (omega (arith, f))
@@ -79,12 +83,14 @@ module _ {tab : List ℕ} {n left a b : ℕ} where
               let c′ = type-code lx (first-of lx f r .declared) e₃′ h′ in
               rw (other-codes lx c c′ other)
 
-      pub types-next : p ≡ q → {next next′ : ℕ} {o : Bool} → next ≡ wordAt tab 6 a → next′ ≡ wordAt tab 6 b → TypesCompared tab n (left - 1) next next′ o
+      pub types-next : p ≡ q → {next next′ : ℕ} {o : Bool} → next ≡ wordAt tab 6 a → next′ ≡ wordAt tab 6 b
+          → TypesCompared tab n (left - 1) next next′ o
           → TypesCompared tab n left a b o
       unfolding sameTypes
       types-next is {next} {next′} {o} e₆ e₆′ k = record { says = λ ts lx vs ws d s f r few few′. go ts lx vs ws d s f r few few′ }
         where
-          go : (ts : List Token) → Lexemes tab n ts → (vs ws : List Variable) → rowVariables vs ≡ a → VariablesHeld tab ts vs → rowVariables ws ≡ b → VariablesHeld tab ts ws
+          go : (ts : List Token) → Lexemes tab n ts → (vs ws : List Variable) → rowVariables vs ≡ a → VariablesHeld tab ts vs
+              → rowVariables ws ≡ b → VariablesHeld tab ts ws
               → length vs ≤ left → length ws ≤ left → o ≡ sameTypes vs ws
           go ts lx [] ws d s f r few few′ = absurd (omega (arith, d))
           go ts lx (v ∷ vs) [] d s f r few few′ = absurd (omega (arith, f))
@@ -97,13 +103,15 @@ module _ {tab : List ℕ} {n left a b : ℕ} where
 -- REDECLARATIONS
 
 -- where a method's parameters begin
-parameters-word : {tab : List ℕ} {n : ℕ} {ts : List Token} → Lexemes tab n ts → (m : Method) {row w : ℕ} → m .name .row ≡ row → MethodHeld tab n ts m → w ≡ wordAt tab 4 row
+parameters-word : {tab : List ℕ} {n : ℕ} {ts : List Token} → Lexemes tab n ts → (m : Method) {row w : ℕ} → m .name .row ≡ row
+    → MethodHeld tab n ts m → w ≡ wordAt tab 4 row
     → rowVariables (m .parameters) ≡ w
 parameters-word {tab} lx m at s e₄ =
     sym (word-in tab 4 (m .name .row) (row-there lx (m .name .row) (s .head .name .token .there)) (s .first)) ∙ ap (wordAt tab 4) at ∙ sym e₄
 
 module _ {tab : List ℕ} {n lower upper v w : ℕ} (e₄ : v ≡ wordAt tab 4 lower) (e₄′ : w ≡ wordAt tab 4 upper) {b : Bool} (h : TypesCompared tab n n v w b) where
-  same-parameters : {ts : List Token} → Lexemes tab n ts → (l u : Method) → l .name .row ≡ lower → MethodHeld tab n ts l → u .name .row ≡ upper → MethodHeld tab n ts u
+  same-parameters : {ts : List Token} → Lexemes tab n ts → (l u : Method) → l .name .row ≡ lower → MethodHeld tab n ts l
+      → u .name .row ≡ upper → MethodHeld tab n ts u
       → sameTypes (l .parameters) (u .parameters) ≡ b
   same-parameters {ts} lx l u at s at′ s′ =
       sym (h .says ts lx (l .parameters) (u .parameters) (parameters-word lx l at s e₄) (s .parameters) (parameters-word lx u at′ s′ e₄′) (s′ .parameters)
@@ -112,11 +120,13 @@ module _ {tab : List ℕ} {n lower upper v w : ℕ} (e₄ : v ≡ wordAt tab 4 l
   pub redeclares-not : {classes : ℕ} → b ≡ false → RedeclaresAt tab n classes lower upper false
   redeclares-not is = record { says = λ ts G world k l u at s at′ s′. rw (same-parameters (world .tokens) l u at s at′ s′ ∙ is) }
 
-  pub redeclares-fits : {classes : ℕ} → b ≡ true → {p s q t : ℕ} → p ≡ wordAt tab 3 lower → TypeOf tab n p s → q ≡ wordAt tab 3 upper → TypeOf tab n q t → {r : Bool} → Fits tab n classes s t r
+  pub redeclares-fits : {classes : ℕ} → b ≡ true → {p s q t : ℕ} → p ≡ wordAt tab 3 lower → TypeOf tab n p s → q ≡ wordAt tab 3 upper
+      → TypeOf tab n q t → {r : Bool} → Fits tab n classes s t r
       → RedeclaresAt tab n classes lower upper r
   redeclares-fits {classes} is e₃ f e₃′ f′ {r} k = record { says = λ ts G world c l u at s at′ s′. go ts G world c l u at s at′ s′ }
     where
-      go : (ts : List Token) (G : List Class) → ClassTableHeld tab n ts G → length G ≡ classes → (l u : Method) → l .name .row ≡ lower → MethodHeld tab n ts l
+      go : (ts : List Token) (G : List Class) → ClassTableHeld tab n ts G → length G ≡ classes → (l u : Method) → l .name .row ≡ lower
+          → MethodHeld tab n ts l
           → u .name .row ≡ upper → MethodHeld tab n ts u → r ≡ redeclares G l u
       go ts G world c l u at s at′ s′ =
           let lx = world .tokens in
@@ -139,13 +149,15 @@ module _ {tab : List ℕ} {n classes parent row : ℕ} where
   unfolding classNamed
   compatible-empty e = record { says = λ ts G w l k p m at s. go G k m l (p .own) }
     where
-      go : (G : List Class) (k : Class) (m : Method) → length G ≡ classes → classNamed G (k .name .text) ≡ some k → redeclaration G k m ≡ accepted tt
+      go : (G : List Class) (k : Class) (m : Method) → length G ≡ classes → classNamed G (k .name .text) ≡ some k
+          → redeclaration G k m ≡ accepted tt
       go [] k m l own = absurd (none-some refl own)
       go (j ∷ G) k m l own = absurd (omega arith)
 
   module _ (more : classes ≡ 0 → ⊥) {x u : ℕ} (e₂ : x ≡ wordAt tab 2 row) (h : FindsMethod tab n (classes - 1) parent x u) where
     -- the method that is found, and the answer by it
-    found-above : {ts : List Token} {G : List Class} → ClassTableHeld tab n ts G → length G ≡ classes → (k : Class) → Parented ts G k parent → (m : Method) → m .name .row ≡ row
+    found-above : {ts : List Token} {G : List Class} → ClassTableHeld tab n ts G → length G ≡ classes → (k : Class)
+        → Parented ts G k parent → (m : Method) → m .name .row ≡ row
         → MethodHeld tab n ts m → (b : Bool)
         → ((o : Option Found) → u ≡ rowFound o → ((F : Found) → o ≡ some F → MethodHeld tab n ts (F .method)) → compared G m o ≡ redeclared b m)
         → redeclaration G k m ≡ redeclared b m
@@ -168,8 +180,10 @@ module _ {tab : List ℕ} {n classes parent row : ℕ} where
     pub compatible-is : u < absent → {r : Bool} → RedeclaresAt tab n classes row u r → CompatibleAt tab n classes parent row r
     compatible-is near {r} h′ = record { says = λ ts G w l k p m at s. found-above w l k p m at s r (go ts G w l m at s) }
       where
-        go : (ts : List Token) (G : List Class) → ClassTableHeld tab n ts G → length G ≡ classes → (m : Method) → m .name .row ≡ row → MethodHeld tab n ts m
-            → (o : Option Found) → u ≡ rowFound o → ((F : Found) → o ≡ some F → MethodHeld tab n ts (F .method)) → compared G m o ≡ redeclared r m
+        go : (ts : List Token) (G : List Class) → ClassTableHeld tab n ts G → length G ≡ classes → (m : Method) → m .name .row ≡ row
+            → MethodHeld tab n ts m
+            → (o : Option Found) → u ≡ rowFound o → ((F : Found) → o ≡ some F → MethodHeld tab n ts (F .method))
+            → compared G m o ≡ redeclared r m
         go ts G w l m at s none e f = absurd (omega (arith, e))
         go ts G w l m at s (some F) e f = ap (λ (b : Bool). redeclared b m) (sym (h′ .says ts G w l m (F .method) at s (sym e) (f F refl)))
 
@@ -180,7 +194,8 @@ module _ {tab : List ℕ} {n stamp row t : ℕ} {before : List ℕ} (e₃ : t �
   unfolding judgedHead
   opening-unknown is {p} e₁ = record { below = λ bound high b. b; says = go; marks = λ e. apart (cc) }
     where
-      go : (ts : List Token) (G : List Class) → ClassTableHeld tab n ts G → (earlier : List (List ℕ)) (m : Method) → MethodAt tab n ts before stamp earlier m row
+      go : (ts : List Token) (G : List Class) → ClassTableHeld tab n ts G → (earlier : List (List ℕ)) (m : Method)
+          → MethodAt tab n ts before stamp earlier m row
           → Refused typeUnknown p ≡ asJudged (judgedHead G earlier m)
       go ts G w earlier m a =
           let d = method-declared (w .tokens) m (a .here) (a .stand) in
@@ -188,14 +203,16 @@ module _ {tab : List ℕ} {n stamp row t : ℕ} {before : List ℕ} (e₃ : t �
 
   module _ (is : b ≡ true) {x : ℕ} (e₂ : x ≡ wordAt tab 2 row) {after : List ℕ} {c : Bool} (h : MarkPost x stamp before after c) where
     -- the number of the method's name
-    number : {ts : List Token} → Lexemes tab n ts → {earlier : List (List ℕ)} (m : Method) → MethodAt tab n ts before stamp earlier m row → NameNumber ts (methodName m) x
+    number : {ts : List Token} → Lexemes tab n ts → {earlier : List (List ℕ)} (m : Method) → MethodAt tab n ts before stamp earlier m row
+        → NameNumber ts (methodName m) x
     number {ts} lx m a = subst (NameNumber ts (methodName m)) (sym e₂) (method-declared lx m (a .here) (a .stand) .number)
 
     pub opening-repeated : c ≡ true → {p : ℕ} → p ≡ wordAt tab 1 row → OpeningJudged tab n stamp row before after (Refused methodRepeated p)
     unfolding judgedHead
     opening-repeated again {p} e₁ = record { below = h .below; says = go; marks = λ e. apart (cc) }
       where
-        go : (ts : List Token) (G : List Class) → ClassTableHeld tab n ts G → (earlier : List (List ℕ)) (m : Method) → MethodAt tab n ts before stamp earlier m row
+        go : (ts : List Token) (G : List Class) → ClassTableHeld tab n ts G → (earlier : List (List ℕ)) (m : Method)
+            → MethodAt tab n ts before stamp earlier m row
             → Refused methodRepeated p ≡ asJudged (judgedHead G earlier m)
         go ts G w earlier m a =
             let d = method-declared (w .tokens) m (a .here) (a .stand) in
@@ -205,14 +222,16 @@ module _ {tab : List ℕ} {n stamp row t : ℕ} {before : List ℕ} (e₃ : t �
     unfolding judgedHead
     opening-fine new = record { below = h .below; says = go; marks = λ e ts lx earlier m a. marked-next lx h (number lx m a) (a .marked) }
       where
-        go : (ts : List Token) (G : List Class) → ClassTableHeld tab n ts G → (earlier : List (List ℕ)) (m : Method) → MethodAt tab n ts before stamp earlier m row
+        go : (ts : List Token) (G : List Class) → ClassTableHeld tab n ts G → (earlier : List (List ℕ)) (m : Method)
+            → MethodAt tab n ts before stamp earlier m row
             → Fine 0 ≡ asJudged (judgedHead G earlier m)
         go ts G w earlier m a =
             let d = method-declared (w .tokens) m (a .here) (a .stand) in
             rw (declared-known k e₃ w d ∙ is, marked-is (w .tokens) h (number (w .tokens) m a) (a .marked) ∙ new)
 
 module _ {tab : List ℕ} {n row first : ℕ} {v : Judged} (e₄ : first ≡ wordAt tab 4 row) (h : VariablesJudged tab n n 2048 0 first 0 first v) where
-  own-parameters : {ts : List Token} {G : List Class} → ClassTableHeld tab n ts G → (m : Method) → m .name .row ≡ row → MethodHeld tab n ts m → v ≡ asJudged (variables G [] (m .parameters))
+  own-parameters : {ts : List Token} {G : List Class} → ClassTableHeld tab n ts G → (m : Method) → m .name .row ≡ row
+      → MethodHeld tab n ts m → v ≡ asJudged (variables G [] (m .parameters))
   own-parameters {ts} {G} w m at s =
       let e = parameters-word (w .tokens) m at s e₄ in
       h .says ts G w [] (record { stand = no-variables; begins = refl; many = refl }) [] (m .parameters)
@@ -223,7 +242,8 @@ module _ {tab : List ℕ} {n row first : ℕ} {v : Judged} (e₄ : first ≡ wor
   rest-stop is = record { says = λ ts G w l k p m at s. ap asJudged (sym (stops (variables G [] (m .parameters)) (λ _. redeclaration G k m) (own-parameters w m at s) is)) }
 
   module _ {classes parent u : ℕ} (is : v ≡ Fine u) {b : Bool} (c : CompatibleAt tab n classes parent row b) where
-    closed-by : {ts : List Token} {G : List Class} → ClassTableHeld tab n ts G → length G ≡ classes → (k : Class) → Parented ts G k parent → (m : Method) → m .name .row ≡ row
+    closed-by : {ts : List Token} {G : List Class} → ClassTableHeld tab n ts G → length G ≡ classes → (k : Class)
+        → Parented ts G k parent → (m : Method) → m .name .row ≡ row
         → MethodHeld tab n ts m → closed G k m ≡ redeclared b m
     unfolding closed
     closed-by {ts} {G} w l k p m at s =
@@ -246,7 +266,8 @@ module _ {tab : List ℕ} {n classes parent stamp row : ℕ} {before after : Lis
     marks = λ e. apart (cc);
   }
 
-  pub head-next : {u : ℕ} → o ≡ Fine u → {r : Judged} → RestJudged tab n classes parent row r → HeadJudged tab n classes parent stamp row before after r
+  pub head-next : {u : ℕ} → o ≡ Fine u → {r : Judged} → RestJudged tab n classes parent row r
+      → HeadJudged tab n classes parent stamp row before after r
   head-next is h′ = record {
     below = h .below;
     says = λ ts G w l k p earlier m a.
@@ -256,7 +277,8 @@ module _ {tab : List ℕ} {n classes parent stamp row : ℕ} {before after : Lis
 
 -- HEADS
 
-four-stages : (a b c d e : Outcome (Unit {0})) → (a >>= λ _. b >>= λ _. c >>= λ _. d >>= λ _. e) ≡ (((a >>= λ _. b) >>= λ _. c >>= λ _. d) >>= λ _. e)
+four-stages : (a b c d e : Outcome (Unit {0}))
+    → (a >>= λ _. b >>= λ _. c >>= λ _. d >>= λ _. e) ≡ (((a >>= λ _. b) >>= λ _. c >>= λ _. d) >>= λ _. e)
 four-stages (refused n p) b c d e = refl
 four-stages (accepted u) (refused n p) c d e = refl
 four-stages (accepted u) (accepted v) (refused n p) d e = refl
@@ -269,12 +291,14 @@ heads-more G k earlier m ms =
     four-stages (knownType G (m .result)) (newMethod earlier m) (variables G [] (m .parameters)) (redeclaration G k m) (heads G k (methodName m ∷ earlier) ms)
 
 -- the first of the methods of a row
-head-of : {tab : List ℕ} {n : ℕ} {ts : List Token} → Lexemes tab n ts → {marks : List ℕ} {stamp left row : ℕ} {earlier : List (List ℕ)} {m : Method} {ms : List Method}
+head-of : {tab : List ℕ} {n : ℕ} {ts : List Token} → Lexemes tab n ts
+    → {marks : List ℕ} {stamp left row : ℕ} {earlier : List (List ℕ)} {m : Method} {ms : List Method}
     → MethodsAt tab n ts marks stamp earlier (m ∷ ms) left row → MethodAt tab n ts marks stamp earlier m row
 head-of lx a = record { here = a .here; stand = first-method lx (a .here) (a .stand) .stands; marked = a .marked }
 
 -- the methods after it
-heads-rest : {tab : List ℕ} {n : ℕ} {ts : List Token} → Lexemes tab n ts → {before mid : List ℕ} {stamp left row next : ℕ} {earlier : List (List ℕ)} {m : Method} {ms : List Method}
+heads-rest : {tab : List ℕ} {n : ℕ} {ts : List Token} → Lexemes tab n ts
+    → {before mid : List ℕ} {stamp left row next : ℕ} {earlier : List (List ℕ)} {m : Method} {ms : List Method}
     → MethodsAt tab n ts before stamp earlier (m ∷ ms) left row → next ≡ wordAt tab 6 row → Marked ts mid stamp (methodName m ∷ earlier)
     → MethodsAt tab n ts mid stamp (methodName m ∷ earlier) ms (left - 1) next
 heads-rest lx a e₆ marked =
@@ -282,7 +306,8 @@ heads-rest lx a e₆ marked =
     record { here = sym (f .next) ∙ sym e₆; stand = f .rest; few = omega (arith, a .few); marked = marked }
 
 module _ {tab : List ℕ} {n classes left parent stamp row : ℕ} {before : List ℕ} where
-  pub heads-none-left : row < absent → left ≡ 0 → {number p : ℕ} → HeadsJudged tab n classes left parent stamp row before before (Refused number p)
+  pub heads-none-left : row < absent → left ≡ 0 → {number p : ℕ}
+      → HeadsJudged tab n classes left parent stamp row before before (Refused number p)
   heads-none-left near e = record { below = λ bound high b. b; says = λ ts G w l k p earlier ms a. absurd (none-left rowMethods refl ms (a .here) (a .few) near e) }
 
   pub heads-absent : absent ≤ row → HeadsJudged tab n classes left parent stamp row before before (Fine 0)
@@ -298,18 +323,21 @@ module _ {tab : List ℕ} {n classes left parent stamp row : ℕ} {before : List
     pub heads-stop : {number p : ℕ} → o ≡ Refused number p → HeadsJudged tab n classes left parent stamp row before mid (Refused number p)
     heads-stop {number} {p} is = record { below = h .below; says = go }
       where
-        go : (ts : List Token) (G : List Class) → ClassTableHeld tab n ts G → length G ≡ classes → (k : Class) → Parented ts G k parent → (earlier : List (List ℕ)) (ms : List Method)
+        go : (ts : List Token) (G : List Class) → ClassTableHeld tab n ts G → length G ≡ classes → (k : Class) → Parented ts G k parent
+            → (earlier : List (List ℕ)) (ms : List Method)
             → MethodsAt tab n ts before stamp earlier ms left row → Refused number p ≡ asJudged (heads G k earlier ms)
         go ts G w l k q earlier [] a = absurd (omega (arith, a .here))
         go ts G w l k q earlier (m ∷ ms) a =
             ap asJudged (sym (heads-more G k earlier m ms
             ∙ stops (judgedHead G earlier m >>= λ _. closed G k m) (λ _. heads G k (methodName m ∷ earlier) ms) (h .says ts G w l k q earlier m (head-of (w .tokens) a)) is))
 
-    pub heads-next : {u : ℕ} → o ≡ Fine u → {next : ℕ} {after : List ℕ} {r : Judged} → next ≡ wordAt tab 6 row → HeadsJudged tab n classes (left - 1) parent stamp next mid after r
+    pub heads-next : {u : ℕ} → o ≡ Fine u → {next : ℕ} {after : List ℕ} {r : Judged} → next ≡ wordAt tab 6 row
+        → HeadsJudged tab n classes (left - 1) parent stamp next mid after r
         → HeadsJudged tab n classes left parent stamp row before after r
     heads-next {u} is {next} {after} {r} e₆ h′ = record { below = λ bound high b. h′ .below bound high (h .below bound high b); says = go }
       where
-        go : (ts : List Token) (G : List Class) → ClassTableHeld tab n ts G → length G ≡ classes → (k : Class) → Parented ts G k parent → (earlier : List (List ℕ)) (ms : List Method)
+        go : (ts : List Token) (G : List Class) → ClassTableHeld tab n ts G → length G ≡ classes → (k : Class) → Parented ts G k parent
+            → (earlier : List (List ℕ)) (ms : List Method)
             → MethodsAt tab n ts before stamp earlier ms left row → r ≡ asJudged (heads G k earlier ms)
         go ts G w l k q earlier [] a = absurd (omega (arith, a .here))
         go ts G w l k q earlier (m ∷ ms) a =

@@ -31,7 +31,8 @@ use Rattle.declarations.proofs.ClassLaws.{first-class}
 -- THE ARRAY
 
 -- one height more
-one-known : {tab heights after : List ℕ} {c h : ℕ} → HeightsRight tab heights → c < length heights → Height tab c h → after ≡ set heights c h → HeightsRight tab after
+one-known : {tab heights after : List ℕ} {c h : ℕ} → HeightsRight tab heights → c < length heights → Height tab c h
+    → after ≡ set heights c h → HeightsRight tab after
 one-known {tab} {heights} {after} {c} {h} right low tall e = record { says = λ d n. rw e (go d (subst (λ (l : List ℕ). getD l d 0 ≡ 0 → ⊥) e n) (ℕ-discrete c d)) }
   where
     go : (d : ℕ) → (getD (set heights c h) d 0 ≡ 0 → ⊥) → Dec (c ≡ d) → Height tab d (getD (set heights c h) d 0)
@@ -51,7 +52,8 @@ one r z s zero = z
 one r z s (suc left) = s left ∙ sym (le-leb 1 (suc left) (omega arith))
 
 -- of one more
-more : (h : ℕ) (r q : ℕ → Bool) → r 0 ≡ false → ((left : ℕ) → r (suc left) ≡ q left) → ((left : ℕ) → q left ≡ leb h left) → (left : ℕ) → r left ≡ leb (h + 1) left
+more : (h : ℕ) (r q : ℕ → Bool) → r 0 ≡ false → ((left : ℕ) → r (suc left) ≡ q left) → ((left : ℕ) → q left ≡ leb h left) → (left : ℕ)
+    → r left ≡ leb (h + 1) left
 more h r q z s e zero = z ∙ sym (lt-leb (h + 1) 0 (omega arith))
 more h r q z s e (suc left) = s left ∙ e left ∙ go (leb h left) refl
   where
@@ -70,7 +72,8 @@ module _ {tab : List ℕ} {c class : ℕ} (index : class ≡ wordAt tab 7 c) whe
   unfolding endsWithin
   unknown-height far = record { says = λ n ts G w name h. one (λ (i : ℕ). endsWithin i G name) refl (go n ts G name (class-at w (some name) c class (a-name h) index)) }
     where
-      go : (n : ℕ) (ts : List Token) (G : List Class) (name : List ℕ) → ClassAt tab n ts G (some name) c class → (left : ℕ) → endsWithin (suc left) G name ≡ true
+      go : (n : ℕ) (ts : List Token) (G : List Class) (name : List ℕ) → ClassAt tab n ts G (some name) c class → (left : ℕ)
+          → endsWithin (suc left) G name ≡ true
       go n ts G name (no-class e f) left = rw e
       go n ts G name (a-class k e at near s sp) left = absurd (omega arith)
 
@@ -79,20 +82,24 @@ module _ {tab : List ℕ} {c class : ℕ} (index : class ≡ wordAt tab 7 c) whe
     unfolding endsWithin
     top-height far = record { says = λ n ts G w name h. one (λ (i : ℕ). endsWithin i G name) refl (go n ts G w name (class-at w (some name) c class (a-name h) index)) }
       where
-        top : {n : ℕ} {ts : List Token} {G : List Class} → ClassTableHeld tab n ts G → (left : ℕ) (q : Option Name) → MaybeNumber ts (parentName q) p
+        top : {n : ℕ} {ts : List Token} {G : List Class} → ClassTableHeld tab n ts G → (left : ℕ) (q : Option Name)
+            → MaybeNumber ts (parentName q) p
             → (option q true λ q. endsWithin left G (q .text)) ≡ true
         top w left none h = refl
         top w left (some q) (a-name sp) = absurd (omega (arith, row-there (w .tokens) p (sp .there)))
 
-        go : (n : ℕ) (ts : List Token) (G : List Class) → ClassTableHeld tab n ts G → (name : List ℕ) → ClassAt tab n ts G (some name) c class → (left : ℕ) → endsWithin (suc left) G name ≡ true
+        go : (n : ℕ) (ts : List Token) (G : List Class) → ClassTableHeld tab n ts G → (name : List ℕ)
+            → ClassAt tab n ts G (some name) c class → (left : ℕ) → endsWithin (suc left) G name ≡ true
         go n ts G w name (no-class e f) left = absurd (omega arith)
         go n ts G w name (a-class k e at near s sp) left = ends-some left G name e ∙ top w left (k .parent) (a .says n ts (w .tokens) k at s)
 
     module _ (low : p < absent) where
-      parent : (n : ℕ) (ts : List Token) (G : List Class) → ClassTableHeld tab n ts G → (name : List ℕ) → NameNumber ts name c → Parent ts G name p
+      parent : (n : ℕ) (ts : List Token) (G : List Class) → ClassTableHeld tab n ts G → (name : List ℕ) → NameNumber ts name c
+          → Parent ts G name p
       parent n ts G w name h = go (class-at w (some name) c class (a-name h) index)
         where
-          up : (k : Class) → classNamed G name ≡ some k → (o : Option Name) → k .parent ≡ o → MaybeNumber ts (parentName o) p → Parent ts G name p
+          up : (k : Class) → classNamed G name ≡ some k → (o : Option Name) → k .parent ≡ o → MaybeNumber ts (parentName o) p
+              → Parent ts G name p
           up k e none is (no-name far) = absurd (omega arith)
           up k e (some q) is (a-name sp) = record { text = q .text; spelt = sp; ends = λ left. ends-some left G name e ∙ rw is }
 
@@ -152,7 +159,8 @@ module _ {tab : List ℕ} {left c class p : ℕ} (some-left : left ≡ 0 → ⊥
   pub height-endless : q ≡ 0 → HeightClimbed tab left c heights 0
   height-endless e = stopped (h .right) (next-higher index near a low some-left (h .higher e))
 
-  pub height-next : (q ≡ 0 → ⊥) → c < absent → (before : List ℕ) → absent ≤ length before → length heights ≡ length before → {after : List ℕ} → after ≡ set heights c (q + 1) → HeightClimbed tab left c after (q + 1)
+  pub height-next : (q ≡ 0 → ⊥) → c < absent → (before : List ℕ) → absent ≤ length before → length heights ≡ length before
+      → {after : List ℕ} → after ≡ set heights c (q + 1) → HeightClimbed tab left c after (q + 1)
   height-next n here before large long e =
       let tall = next-height index near a low (h .height n) in
       record { most = omega (arith, h .most); right = one-known (h .right) (omega arith) tall e; height = λ n. tall; higher = λ z. absurd (omega (arith, z)) }
@@ -160,10 +168,12 @@ module _ {tab : List ℕ} {left c class p : ℕ} (some-left : left ≡ 0 → ⊥
 -- CHAINS
 
 -- the place of a class's name, and its number
-class-place : {tab : List ℕ} {n : ℕ} {ts : List Token} → Lexemes tab n ts → (k : Class) {row p : ℕ} → k .name .row ≡ row → ClassHeld tab n ts k → p ≡ wordAt tab 1 row → p ≡ k .name .start
+class-place : {tab : List ℕ} {n : ℕ} {ts : List Token} → Lexemes tab n ts → (k : Class) {row p : ℕ} → k .name .row ≡ row
+    → ClassHeld tab n ts k → p ≡ wordAt tab 1 row → p ≡ k .name .start
 class-place {tab} lx k at s e₁ = e₁ ∙ ap (wordAt tab 1) (sym at) ∙ start-word lx (k .name .row) (s .named .token .there) ∙ s .named .start
 
-class-number : {tab : List ℕ} {n : ℕ} {ts : List Token} → Lexemes tab n ts → (k : Class) {row x : ℕ} → k .name .row ≡ row → ClassHeld tab n ts k → x ≡ wordAt tab 2 row
+class-number : {tab : List ℕ} {n : ℕ} {ts : List Token} → Lexemes tab n ts → (k : Class) {row x : ℕ} → k .name .row ≡ row
+    → ClassHeld tab n ts k → x ≡ wordAt tab 2 row
     → NameNumber ts (k .name .text) x
 class-number {tab} {ts = ts} lx k at s e₂ = subst (NameNumber ts (k .name .text)) (ap (wordAt tab 2) at ∙ sym e₂) (name-word lx (k .name .row) (s .named .token))
 
@@ -175,7 +185,8 @@ module _ {tab : List ℕ} {classes left row : ℕ} where
   unfolding endingChains
   chains-absent far = record { says = λ n ts G w l ks a. go n ts G w ks a }
     where
-      go : (n : ℕ) (ts : List Token) (G : List Class) → ClassTableHeld tab n ts G → (ks : List Class) → ClassesAt tab n ts ks left row → Fine 0 ≡ asJudged (endingChains G ks)
+      go : (n : ℕ) (ts : List Token) (G : List Class) → ClassTableHeld tab n ts G → (ks : List Class) → ClassesAt tab n ts ks left row
+          → Fine 0 ≡ asJudged (endingChains G ks)
       go n ts G w [] a = refl
       go n ts G w (k ∷ ks) a = absurd (omega (arith, first-class (w .tokens) a .near))
 
@@ -184,7 +195,8 @@ module _ {tab : List ℕ} {classes left row : ℕ} where
     unfolding endingChains
     chains-endless is {p} e₁ = record { says = λ n ts G w l ks a. go n ts G w l ks a }
       where
-        go : (n : ℕ) (ts : List Token) (G : List Class) → ClassTableHeld tab n ts G → length G ≡ classes → (ks : List Class) → ClassesAt tab n ts ks left row
+        go : (n : ℕ) (ts : List Token) (G : List Class) → ClassTableHeld tab n ts G → length G ≡ classes → (ks : List Class)
+            → ClassesAt tab n ts ks left row
             → Refused chainEndless p ≡ asJudged (endingChains G ks)
         go n ts G w l [] a = absurd (omega (arith, a .here))
         go n ts G w l (k ∷ ks) a =
@@ -192,11 +204,13 @@ module _ {tab : List ℕ} {classes left row : ℕ} where
             let e = ap (λ (i : ℕ). endsWithin i G (k .name .text)) l ∙ up .higher is .says n ts G w (k .name .text) (class-number (w .tokens) k (a .here) s e₂) in
             rw e (ap (Refused chainEndless) (class-place (w .tokens) k (a .here) s e₁))
 
-    pub chains-next : (left ≡ 0 → ⊥) → (h ≡ 0 → ⊥) → {next : ℕ} {r : Judged} → next ≡ wordAt tab 6 row → ChainsJudged tab classes (left - 1) next r → ChainsJudged tab classes left row r
+    pub chains-next : (left ≡ 0 → ⊥) → (h ≡ 0 → ⊥) → {next : ℕ} {r : Judged} → next ≡ wordAt tab 6 row
+        → ChainsJudged tab classes (left - 1) next r → ChainsJudged tab classes left row r
     unfolding endingChains
     chains-next some-left is {next} {r} e₆ h′ = record { says = λ n ts G w l ks a. go n ts G w l ks a }
       where
-        go : (n : ℕ) (ts : List Token) (G : List Class) → ClassTableHeld tab n ts G → length G ≡ classes → (ks : List Class) → ClassesAt tab n ts ks left row
+        go : (n : ℕ) (ts : List Token) (G : List Class) → ClassTableHeld tab n ts G → length G ≡ classes → (ks : List Class)
+            → ClassesAt tab n ts ks left row
             → r ≡ asJudged (endingChains G ks)
         go n ts G w l [] a = absurd (omega (arith, a .here))
         go n ts G w l (k ∷ ks) a =

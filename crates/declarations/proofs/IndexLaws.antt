@@ -84,7 +84,8 @@ kept-lexemes {ts = ts} p lx =
           };
     }
 
-kept-named : {n : ℕ} {ts : List Token} {tab tab′ : List ℕ} → Lexemes tab n ts → ColumnsKept ts tab tab′ → {ks : List Class} → ClassesNamed tab ts ks → ClassesNamed tab′ ts ks
+kept-named : {n : ℕ} {ts : List Token} {tab tab′ : List ℕ} → Lexemes tab n ts → ColumnsKept ts tab tab′ → {ks : List Class}
+    → ClassesNamed tab ts ks → ClassesNamed tab′ ts ks
 kept-named lx p none-named = none-named
 kept-named lx p (more-named {k = k} m c₆ h) =
     more-named m (p .columns 6 (omega arith) (k .name .row) (row-there lx (k .name .row) (m .token .there)) ∙ c₆) (kept-named lx p h)
@@ -125,7 +126,8 @@ pub clear-none : (before : List ℕ) (n : ℕ) → Clearing before n before 0
 unfolding cleared
 clear-none before n = record { is = refl; most = omega arith; long = refl }
 
-pub clear-more : {before tab tab′ : List ℕ} {n i : ℕ} → Clearing before n tab i → i < n → tab′ ≡ wiped tab i → Clearing before n tab′ (i + 1)
+pub clear-more : {before tab tab′ : List ℕ} {n i : ℕ} → Clearing before n tab i → i < n → tab′ ≡ wiped tab i
+    → Clearing before n tab′ (i + 1)
 unfolding cleared
 clear-more {before} {tab} {tab′} {n} {i} c h e =
     let one : i + 1 ≡ suc i = omega arith in
@@ -210,7 +212,8 @@ abbrev orLast : Option Class → Option Class → Option Class
 orLast none o = o
 orLast (some k) o = some k
 
-named-last : (js : List Class) (k : Class) (c : List ℕ) → classNamed (js ++ k ∷ []) c ≡ orLast (classNamed js c) (if same (className k) c then (λ _. some k) else λ _. none)
+named-last : (js : List Class) (k : Class) (c : List ℕ)
+    → classNamed (js ++ k ∷ []) c ≡ orLast (classNamed js c) (if same (className k) c then (λ _. some k) else λ _. none)
 unfolding classNamed
 named-last [] k c = refl
 named-last (j ∷ js) k c =
@@ -222,7 +225,8 @@ last-none none = refl
 last-none (some k) = refl
 
 -- the index with one more class, of a new name
-index-more : {tab : List ℕ} {n : ℕ} {ts : List Token} → Lexemes tab n ts → 16384 ≤ length tab → (js : List Class) → Indexed tab ts js → (k : Class) (x : ℕ) → NameNumber ts (className k) x
+index-more : {tab : List ℕ} {n : ℕ} {ts : List Token} → Lexemes tab n ts → 16384 ≤ length tab → (js : List Class) → Indexed tab ts js
+    → (k : Class) (x : ℕ) → NameNumber ts (className k) x
     → classNamed js (className k) ≡ none → Indexed (put tab 7 x (k .name .row)) ts (js ++ k ∷ [])
 index-more {tab} {ts = ts} lx big js h k x sp new c number s =
     let hx = row-there lx x (sp .there) in
@@ -257,17 +261,20 @@ module _ {tab : List ℕ} {main left row : ℕ} where
   unfolding distinctClasses
   entries-absent far = record { says = λ n ts lx top t js h ks d named few. go n ts lx (onto (top ∷ []) (map className js)) js h ks d named }
     where
-      go : (n : ℕ) (ts : List Token) → Lexemes tab n ts → (earlier : List (List ℕ)) (js : List Class) → Shown tab ts js → (ks : List Class) → rowClasses ks ≡ row → ClassesNamed tab ts ks
+      go : (n : ℕ) (ts : List Token) → Lexemes tab n ts → (earlier : List (List ℕ)) (js : List Class) → Shown tab ts js
+          → (ks : List Class) → rowClasses ks ≡ row → ClassesNamed tab ts ks
           → (Fine 0 ≡ asJudged (distinctClasses earlier ks)) × (distinctClasses earlier ks ≡ accepted tt → ColumnsKept ts tab tab × Indexed tab ts (js ++ ks))
       go n ts lx earlier js h [] d named = (refl, λ _. (kept-same, subst (Indexed tab ts) (sym (append-nil js)) (h .index)))
       go n ts lx earlier js h (k ∷ ks) d (more-named m c₆ named) = absurd (omega (arith, d, row-there lx (k .name .row) (m .token .there)))
 
 -- the class of a row: its name's number, and where it stands
-class-spells : {tab : List ℕ} {n : ℕ} {ts : List Token} → Lexemes tab n ts → (k : Class) {row x : ℕ} → k .name .row ≡ row → NameMatches ts (k .name) → x ≡ wordAt tab 2 row
+class-spells : {tab : List ℕ} {n : ℕ} {ts : List Token} → Lexemes tab n ts → (k : Class) {row x : ℕ} → k .name .row ≡ row
+    → NameMatches ts (k .name) → x ≡ wordAt tab 2 row
     → NameNumber ts (className k) x
 class-spells {tab} {ts = ts} lx k at m e₂ = subst (NameNumber ts (className k)) (ap (wordAt tab 2) at ∙ sym e₂) (name-word lx (k .name .row) (m .token))
 
-class-start : {tab : List ℕ} {n : ℕ} {ts : List Token} → Lexemes tab n ts → (k : Class) {row p : ℕ} → k .name .row ≡ row → NameMatches ts (k .name) → p ≡ wordAt tab 1 row → p ≡ k .name .start
+class-start : {tab : List ℕ} {n : ℕ} {ts : List Token} → Lexemes tab n ts → (k : Class) {row p : ℕ} → k .name .row ≡ row
+    → NameMatches ts (k .name) → p ≡ wordAt tab 1 row → p ≡ k .name .start
 class-start {tab} lx k at m e₁ = e₁ ∙ ap (wordAt tab 1) (sym at) ∙ start-word lx (k .name .row) (m .token .there) ∙ m .start
 
 -- a refusal of the first class
@@ -285,7 +292,8 @@ or-false true = refl
 or-false false = refl
 
 -- whether a name is main's or that of a class before
-earlier-occurs : (top c : List ℕ) (js : List Class) → occurs c (onto (top ∷ []) (map className js)) ≡ (same top c || (option (classNamed js c) false λ _. true))
+earlier-occurs : (top c : List ℕ) (js : List Class)
+    → occurs c (onto (top ∷ []) (map className js)) ≡ (same top c || (option (classNamed js c) false λ _. true))
 unfolding occurs
 earlier-occurs top c js =
     onto-occurs c (top ∷ []) (map className js)
@@ -300,7 +308,8 @@ module _ {tab : List ℕ} {main left row x p : ℕ} (near : row < absent) (e₂ 
       → EntriesMade main left row tab (Refused classRepeated p) tab
   repeats e₁ f = record { says = λ n ts lx top t js h ks d named few. go n ts lx top t js h ks d named }
     where
-      go : (n : ℕ) (ts : List Token) → Lexemes tab n ts → (top : List ℕ) → NameNumber ts top main → (js : List Class) → Shown tab ts js → (ks : List Class) → rowClasses ks ≡ row → ClassesNamed tab ts ks
+      go : (n : ℕ) (ts : List Token) → Lexemes tab n ts → (top : List ℕ) → NameNumber ts top main → (js : List Class) → Shown tab ts js
+          → (ks : List Class) → rowClasses ks ≡ row → ClassesNamed tab ts ks
           → (Refused classRepeated p ≡ asJudged (distinctClasses (onto (top ∷ []) (map className js)) ks))
           × (distinctClasses (onto (top ∷ []) (map className js)) ks ≡ accepted tt → ColumnsKept ts tab tab × Indexed tab ts (js ++ ks))
       go n ts lx top t js h [] d named = absurd (omega (arith, d))
@@ -312,19 +321,22 @@ module _ {tab : List ℕ} {main left row x p : ℕ} (near : row < absent) (e₂ 
   pub entries-main : x ≡ main → p ≡ wordAt tab 1 row → EntriesMade main left row tab (Refused classRepeated p) tab
   entries-main is e₁ = repeats e₁ λ n ts lx top t js h c sp. earlier-occurs top c js ∙ rw (same-names t sp (sym is))
 
-  pub entries-twice : {y : ℕ} → y ≡ wordAt tab 7 x → y < absent → p ≡ wordAt tab 1 row → EntriesMade main left row tab (Refused classRepeated p) tab
+  pub entries-twice : {y : ℕ} → y ≡ wordAt tab 7 x → y < absent → p ≡ wordAt tab 1 row
+      → EntriesMade main left row tab (Refused classRepeated p) tab
   entries-twice {y} e₇ low e₁ = repeats e₁ λ n ts lx top t js h c sp.
       let at : y ≡ rowClass (classNamed js c) = e₇ ∙ word-in tab 7 x (row-there lx x (sp .there)) (h .index c x sp) in
       earlier-occurs top c js ∙ ap (λ (b : Bool). same top c || b) (index-some (classNamed js c) at low) ∙ or-true (same top c)
 
-pub entries-next : {tab tab₁ after : List ℕ} {main left row x y next : ℕ} {r : Judged} → 16384 ≤ length tab → (left ≡ 0 → ⊥) → row < absent → x ≡ wordAt tab 2 row → (x ≡ main → ⊥)
+pub entries-next : {tab tab₁ after : List ℕ} {main left row x y next : ℕ} {r : Judged} → 16384 ≤ length tab → (left ≡ 0 → ⊥)
+    → row < absent → x ≡ wordAt tab 2 row → (x ≡ main → ⊥)
     → y ≡ wordAt tab 7 x → absent ≤ y → tab₁ ≡ indexed tab x row → next ≡ wordAt tab₁ 6 row → EntriesMade main (left - 1) next tab₁ r after
     → EntriesMade main left row tab r after
 unfolding distinctClasses indexed
 entries-next {tab} {tab₁} {after} {main} {left} {row} {x} {y} {next} {r} big more near e₂ other e₇ high e e₆ h′ =
     record { says = λ n ts lx top t js h ks d named few. go n ts lx top t js h ks d named few }
   where
-    go : (n : ℕ) (ts : List Token) → Lexemes tab n ts → (top : List ℕ) → NameNumber ts top main → (js : List Class) → Shown tab ts js → (ks : List Class) → rowClasses ks ≡ row → ClassesNamed tab ts ks
+    go : (n : ℕ) (ts : List Token) → Lexemes tab n ts → (top : List ℕ) → NameNumber ts top main → (js : List Class) → Shown tab ts js
+        → (ks : List Class) → rowClasses ks ≡ row → ClassesNamed tab ts ks
         → length ks ≤ left
         → (r ≡ asJudged (distinctClasses (onto (top ∷ []) (map className js)) ks))
         × (distinctClasses (onto (top ∷ []) (map className js)) ks ≡ accepted tt → ColumnsKept ts tab after × Indexed after ts (js ++ ks))
@@ -381,7 +393,8 @@ module _ {n : ℕ} {before : List ℕ} (rd : Reading) (f : Filling before rd) (c
   held-on : {tab : List ℕ} → ColumnsKept ts before tab → HoldsProgram tab p
   held-on {tab} k = still-holds ts p match (f .few) before tab (kept-tree k) (f .holds)
 
-  ready : {after : List ℕ} → ColumnsKept ts before after → Indexed after ts (p .classes) → distinctClasses (p .main .text ∷ []) (p .classes) ≡ accepted tt → Ready after n ts p
+  ready : {after : List ℕ} → ColumnsKept ts before after → Indexed after ts (p .classes)
+      → distinctClasses (p .main .text ∷ []) (p .classes) ≡ accepted tt → Ready after n ts p
   ready k i d =
       let h = held-on k in
       record {
@@ -413,7 +426,8 @@ module _ {n : ℕ} {before : List ℕ} (rd : Reading) (f : Filling before rd) (c
         (classes-named (p .classes) (match .classes) (held-on k .classes)) (omega (arith, count, facts .few-classes)) in
         (w .0, λ d. let v = w .1 d in ready (kept-then k (v .0)) (v .1) d)
 
-pub index-is : {n main first : ℕ} {before tab after : List ℕ} {r : Judged} → 16384 ≤ length before → tab ≡ cleared n before → main ≡ wordAt tab 2 1 → first ≡ wordAt tab 6 0
+pub index-is : {n main first : ℕ} {before tab after : List ℕ} {r : Judged} → 16384 ≤ length before → tab ≡ cleared n before
+    → main ≡ wordAt tab 2 1 → first ≡ wordAt tab 6 0
     → EntriesMade main n first tab r after → IndexMade n before r after
 index-is {n} {main} {first} {before} {after = after} {r = r} big e e₂ e₆ h =
     record {

@@ -25,7 +25,8 @@ module _ {x stamp : ℕ} {before : List ℕ} where
   pub mark-again : getD before x 0 ≡ stamp → MarkPost x stamp before before true
   mark-again is = record { says = λ near. sym (eq-eqb (getD before x 0) stamp is); here = λ near. is; others = λ i other. refl; below = λ bound high b. b }
 
-  pub mark-new : x < absent → absent ≤ length before → (getD before x 0 ≡ stamp → ⊥) → {after : List ℕ} → after ≡ set before x stamp → MarkPost x stamp before after false
+  pub mark-new : x < absent → absent ≤ length before → (getD before x 0 ≡ stamp → ⊥) → {after : List ℕ} → after ≡ set before x stamp
+      → MarkPost x stamp before after false
   mark-new near long new {after} e = record {
     says = λ _. sym (ne-eqb (getD before x 0) stamp new);
     here = λ _. written;

@@ -22,7 +22,8 @@ use Rattle.lookup.specs.contracts.HeldClasses.{VariablesHeld, MethodHeld, Metho
 use Rattle.lookup.specs.contracts.HeldClasses as Standing
 use Rattle.declarations.specs.laws.Counts.{variables-count, formals-count, methods-count, classes-count}
 
-variables-stand : {tab : List ℕ} {ts : List Token} (vs : List Variable) → VariablesMatch ts vs → HoldsVariables tab vs → VariablesHeld tab ts vs
+variables-stand : {tab : List ℕ} {ts : List Token} (vs : List Variable) → VariablesMatch ts vs → HoldsVariables tab vs
+    → VariablesHeld tab ts vs
 unfolding VariablesMatch HoldsVariables
 variables-stand [] m h = Standing.no-variables
 variables-stand (v ∷ vs) m h = Standing.more-variables (m .0) (h .0) (h .1) (variables-stand vs (m .1) (h .2))
@@ -57,7 +58,8 @@ module _ {tab : List ℕ} {n : ℕ} {ts : List Token} where
         value-nodes = omega arith;
       }
 
-  methods-stand : {i j : ℕ} {ms : List Method} → DerivesMethods ts i j ms → j ≤ n → MethodsMatch ts ms → HoldsMethods tab ms → MethodsHeld tab n ts ms
+  methods-stand : {i j : ℕ} {ms : List Method} → DerivesMethods ts i j ms → j ≤ n → MethodsMatch ts ms → HoldsMethods tab ms
+      → MethodsHeld tab n ts ms
   unfolding MethodsMatch HoldsMethods
   methods-stand no-method few m h = Standing.no-methods
   methods-stand (more-methods d d′) few m h =
@@ -77,7 +79,8 @@ module _ {tab : List ℕ} {n : ℕ} {ts : List Token} where
         few-methods = omega (arith, parent-order p, variables-count vs, methods-count ms);
       }
 
-  pub classes-stand : {i j : ℕ} {ks : List Class} → DerivesClasses ts i j ks → j ≤ n → ClassesMatch ts ks → HoldsClasses tab ks → ClassesHeld tab n ts ks
+  pub classes-stand : {i j : ℕ} {ks : List Class} → DerivesClasses ts i j ks → j ≤ n → ClassesMatch ts ks → HoldsClasses tab ks
+      → ClassesHeld tab n ts ks
   unfolding ClassesMatch HoldsClasses
   classes-stand no-class few m h = Standing.no-classes
   classes-stand (more-classes d d′) few m h =

@@ -34,18 +34,21 @@ pub known-at : {tab : List ℕ} {n row t : ℕ} {r : Bool} → TypeOf tab n row 
 known-at h k = record { says = λ ts G w i at t m. k .says ts G w t (h .says ts (w .tokens) i at t m) }
 
 -- whether the type of the variable of a row is known
-pub declared-known : {tab : List ℕ} {n row t : ℕ} {b : Bool} → KnownAt tab n t b → t ≡ wordAt tab 3 row → {ts : List Token} {G : List Class} → ClassTableHeld tab n ts G → {v : Variable}
+pub declared-known : {tab : List ℕ} {n row t : ℕ} {b : Bool} → KnownAt tab n t b → t ≡ wordAt tab 3 row
+    → {ts : List Token} {G : List Class} → ClassTableHeld tab n ts G → {v : Variable}
     → DeclaredAt tab ts v row → known G (underlying (v .type .type)) ≡ b
 declared-known k e₃ {ts} {G} w {v} d = sym (k .says ts G w (v .type .row) (sym (d .type) ∙ sym e₃) (v .type .type) (d .matches .type))
 
 -- where the type stands
-pub type-place : {tab : List ℕ} {row t p : ℕ} → t ≡ wordAt tab 3 row → p ≡ wordAt tab 1 t → {ts : List Token} {v : Variable} → DeclaredAt tab ts v row → p ≡ v .type .start
+pub type-place : {tab : List ℕ} {row t p : ℕ} → t ≡ wordAt tab 3 row → p ≡ wordAt tab 1 t → {ts : List Token} {v : Variable}
+    → DeclaredAt tab ts v row → p ≡ v .type .start
 type-place {tab} e₃ e₁ d = e₁ ∙ ap (wordAt tab 1) (e₃ ∙ d .type) ∙ d .type-start
 
 -- FIELDS
 
 -- the fields after the first
-fields-rest : {tab : List ℕ} {n : ℕ} {ts : List Token} → Lexemes tab n ts → {before mid : List ℕ} {stamp left row next : ℕ} {earlier : List (List ℕ)} {v : Variable} {vs : List Variable}
+fields-rest : {tab : List ℕ} {n : ℕ} {ts : List Token} → Lexemes tab n ts
+    → {before mid : List ℕ} {stamp left row next : ℕ} {earlier : List (List ℕ)} {v : Variable} {vs : List Variable}
     → FieldsAt tab ts before stamp earlier (v ∷ vs) left row → next ≡ wordAt tab 6 row → Marked ts mid stamp (textOf v ∷ earlier)
     → FieldsAt tab ts mid stamp (textOf v ∷ earlier) vs (left - 1) next
 fields-rest lx a e₆ m =
@@ -60,7 +63,8 @@ module _ {tab : List ℕ} {n left stamp row : ℕ} {before : List ℕ} where
   unfolding fields
   fields-absent far = record { below = λ bound high b. b; says = go }
     where
-      go : (ts : List Token) (G : List Class) → ClassTableHeld tab n ts G → (earlier : List (List ℕ)) (vs : List Variable) → FieldsAt tab ts before stamp earlier vs left row
+      go : (ts : List Token) (G : List Class) → ClassTableHeld tab n ts G → (earlier : List (List ℕ)) (vs : List Variable)
+          → FieldsAt tab ts before stamp earlier vs left row
           → Fine 0 ≡ asJudged (fields G earlier vs)
       go ts G w earlier [] a = refl
       go ts G w earlier (v ∷ vs) a = absurd (omega (arith, first-of (w .tokens) (a .here) (a .stand) .near))
@@ -70,7 +74,8 @@ module _ {tab : List ℕ} {n left stamp row : ℕ} {before : List ℕ} where
     unfolding fields
     fields-unknown is {p} e₁ = record { below = λ bound high b. b; says = go }
       where
-        go : (ts : List Token) (G : List Class) → ClassTableHeld tab n ts G → (earlier : List (List ℕ)) (vs : List Variable) → FieldsAt tab ts before stamp earlier vs left row
+        go : (ts : List Token) (G : List Class) → ClassTableHeld tab n ts G → (earlier : List (List ℕ)) (vs : List Variable)
+            → FieldsAt tab ts before stamp earlier vs left row
             → Refused typeUnknown p ≡ asJudged (fields G earlier vs)
         go ts G w earlier [] a = absurd (omega (arith, a .here))
         go ts G w earlier (v ∷ vs) a =
@@ -78,11 +83,13 @@ module _ {tab : List ℕ} {n left stamp row : ℕ} {before : List ℕ} where
             rw (declared-known k e₃ w d ∙ is) (ap (Refused typeUnknown) (type-place e₃ e₁ d))
 
     module _ (is : b ≡ true) {x : ℕ} (e₂ : x ≡ wordAt tab 2 row) {mid : List ℕ} {c : Bool} (h : MarkPost x stamp before mid c) where
-      pub fields-repeated : c ≡ true → {p : ℕ} → p ≡ wordAt tab 1 row → FieldsJudged tab n left stamp row before mid (Refused fieldRepeated p)
+      pub fields-repeated : c ≡ true → {p : ℕ} → p ≡ wordAt tab 1 row
+          → FieldsJudged tab n left stamp row before mid (Refused fieldRepeated p)
       unfolding fields
       fields-repeated again {p} e₁ = record { below = h .below; says = go }
         where
-          go : (ts : List Token) (G : List Class) → ClassTableHeld tab n ts G → (earlier : List (List ℕ)) (vs : List Variable) → FieldsAt tab ts before stamp earlier vs left row
+          go : (ts : List Token) (G : List Class) → ClassTableHeld tab n ts G → (earlier : List (List ℕ)) (vs : List Variable)
+              → FieldsAt tab ts before stamp earlier vs left row
               → Refused fieldRepeated p ≡ asJudged (fields G earlier vs)
           go ts G w earlier [] a = absurd (omega (arith, a .here))
           go ts G w earlier (v ∷ vs) a =
@@ -90,12 +97,14 @@ module _ {tab : List ℕ} {n left stamp row : ℕ} {before : List ℕ} where
               rw (declared-known k e₃ w d ∙ is, marked-is (w .tokens) h (subst (NameNumber ts (textOf v)) (sym e₂) (d .number)) (a .marked) ∙ again)
               (ap (Refused fieldRepeated) (e₁ ∙ d .start))
 
-      pub fields-next : c ≡ false → {next : ℕ} {after : List ℕ} {r : Judged} → next ≡ wordAt tab 6 row → FieldsJudged tab n (left - 1) stamp next mid after r
+      pub fields-next : c ≡ false → {next : ℕ} {after : List ℕ} {r : Judged} → next ≡ wordAt tab 6 row
+          → FieldsJudged tab n (left - 1) stamp next mid after r
           → FieldsJudged tab n left stamp row before after r
       unfolding fields
       fields-next new {next} {after} {r} e₆ h′ = record { below = λ bound high b. h′ .below bound high (h .below bound high b); says = go }
         where
-          go : (ts : List Token) (G : List Class) → ClassTableHeld tab n ts G → (earlier : List (List ℕ)) (vs : List Variable) → FieldsAt tab ts before stamp earlier vs left row
+          go : (ts : List Token) (G : List Class) → ClassTableHeld tab n ts G → (earlier : List (List ℕ)) (vs : List Variable)
+              → FieldsAt tab ts before stamp earlier vs left row
               → r ≡ asJudged (fields G earlier vs)
           go ts G w earlier [] a = absurd (omega (arith, a .here))
           go ts G w earlier (v ∷ vs) a =
@@ -107,35 +116,43 @@ module _ {tab : List ℕ} {n left stamp row : ℕ} {before : List ℕ} where
 -- PARAMETERS AND LOCALS
 
 module _ {tab : List ℕ} {n others before first index row t : ℕ} (e₃ : t ≡ wordAt tab 3 row) {b : Bool} (k : KnownAt tab n t b) where
-  pub variable-unknown : b ≡ false → {p : ℕ} → p ≡ wordAt tab 1 t → VariableJudged tab n others before first index row (Refused typeUnknown p)
+  pub variable-unknown : b ≡ false → {p : ℕ} → p ≡ wordAt tab 1 t
+      → VariableJudged tab n others before first index row (Refused typeUnknown p)
   unfolding newVariable
   variable-unknown is {p} e₁ = record { says = λ ts G w ps l us v vs a. go ts G w ps us v vs a }
     where
-      go : (ts : List Token) (G : List Class) → ClassTableHeld tab n ts G → (ps us : List Variable) (v : Variable) (vs : List Variable) → Along tab ts us (v ∷ vs) first index row
+      go : (ts : List Token) (G : List Class) → ClassTableHeld tab n ts G → (ps us : List Variable) (v : Variable) (vs : List Variable)
+          → Along tab ts us (v ∷ vs) first index row
           → Refused typeUnknown p ≡ asJudged (newVariable G (onto (map textOf ps) (map textOf us)) v)
       go ts G w ps us v vs a =
           let d = variable-declared (w .tokens) us v vs a in
           rw (declared-known k e₃ w d ∙ is) (ap (Refused typeUnknown) (type-place e₃ e₁ d))
 
   module _ (is : b ≡ true) {x : ℕ} (e₂ : x ≡ wordAt tab 2 row) {c : Bool} (h : Repeated tab before others x c) where
-    pub variable-other : c ≡ true → {p : ℕ} → p ≡ wordAt tab 1 row → VariableJudged tab n others before first index row (Refused variableRepeated p)
+    pub variable-other : c ≡ true → {p : ℕ} → p ≡ wordAt tab 1 row
+        → VariableJudged tab n others before first index row (Refused variableRepeated p)
     unfolding newVariable
     variable-other again {p} e₁ = record { says = λ ts G w ps l us v vs a. go ts G w ps l us v vs a }
       where
-        go : (ts : List Token) (G : List Class) → ClassTableHeld tab n ts G → (ps : List Variable) → VariablesListed tab ts ps others before → (us : List Variable) (v : Variable) (vs : List Variable)
-            → Along tab ts us (v ∷ vs) first index row → Refused variableRepeated p ≡ asJudged (newVariable G (onto (map textOf ps) (map textOf us)) v)
+        go : (ts : List Token) (G : List Class) → ClassTableHeld tab n ts G → (ps : List Variable)
+            → VariablesListed tab ts ps others before → (us : List Variable) (v : Variable) (vs : List Variable)
+            → Along tab ts us (v ∷ vs) first index row
+            → Refused variableRepeated p ≡ asJudged (newVariable G (onto (map textOf ps) (map textOf us)) v)
         go ts G w ps l us v vs a =
             let d = variable-declared (w .tokens) us v vs a in
             let o = listed-repeated (w .tokens) ps l h (textOf v) (subst (NameNumber ts (textOf v)) (sym e₂) (d .number)) in
             rw (declared-known k e₃ w d ∙ is, onto-occurs (textOf v) (map textOf ps) (map textOf us), sym o ∙ again) (ap (Refused variableRepeated) (e₁ ∙ d .start))
 
     module _ (new : c ≡ false) {c′ : Bool} (h′ : Repeated tab index first x c′) where
-      pub variable-twice : c′ ≡ true → {p : ℕ} → p ≡ wordAt tab 1 row → VariableJudged tab n others before first index row (Refused variableRepeated p)
+      pub variable-twice : c′ ≡ true → {p : ℕ} → p ≡ wordAt tab 1 row
+          → VariableJudged tab n others before first index row (Refused variableRepeated p)
       unfolding newVariable
       variable-twice again {p} e₁ = record { says = λ ts G w ps l us v vs a. go ts G w ps l us v vs a }
         where
-          go : (ts : List Token) (G : List Class) → ClassTableHeld tab n ts G → (ps : List Variable) → VariablesListed tab ts ps others before → (us : List Variable) (v : Variable) (vs : List Variable)
-              → Along tab ts us (v ∷ vs) first index row → Refused variableRepeated p ≡ asJudged (newVariable G (onto (map textOf ps) (map textOf us)) v)
+          go : (ts : List Token) (G : List Class) → ClassTableHeld tab n ts G → (ps : List Variable)
+              → VariablesListed tab ts ps others before → (us : List Variable) (v : Variable) (vs : List Variable)
+              → Along tab ts us (v ∷ vs) first index row
+              → Refused variableRepeated p ≡ asJudged (newVariable G (onto (map textOf ps) (map textOf us)) v)
           go ts G w ps l us v vs a =
               let d = variable-declared (w .tokens) us v vs a in
               let sp = subst (NameNumber ts (textOf v)) (sym e₂) (d .number) in
@@ -152,7 +169,8 @@ module _ {tab : List ℕ} {n others before first index row t : ℕ} (e₃ : t �
         unfolding newVariable
         variable-fine few = record { says = λ ts G w ps l us v vs a. go ts G w ps l us v vs a }
           where
-            go : (ts : List Token) (G : List Class) → ClassTableHeld tab n ts G → (ps : List Variable) → VariablesListed tab ts ps others before → (us : List Variable) (v : Variable) (vs : List Variable)
+            go : (ts : List Token) (G : List Class) → ClassTableHeld tab n ts G → (ps : List Variable)
+                → VariablesListed tab ts ps others before → (us : List Variable) (v : Variable) (vs : List Variable)
                 → Along tab ts us (v ∷ vs) first index row → Fine 0 ≡ asJudged (newVariable G (onto (map textOf ps) (map textOf us)) v)
             go ts G w ps l us v vs a =
                 let d = variable-declared (w .tokens) us v vs a in
@@ -167,12 +185,15 @@ module _ {tab : List ℕ} {n others before first index row t : ℕ} (e₃ : t �
                       (omega (arith, onto-length (map textOf ps) (map textOf us), length-map ps textOf, length-map us textOf, l .many, a .before)),
                 )
 
-        pub variable-many : 32 ≤ before + index → {p : ℕ} → p ≡ wordAt tab 1 row → VariableJudged tab n others before first index row (Refused tooManyVariables p)
+        pub variable-many : 32 ≤ before + index → {p : ℕ} → p ≡ wordAt tab 1 row
+            → VariableJudged tab n others before first index row (Refused tooManyVariables p)
         unfolding newVariable
         variable-many many {p} e₁ = record { says = λ ts G w ps l us v vs a. go ts G w ps l us v vs a }
           where
-            go : (ts : List Token) (G : List Class) → ClassTableHeld tab n ts G → (ps : List Variable) → VariablesListed tab ts ps others before → (us : List Variable) (v : Variable) (vs : List Variable)
-                → Along tab ts us (v ∷ vs) first index row → Refused tooManyVariables p ≡ asJudged (newVariable G (onto (map textOf ps) (map textOf us)) v)
+            go : (ts : List Token) (G : List Class) → ClassTableHeld tab n ts G → (ps : List Variable)
+                → VariablesListed tab ts ps others before → (us : List Variable) (v : Variable) (vs : List Variable)
+                → Along tab ts us (v ∷ vs) first index row
+                → Refused tooManyVariables p ≡ asJudged (newVariable G (onto (map textOf ps) (map textOf us)) v)
             go ts G w ps l us v vs a =
                 let d = variable-declared (w .tokens) us v vs a in
                 let sp = subst (NameNumber ts (textOf v)) (sym e₂) (d .number) in
@@ -206,14 +227,16 @@ variables-more G earlier v vs =
     tests-then (knownType G (v .type)) (occurs (textOf v) earlier) (ltb (length earlier) variablesMost) (v .name .start) (variables G (textOf v ∷ earlier) vs)
 
 module _ {tab : List ℕ} {n left others before first index row : ℕ} where
-  pub variables-none-left : row < absent → left ≡ 0 → {number p : ℕ} → VariablesJudged tab n left others before first index row (Refused number p)
+  pub variables-none-left : row < absent → left ≡ 0 → {number p : ℕ}
+      → VariablesJudged tab n left others before first index row (Refused number p)
   variables-none-left near e = record { says = λ ts G w ps l us vs a few. absurd (none-left rowVariables refl vs (a .here) few near e) }
 
   pub variables-absent : absent ≤ row → VariablesJudged tab n left others before first index row (Fine 0)
   unfolding variables
   variables-absent far = record { says = λ ts G w ps l us vs a few. go ts G w (map textOf ps) us vs a }
     where
-      go : (ts : List Token) (G : List Class) → ClassTableHeld tab n ts G → (qs : List (List ℕ)) (us vs : List Variable) → Along tab ts us vs first index row
+      go : (ts : List Token) (G : List Class) → ClassTableHeld tab n ts G → (qs : List (List ℕ)) (us vs : List Variable)
+          → Along tab ts us vs first index row
           → Fine 0 ≡ asJudged (variables G (onto qs (map textOf us)) vs)
       go ts G w qs us [] a = refl
       go ts G w qs us (v ∷ vs) a = absurd (omega (arith, variable-near (w .tokens) us v vs a))
@@ -222,18 +245,21 @@ module _ {tab : List ℕ} {n left others before first index row : ℕ} where
     pub variables-stop : {number p : ℕ} → o ≡ Refused number p → VariablesJudged tab n left others before first index row (Refused number p)
     variables-stop {number} {p} is = record { says = λ ts G w ps l us vs a few. go ts G w ps l us vs a }
       where
-        go : (ts : List Token) (G : List Class) → ClassTableHeld tab n ts G → (ps : List Variable) → VariablesListed tab ts ps others before → (us vs : List Variable)
+        go : (ts : List Token) (G : List Class) → ClassTableHeld tab n ts G → (ps : List Variable)
+            → VariablesListed tab ts ps others before → (us vs : List Variable)
             → Along tab ts us vs first index row → Refused number p ≡ asJudged (variables G (onto (map textOf ps) (map textOf us)) vs)
         go ts G w ps l us [] a = absurd (omega (arith, a .here))
         go ts G w ps l us (v ∷ vs) a =
             let earlier = onto (map textOf ps) (map textOf us) in
             rw (variables-more G earlier v vs, stops (newVariable G earlier v) (λ _. variables G (textOf v ∷ earlier) vs) (h .says ts G w ps l us v vs a) is)
 
-    pub variables-next : {u : ℕ} → o ≡ Fine u → {next : ℕ} {r : Judged} → next ≡ wordAt tab 6 row → VariablesJudged tab n (left - 1) others before first (index + 1) next r
+    pub variables-next : {u : ℕ} → o ≡ Fine u → {next : ℕ} {r : Judged} → next ≡ wordAt tab 6 row
+        → VariablesJudged tab n (left - 1) others before first (index + 1) next r
         → VariablesJudged tab n left others before first index row r
     variables-next {u} is {next} {r} e₆ h′ = record { says = λ ts G w ps l us vs a few. go ts G w ps l us vs a few }
       where
-        go : (ts : List Token) (G : List Class) → ClassTableHeld tab n ts G → (ps : List Variable) → VariablesListed tab ts ps others before → (us vs : List Variable)
+        go : (ts : List Token) (G : List Class) → ClassTableHeld tab n ts G → (ps : List Variable)
+            → VariablesListed tab ts ps others before → (us vs : List Variable)
             → Along tab ts us vs first index row → length vs ≤ left → r ≡ asJudged (variables G (onto (map textOf ps) (map textOf us)) vs)
         go ts G w ps l us [] a few = absurd (omega (arith, a .here))
         go ts G w ps l us (v ∷ vs) a few =

@@ -79,7 +79,8 @@ module _ (d : Held) where
         is = λ t. ap (λ (b : Bool). if b then (λ _. Device.withFlags false (d .lost) (deviceOf t d)) else λ _. deviceOf t d) (sym (ne-eqb n 2 z));
       }
 
-  pub put-status : (n b : ℕ) {a l : Bool} {r : Held} → n ≡ 0 → a ≡ (d .arrived && not (Device.bit 0 b)) → l ≡ (d .lost && not (Device.bit 1 b))
+  pub put-status : (n b : ℕ) {a l : Bool} {r : Held} → n ≡ 0 → a ≡ (d .arrived && not (Device.bit 0 b))
+      → l ≡ (d .lost && not (Device.bit 1 b))
       → Becomes (Device.withFlags a l) d r → Becomes (Device.afterPut n b) d r
   put-status n b z p q B =
       record {

@@ -118,7 +118,8 @@ module _ (s : List ℕ) (i : ℕ) (h : i < length s) where
     blank-by-kind first ∙ ap (λ (k : ℕ). eqb k bBlank) e,
   )
 
-  pub at-letter : byteKind first ≡ bLetter → item i (drop i s) ≡ token (wordKind (longestRun isNamePart (drop i s))) (longestRun isNamePart (drop i s))
+  pub at-letter : byteKind first ≡ bLetter
+      → item i (drop i s) ≡ token (wordKind (longestRun isNamePart (drop i s))) (longestRun isNamePart (drop i s))
   at-letter e =
       let n = off-slash e refl in
       choice (by-kind e .2) (not-slash 47 refl n) (not-slash 42 refl n) (by-kind e .0) refl refl
@@ -184,10 +185,12 @@ module _ (s : List ℕ) (i : ℕ) (h : i < length s) where
 
   -- ---- the same of the scanner's answers
 
-  pub piece-line : {e : ℕ} → first ≡ 47 → second ≡ 47 → e ≡ i + length (longestRun (member Line) (drop i s)) → Gap e ≡ pieceOf i (item i (drop i s))
+  pub piece-line : {e : ℕ} → first ≡ 47 → second ≡ 47 → e ≡ i + length (longestRun (member Line) (drop i s))
+      → Gap e ≡ pieceOf i (item i (drop i s))
   piece-line p n l = ap Gap l ∙ sym (ap (pieceOf i) (at-line p n))
 
-  pub piece-block : {k : Closing} → first ≡ 47 → second ≡ 42 → k ≡ closingOf (closing 1 (i + 2) (drop (i + 2) s)) → onClosing k ≡ pieceOf i (item i (drop i s))
+  pub piece-block : {k : Closing} → first ≡ 47 → second ≡ 42 → k ≡ closingOf (closing 1 (i + 2) (drop (i + 2) s))
+      → onClosing k ≡ pieceOf i (item i (drop i s))
   piece-block p n e = ap onClosing e ∙ on-comment i (closing 1 (i + 2) (drop (i + 2) s)) ∙ sym (ap (pieceOf i) (at-block p n))
 
   pub piece-word : {e k : ℕ} → Letter s i → e ≡ i + length (longestRun (member Word) (drop i s)) → k ≡ wordKind (take (e - i) (drop i s))

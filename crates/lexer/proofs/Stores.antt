@@ -138,7 +138,8 @@ module _ (tab : List ℕ) (n : ℕ) (r : TokenRow) (h : n < rows) where
   }
 
 -- a new head for a bucket changes nothing else
-head-becomes : {tab tab′ : List ℕ} {n : ℕ} {r : TokenRow} (b v : ℕ) → n < rows → b < rows → Becomes tab tab′ n r → Becomes tab (put tab′ 5 b v) n r
+head-becomes : {tab tab′ : List ℕ} {n : ℕ} {r : TokenRow} (b v : ℕ) → n < rows → b < rows → Becomes tab tab′ n r
+    → Becomes tab (put tab′ 5 b v) n r
 head-becomes {tab} {tab′} {n} {r} b v h hb m = record {
   long = length-put tab′ 5 b v ∙ m .long;
   kept = record { at = λ k nk i hi. other k i (omega arith) nk ∙ m .kept .at k nk i hi };
@@ -287,7 +288,8 @@ module _ (s : List ℕ) {tab tab₁ : List ℕ} {n : ℕ} {r : TokenRow} (c : Ch
 -- ---- the row of a name
 
 -- the chain of a text's bucket has the rows with that text
-pub chain-sought : {s tab : List ℕ} {n : ℕ} → Chained s tab n → (b : ℕ) (t : List ℕ) → b ≡ bucketFrom 0 t → b < rows → Sought s tab n (col tab 5 b) t
+pub chain-sought : {s tab : List ℕ} {n : ℕ} → Chained s tab n → (b : ℕ) (t : List ℕ) → b ≡ bucketFrom 0 t → b < rows
+    → Sought s tab n (col tab 5 b) t
 chain-sought {s} {tab} {n} c b t e h = record {
   filled = c .filled;
   link = c .heads b h;
@@ -357,7 +359,8 @@ fits-inside : {s tab : List ℕ} {n i e : ℕ} → Adding s tab n i e → i + (e
 fits-inside a = omega (arith, a .ordered, a .inside)
 
 module _ {s tab tab′ : List ℕ} {n k i e number : ℕ} (a : Adding s tab n i e) (h : n < rows) where
-  pub extended-plain : isName k ≡ false → number ≡ numberBeside k (take (e - i) (drop i s)) → tab′ ≡ storedRow tab n (tokenRow k i e number 0)
+  pub extended-plain : isName k ≡ false → number ≡ numberBeside k (take (e - i) (drop i s))
+      → tab′ ≡ storedRow tab n (tokenRow k i e number 0)
       → Extended s tab n k i e tab′
   extended-plain o v q =
       subst (Extended s tab n k i e) (sym q)

@@ -111,7 +111,8 @@ module _ (n k i : ℕ) (t : List ℕ) where
       if d j then (λ _. refused literalTooLarge i) else λ _.
       next (n + 1) (i + length t) >>= λ ts. accepted ((record { kind = k; start = i; text = t }) ∷ ts)
 
-  judged-by : (many long zero large name : Bool) → eqb n tokensMost ≡ many → tooLong k t ≡ long → zeroFirst k t ≡ zero → tooLarge k t ≡ large
+  judged-by : (many long zero large name : Bool) → eqb n tokensMost ≡ many → tooLong k t ≡ long → zeroFirst k t ≡ zero
+      → tooLarge k t ≡ large
       → isName k ≡ name → Judged n k i t
       (if many then (λ _. Refused tooManyTokens) else λ _.
       if long then (λ _. Refused nameTooLong) else λ _.
@@ -138,7 +139,8 @@ part-end : (s : List ℕ) (i e : ℕ) → i ≤ e → e ≤ length s → i + len
 part-end s i e h l = omega (arith, length-take-le (e - i) (drop i s) (omega (arith, length-drop i s)))
 
 module _ {s tab tab′ : List ℕ} {n k i e : ℕ} where
-  pub added-refused : {v : Verdict} {m : ℕ} → v ≡ verdictOf n k (take (e - i) (drop i s)) → v ≡ Refused m → Added s tab n k i e (Declined m) tab′
+  pub added-refused : {v : Verdict} {m : ℕ} → v ≡ verdictOf n k (take (e - i) (drop i s)) → v ≡ Refused m
+      → Added s tab n k i e (Declined m) tab′
   added-refused {v} {m} p q = record {
     refusal = λ m′ z next. judged-as n k i (take (e - i) (drop i s)) p q next ∙ ap (λ (x : ℕ). refused x i) (same-number z);
     done = λ z. absurd (never z);

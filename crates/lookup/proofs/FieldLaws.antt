@@ -24,7 +24,8 @@ use Rattle.lookup.specs.contracts.Fields.{ObjectSize, Tells, no-field, a
 -- THE SIZE OF AN OBJECT
 
 -- the row of a class's first field
-first-field : {tab : List ℕ} {n : ℕ} {ts : List Token} → Lexemes tab n ts → (k : Class) → ClassHeld tab n ts k → {class first : ℕ} → k .name .row ≡ class
+first-field : {tab : List ℕ} {n : ℕ} {ts : List Token} → Lexemes tab n ts → (k : Class) → ClassHeld tab n ts k → {class first : ℕ}
+    → k .name .row ≡ class
     → first ≡ wordAt tab 4 class → rowVariables (k .fields) ≡ first
 first-field {tab} lx k s at e₄ = sym (word-in tab 4 (k .name .row) (row-there lx (k .name .row) (s .named .token .there)) (s .first)) ∙ ap (wordAt tab 4) at ∙ sym e₄
 
@@ -38,17 +39,20 @@ module _ {tab : List ℕ} {n left c : ℕ} where
     unfolding layout
     size-top far = record { most = omega arith; says = λ ts G w name h. go ts G name (class-at w name c class h index) }
       where
-        go : (ts : List Token) (G : List Class) (name : Option (List ℕ)) → ClassAt tab n ts G name c class → 0 ≡ length (layout (chainFrom left G name))
+        go : (ts : List Token) (G : List Class) (name : Option (List ℕ)) → ClassAt tab n ts G name c class
+            → 0 ≡ length (layout (chainFrom left G name))
         go ts G name (no-class e f) = rw (chain-none left G name e)
         go ts G name (a-class k e at near s sp) = absurd (omega arith)
 
-    pub size-more : (left ≡ 0 → ⊥) → class < absent → n ≤ 2048 → {first own : ℕ} → first ≡ wordAt tab 4 class → Counts tab n first own → {p : ℕ} → Above tab class p
+    pub size-more : (left ≡ 0 → ⊥) → class < absent → n ≤ 2048 → {first own : ℕ} → first ≡ wordAt tab 4 class → Counts tab n first own
+        → {p : ℕ} → Above tab class p
         → {r : ℕ} → ObjectSize tab n (left - 1) p r → ObjectSize tab n left c (r + own)
     unfolding layout
     size-more more near few {first} {own} e₄ d {p} a {r} h′ =
         record { most = omega (arith, d .most, h′ .most); says = λ ts G w name h. go ts G w name (class-at w name c class h index) }
       where
-        go : (ts : List Token) (G : List Class) → ClassTableHeld tab n ts G → (name : Option (List ℕ)) → ClassAt tab n ts G name c class → r + own ≡ length (layout (chainFrom left G name))
+        go : (ts : List Token) (G : List Class) → ClassTableHeld tab n ts G → (name : Option (List ℕ)) → ClassAt tab n ts G name c class
+            → r + own ≡ length (layout (chainFrom left G name))
         go ts G w name (no-class e f) = absurd (omega arith)
         go ts G w name (a-class k e at near s sp) =
             let many = subst (λ (i : ℕ). Many tab i (length (k .fields))) (first-field (w .tokens) k s at e₄) (variables-many (w .tokens) (s .fields)) in
@@ -69,7 +73,8 @@ pub record ClearedTo (n : ℕ) (before now : List ℕ) (i : ℕ) : Type 0 where
 pub cleared-none : {n : ℕ} {before : List ℕ} → ClearedTo n before before 0
 cleared-none = record { within = omega arith; long = refl; stays = λ j h. refl; empty = λ x h. absurd (omega arith) }
 
-pub cleared-more : {n : ℕ} {before now : List ℕ} {i : ℕ} → n ≤ 2048 → 4096 ≤ length before → i < n → ClearedTo n before now i → ClearedTo n before (set now i noType) (i + 1)
+pub cleared-more : {n : ℕ} {before now : List ℕ} {i : ℕ} → n ≤ 2048 → 4096 ≤ length before → i < n → ClearedTo n before now i
+    → ClearedTo n before (set now i noType) (i + 1)
 cleared-more {n} {before} {now} {i} few large low h =
     record {
       within = omega arith;
@@ -96,7 +101,8 @@ tells-next at none upper h = h
 tells-next at (some s) upper {p = p} (a-field c e) = let z : p ≡ 32 + (at + (1 + s .place)) = omega (arith, e) in a-field c z
 
 -- the name of the field in a row
-own-name : {tab : List ℕ} {n row w : ℕ} → w ≡ wordAt tab 2 row → {ts : List Token} → Lexemes tab n ts → {v : Variable} {vs : List Variable} → v .name .row ≡ row
+own-name : {tab : List ℕ} {n row w : ℕ} → w ≡ wordAt tab 2 row → {ts : List Token} → Lexemes tab n ts
+    → {v : Variable} {vs : List Variable} → v .name .row ≡ row
     → VariablesHeld tab ts (v ∷ vs) → NameNumber ts (v .name .text) w
 own-name {tab} word {ts} lx {v} d (more-variables m c₃ c₆ s) = subst (NameNumber ts (v .name .text)) (ap (wordAt tab 2) d ∙ sym word) (name-word lx (v .name .row) (m .name .token))
 
@@ -105,7 +111,8 @@ module _ {tab : List ℕ} {n left row at : ℕ} {before : List ℕ} where
   unfolding variableNamed
   own-none-left e = record { stays = λ j h. refl; says = λ ts lx vs d s few text x sp upper. go ts vs few text x upper }
     where
-      go : (ts : List Token) (vs : List Variable) → length vs ≤ left → (text : List ℕ) (x : ℕ) (upper : Option Slot) → TellsAt ts before x upper
+      go : (ts : List Token) (vs : List Variable) → length vs ≤ left → (text : List ℕ) (x : ℕ) (upper : Option Slot)
+          → TellsAt ts before x upper
           → TellsAt ts before x (option (variableNamed vs text) upper λ s. some (moved at s))
       go ts [] few text x upper h = h
       go ts (v ∷ vs) few text x upper h = absurd (omega arith)
@@ -114,7 +121,8 @@ module _ {tab : List ℕ} {n left row at : ℕ} {before : List ℕ} where
   unfolding variableNamed
   own-absent far = record { stays = λ j h. refl; says = λ ts lx vs d s few text x sp upper. go ts lx vs d s text x upper }
     where
-      go : (ts : List Token) → Lexemes tab n ts → (vs : List Variable) → rowVariables vs ≡ row → VariablesHeld tab ts vs → (text : List ℕ) (x : ℕ) (upper : Option Slot)
+      go : (ts : List Token) → Lexemes tab n ts → (vs : List Variable) → rowVariables vs ≡ row → VariablesHeld tab ts vs
+          → (text : List ℕ) (x : ℕ) (upper : Option Slot)
           → TellsAt ts before x upper → TellsAt ts before x (option (variableNamed vs text) upper λ s. some (moved at s))
       go ts lx [] d s text x upper h = h
       go ts lx (v ∷ vs) d (more-variables m e₃ e₆ s) text x upper h = absurd (omega (arith, d, row-there lx (v .name .row) (m .name .token .there)))
@@ -135,7 +143,8 @@ module _ {tab : List ℕ} {n left row at : ℕ} {before : List ℕ} where
         other-word : (j : ℕ) → (j ≡ w → ⊥) → (j ≡ 2048 + w → ⊥) → getD after j 0 ≡ getD mid j 0
         other-word j a b = ap (λ (l : List ℕ). getD l j 0) written ∙ getD-set-other (set mid w t) (2048 + w) j (32 + at) 0 b ∙ getD-set-other mid w j t 0 a
 
-        go : (ts : List Token) → Lexemes tab n ts → (vs : List Variable) → rowVariables vs ≡ row → VariablesHeld tab ts vs → length vs ≤ left
+        go : (ts : List Token) → Lexemes tab n ts → (vs : List Variable) → rowVariables vs ≡ row → VariablesHeld tab ts vs
+            → length vs ≤ left
             → (text : List ℕ) (x : ℕ) → NameNumber ts text x → (upper : Option Slot) → TellsAt ts before x upper
             → TellsAt ts after x (option (variableNamed vs text) upper λ s. some (moved at s))
         go ts lx [] d s few text x sp upper below = absurd (omega (arith, d))
@@ -159,7 +168,8 @@ module _ {tab : List ℕ} {n left row at : ℕ} {before : List ℕ} where
     pub own-past : absent ≤ w → OwnHeld tab n left row at before mid
     own-past far = record { stays = h .stays; says = λ ts lx vs d s few text x sp upper. go ts lx vs d s text x upper }
       where
-        go : (ts : List Token) → Lexemes tab n ts → (vs : List Variable) → rowVariables vs ≡ row → VariablesHeld tab ts vs → (text : List ℕ) (x : ℕ) (upper : Option Slot)
+        go : (ts : List Token) → Lexemes tab n ts → (vs : List Variable) → rowVariables vs ≡ row → VariablesHeld tab ts vs
+            → (text : List ℕ) (x : ℕ) (upper : Option Slot)
             → TellsAt ts before x upper → TellsAt ts mid x (option (variableNamed vs text) upper λ s. some (moved at s))
         go ts lx [] d s text x upper below = absurd (omega (arith, d))
         go ts lx (v ∷ vs) d s text x upper below = let own = own-name word lx d s in absurd (omega (arith, own .there, lx .count, lx .few))
@@ -167,7 +177,8 @@ module _ {tab : List ℕ} {n left row at : ℕ} {before : List ℕ} where
 -- THE FIELDS UPWARDS
 
 -- a class's place begins where those above end
-tells-from : {ts : List Token} {at b : ℕ} → at ≡ b → (o upper : Option Slot) {t p : ℕ} → Tells ts (option o upper λ s. some (moved at s)) t p
+tells-from : {ts : List Token} {at b : ℕ} → at ≡ b → (o upper : Option Slot) {t p : ℕ}
+    → Tells ts (option o upper λ s. some (moved at s)) t p
     → Tells ts (option o upper λ s. some (moved b s)) t p
 tells-from e none upper h = h
 tells-from {b = b} e (some s) upper {p = p} (a-field c q) = let z : p ≡ 32 + (b + s .place) = omega (arith, e, q) in a-field c z
@@ -192,13 +203,15 @@ module _ {tab : List ℕ} {n left c : ℕ} {before : List ℕ} where
           held = λ empty. record { says = λ ts G w name h. record { says = λ text x sp. go ts G name text x (empty x (omega (arith, sp .there, w .tokens .count))) (class-at w name c class h index) } };
         }
       where
-        go : (ts : List Token) (G : List Class) (name : Option (List ℕ)) (text : List ℕ) (x : ℕ) → getD before x 0 ≡ noType → ClassAt tab n ts G name c class
+        go : (ts : List Token) (G : List Class) (name : Option (List ℕ)) (text : List ℕ) (x : ℕ) → getD before x 0 ≡ noType
+            → ClassAt tab n ts G name c class
             → TellsAt ts before x (nearestField (chainFrom left G name) text)
         go ts G name text x z (no-class e f) = rw (chain-none left G name e) (no-field z)
         go ts G name text x z (a-class k e at near s sp) = absurd (omega arith)
 
     pub climb-more : (left ≡ 0 → ⊥) → class < absent → n ≤ 2048 → {first : ℕ} → first ≡ wordAt tab 4 class → {p : ℕ} → Above tab class p
-        → {at : ℕ} {mid : List ℕ} → FieldsClimbed tab n (left - 1) p before mid at → {after : List ℕ} → OwnHeld tab n n first at mid after → {own : ℕ} → Counts tab n first own
+        → {at : ℕ} {mid : List ℕ} → FieldsClimbed tab n (left - 1) p before mid at → {after : List ℕ}
+        → OwnHeld tab n n first at mid after → {own : ℕ} → Counts tab n first own
         → FieldsClimbed tab n left c before after (at + own)
     unfolding nearestField
     climb-more more near few {first} e₄ {p} a {at} {mid} h′ {after} o d =
@@ -208,7 +221,8 @@ module _ {tab : List ℕ} {n left c : ℕ} {before : List ℕ} where
           held = λ empty. record { says = λ ts G w name h. record { says = λ text x sp. go ts G w name text x sp (h′ .held empty) (class-at w name c class h index) } };
         }
       where
-        go : (ts : List Token) (G : List Class) → ClassTableHeld tab n ts G → (name : Option (List ℕ)) (text : List ℕ) (x : ℕ) → NameNumber ts text x → FieldsHeld tab n (left - 1) p mid
+        go : (ts : List Token) (G : List Class) → ClassTableHeld tab n ts G → (name : Option (List ℕ)) (text : List ℕ) (x : ℕ)
+            → NameNumber ts text x → FieldsHeld tab n (left - 1) p mid
             → ClassAt tab n ts G name c class → TellsAt ts after x (nearestField (chainFrom left G name) text)
         go ts G w name text x sp upper (no-class e f) = absurd (omega arith)
         go ts G w name text x sp upper (a-class k e at near s _) =
@@ -218,5 +232,6 @@ module _ {tab : List ℕ} {n left c : ℕ} {before : List ℕ} where
             (o .says ts (w .tokens) (k .fields) (first-field (w .tokens) k s at e₄) (s .fields) (s .few-fields) text x sp _
             (upper .says ts G w (parentName (k .parent)) up .says text x sp)))
 
-pub filled : {tab : List ℕ} {n left c : ℕ} {before mid after : List ℕ} {r : ℕ} → Cleared n before mid → FieldsClimbed tab n left c mid after r → FieldsFilled tab n left c before after
+pub filled : {tab : List ℕ} {n left c : ℕ} {before mid after : List ℕ} {r : ℕ} → Cleared n before mid
+    → FieldsClimbed tab n left c mid after r → FieldsFilled tab n left c before after
 filled z h = record { stays = λ j le. h .stays j le ∙ z .stays j le; held = h .held (z .empty) }

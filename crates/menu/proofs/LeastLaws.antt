@@ -16,13 +16,15 @@ use Rattle.menu.specs.contracts.Least.{leaf, RightNode, Keeps, Mended, E
 -- SETTING A WORD
 
 -- a node over two other words stays right
-kept-right : (tree : List ℕ) (i x u : ℕ) → (u ≡ i → ⊥) → (2 * u ≡ i → ⊥) → (2 * u + 1 ≡ i → ⊥) → RightNode tree u → RightNode (set tree i x) u
+kept-right : (tree : List ℕ) (i x u : ℕ) → (u ≡ i → ⊥) → (2 * u ≡ i → ⊥) → (2 * u + 1 ≡ i → ⊥) → RightNode tree u
+    → RightNode (set tree i x) u
 kept-right tree i x u a b c h = rw (getD-set-other tree i u x 0 a, getD-set-other tree i (2 * u) x 0 b, getD-set-other tree i (2 * u + 1) x 0 c) h
 
 pub mend-none : (tree : List ℕ) {v : ℕ} → v ≡ 0 → Mended v tree tree
 mend-none tree z = record { nodes = λ h u low high. h u low high (λ e. omega (arith, e)); leaves = λ l h. refl }
 
-pub mend-next : {before : List ℕ} {v : ℕ} → (v ≡ 0 → ⊥) → v < absent → length before ≡ 4096 → {a b x : ℕ} → a ≡ getD before (2 * v) 0 → b ≡ getD before (2 * v + 1) 0
+pub mend-next : {before : List ℕ} {v : ℕ} → (v ≡ 0 → ⊥) → v < absent → length before ≡ 4096 → {a b x : ℕ} → a ≡ getD before (2 * v) 0
+    → b ≡ getD before (2 * v + 1) 0
     → x ≡ min a b → {middle after : List ℕ} → middle ≡ set before v x → Mended (v / 2) middle after → Mended v before after
 mend-next {before} {v} some high long {a} {b} {x} ea eb e {middle} {after} s m =
     record {

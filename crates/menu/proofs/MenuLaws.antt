@@ -75,7 +75,8 @@ empty = record {
 class-row : {ts : List Token} {i j : ℕ} {k : Class} → DerivesClass ts i j k → nameRow k ≡ i + 1
 class-row (a-class-declaration _ _ _ _ _ _ _) = refl
 
-classes-rise : {ts : List Token} {i j : ℕ} {ks : List Class} → DerivesClasses ts i j ks → RowsRise ks × All (λ (k : Class). i < nameRow k) ks
+classes-rise : {ts : List Token} {i j : ℕ} {ks : List Class} → DerivesClasses ts i j ks
+    → RowsRise ks × All (λ (k : Class). i < nameRow k) ks
 classes-rise no-class = (rising-none, all-nil)
 classes-rise (more-classes {c = k} {cs = ks} d ds) =
     let u = classes-rise ds in
@@ -92,7 +93,8 @@ nothing-written [] = all-nil
 nothing-written (k ∷ G) = all-cons (λ e. absurd (false≢true e)) (nothing-written G)
 
 module _ {tab : List ℕ} {classes : ℕ} {before : List ℕ} where
-  pub fill-short : length before < classes → FillsStrip tab classes before (listingOf (record { number = 4; position = 0; classes = 0 }) before)
+  pub fill-short : length before < classes
+      → FillsStrip tab classes before (listingOf (record { number = 4; position = 0; classes = 0 }) before)
   fill-short h = record { says = λ n ts p r d t l. let z : length before < length (p .classes) = omega arith in rw (lt-ltb (length before) (length (p .classes)) z) }
 
   module _ {first : ℕ} (e₆ : first ≡ wordAt tab 6 0) {tree firsts next : List ℕ}
@@ -110,7 +112,8 @@ module _ {tab : List ℕ} {classes : ℕ} {before : List ℕ} where
         subst (λ (m : ℕ). (after ≡ overwritten 0 (positions (writing m G [])) before) × (unwritten + length (writing m G []) ≡ m)) (sym l)
         (w .says n ts G table (start .1) [] (nothing-written G) (start .0))
 
-    pub fill-long : classes ≤ length before → FillsStrip tab classes before (listingOf (record { number = 0; position = 0; classes = classes }) after)
+    pub fill-long : classes ≤ length before
+        → FillsStrip tab classes before (listingOf (record { number = 0; position = 0; classes = classes }) after)
     fill-long h =
         record {
           says = λ n ts p r d t l.
@@ -129,7 +132,8 @@ module _ {tab : List ℕ} {classes : ℕ} {before : List ℕ} where
 -- THE ANSWER
 
 module _ (s : List ℕ) (f : Finding) (middle before : List ℕ) (l : Leaves s (checking s) f middle) where
-  pub answer-found : {n k : ℕ} → f ≡ found n k → {r : CheckAnswer} {after : List ℕ} → FillsStrip middle k before (listingOf r after) → listingOf r after ≡ listing (checking s) before
+  pub answer-found : {n k : ℕ} → f ≡ found n k → {r : CheckAnswer} {after : List ℕ} → FillsStrip middle k before (listingOf r after)
+      → listingOf r after ≡ listing (checking s) before
   answer-found {n} {k} is {r} {after} g = go (checking s) (l .finds)
     where
       go : (w : Outcome Program) → FindsProgram s w f middle → listingOf r after ≡ listing w before
@@ -139,10 +143,12 @@ module _ (s : List ℕ) (f : Finding) (middle before : List ℕ) (l : Leaves s (
           g .says (length (h .stream)) (h .stream) p (h .ready) (h .derived) (h .typed) c
       go (refused m q) h = let z = h in apart (cc)
 
-  pub answer-unfit : {n q : ℕ} → f ≡ declined n q → listingOf (record { number = n; position = q; classes = 0 }) before ≡ listing (checking s) before
+  pub answer-unfit : {n q : ℕ} → f ≡ declined n q
+      → listingOf (record { number = n; position = q; classes = 0 }) before ≡ listing (checking s) before
   answer-unfit {n} {q} is = go (checking s) (l .finds)
     where
-      go : (w : Outcome Program) → FindsProgram s w f middle → listingOf (record { number = n; position = q; classes = 0 }) before ≡ listing w before
+      go : (w : Outcome Program) → FindsProgram s w f middle
+          → listingOf (record { number = n; position = q; classes = 0 }) before ≡ listing w before
       go (accepted p) h = let z = h .answer in apart (cc)
       go (refused m p) h = let z = h in let a : n ≡ m = cc in let b : q ≡ p = cc in rw (a, b)
 
@@ -153,7 +159,8 @@ module _ (s table before : List ℕ) where
   unfolding menu tableAfter
   menu-short h = record { answer = rw (lt-ltb (length table) tableLeast h); cleared = rw (lt-ltb (length table) tableLeast h) }
 
-  pub menu-answer : 16384 ≤ length table → {r : CheckAnswer} (middle : List ℕ) {last after : List ℕ} → listingOf r after ≡ listing (checking s) before → length middle ≡ length table
+  pub menu-answer : 16384 ≤ length table → {r : CheckAnswer} (middle : List ℕ) {last after : List ℕ}
+      → listingOf r after ≡ listing (checking s) before → length middle ≡ length table
       → last ≡ replicate (length middle) 0 → Menus s table before (checkAnswerOf r) last after
   unfolding menu tableAfter
   menu-answer long middle m same zero =

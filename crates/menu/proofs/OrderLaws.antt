@@ -67,12 +67,14 @@ module _ {next : List ℕ} {left row : ℕ} {tree : List ℕ} where
       go (linked-end h) k = keeps-same (λ r low. refl) k
       go (linked-more near e h) k = absurd (omega arith)
 
-  pub free-next : (left ≡ 0 → ⊥) → row < absent → {middle : List ℕ} → Entered row tree middle → {after : ℕ} → after ≡ getD next row 0 → {last : List ℕ}
+  pub free-next : (left ≡ 0 → ⊥) → row < absent → {middle : List ℕ} → Entered row tree middle → {after : ℕ} → after ≡ getD next row 0
+      → {last : List ℕ}
       → Freed next (left - 1) after middle last → Freed next left row tree last
   unfolding elem
   free-next more near {middle} e {after} q {last} g = record { says = λ rows h few S k. go h few S k }
     where
-      go : {rows : List ℕ} → RowsLinked next row rows → length rows ≤ left → (S : ℕ → Bool) → Keeps tree S → Keeps last (λ r. elem r rows || S r)
+      go : {rows : List ℕ} → RowsLinked next row rows → length rows ≤ left → (S : ℕ → Bool) → Keeps tree S
+          → Keeps last (λ r. elem r rows || S r)
       go (linked-end far) few S k = absurd (omega arith)
       go (linked-more {rows = rs} near′ f h) few S k =
           keeps-same (λ r low. or-swap (eqb row r) (elem r rs) (S r))
@@ -109,7 +111,8 @@ module _ (w : List Class) where
       (f .0, skipped m ∙ f .1, f .2))
 
   -- where no row is in the set, no class may stand
-  earliest-none : (ks : List Class) → All (λ (k : Class). nameRow k < absent) ks → ((r : ℕ) → r < absent → standing w ks r ≡ false) → earliest w ks ≡ none
+  earliest-none : (ks : List Class) → All (λ (k : Class). nameRow k < absent) ks → ((r : ℕ) → r < absent → standing w ks r ≡ false)
+      → earliest w ks ≡ none
   unfolding standing earliest
   earliest-none [] all-nil h = refl
   earliest-none (k ∷ ks) (all-cons low rows) h =
@@ -134,7 +137,8 @@ may-truth false false false false h = refl
 
 -- e: the class stands in a row; x: that is the row of the one that is written; t: a later class of the row may stand; r: the row is that
 -- of a later child
-row-truth : (e s m c r t x : Bool) → (e ≡ true → x ≡ s) → ((e && ((not s && m) || c)) || (r || (not x && t))) ≡ (((c && e) || r) || (not x && ((e && m) || t)))
+row-truth : (e s m c r t x : Bool) → (e ≡ true → x ≡ s)
+    → ((e && ((not s && m) || c)) || (r || (not x && t))) ≡ (((c && e) || r) || (not x && ((e && m) || t)))
 row-truth false s m true r t x h = refl
 row-truth false s m false r t x h = refl
 row-truth true s m c r t x h = rw (h refl) (go s m c r)
@@ -150,11 +154,13 @@ row-truth true s m c r t x h = rw (h refl) (go s m c r)
     go false false false true = refl
     go false false false false = refl
 
-elem-child : (c : List ℕ) (k : Class) (ks : List Class) (r : ℕ) → elem r (childRows c (k ∷ ks)) ≡ ((isChild c k && eqb (nameRow k) r) || elem r (childRows c ks))
+elem-child : (c : List ℕ) (k : Class) (ks : List Class) (r : ℕ)
+    → elem r (childRows c (k ∷ ks)) ≡ ((isChild c k && eqb (nameRow k) r) || elem r (childRows c ks))
 unfolding elem childRows
 elem-child c k ks r = go (isChild c k)
   where
-    go : (b : Bool) → elem r (if b then (λ _. nameRow k ∷ childRows c ks) else λ _. childRows c ks) ≡ ((b && eqb (nameRow k) r) || elem r (childRows c ks))
+    go : (b : Bool)
+        → elem r (if b then (λ _. nameRow k ∷ childRows c ks) else λ _. childRows c ks) ≡ ((b && eqb (nameRow k) r) || elem r (childRows c ks))
     go true = refl
     go false = refl
 
@@ -164,11 +170,13 @@ record Beside (w : List Class) (k j : Class) : Type 0 where
   child : isChild (className k) j ≡ true → (among (className j) w ≡ false) × (same (className k) (className j) ≡ false)
 
 module _ (w : List Class) (k : Class) where
-  may-more : (j : Class) → Beside w k j → mayStand (w ++ k ∷ []) j ≡ ((not (same (className k) (className j)) && mayStand w j) || isChild (className k) j)
+  may-more : (j : Class) → Beside w k j
+      → mayStand (w ++ k ∷ []) j ≡ ((not (same (className k) (className j)) && mayStand w j) || isChild (className k) j)
   unfolding mayStand
   may-more j b = rw (among-more (className j) w k) (go (j .parent) (b .child))
     where
-      go : (o : Option Name) → ((option o false λ p. same (className k) (p .text)) ≡ true → (among (className j) w ≡ false) × (same (className k) (className j) ≡ false))
+      go : (o : Option Name)
+          → ((option o false λ p. same (className k) (p .text)) ≡ true → (among (className j) w ≡ false) × (same (className k) (className j) ≡ false))
           → (not (among (className j) w || same (className k) (className j)) && option o true λ p. among (p .text) (w ++ k ∷ []))
           ≡ ((not (same (className k) (className j)) && (not (among (className j) w) && option o true λ p. among (p .text) w)) || option o false λ p. same (className k) (p .text))
       go none h = may-truth (among (className j) w) (same (className k) (className j)) true false h
@@ -187,11 +195,13 @@ module _ (w : List Class) (k : Class) where
 -- TWO CLASSES OF A TABLE
 
 -- classes in one row have one name
-one-text : {tab : List ℕ} {n : ℕ} {ts : List Token} {j k : Class} → ClassHeld tab n ts j → ClassHeld tab n ts k → nameRow j ≡ nameRow k → className j ≡ className k
+one-text : {tab : List ℕ} {n : ℕ} {ts : List Token} {j k : Class} → ClassHeld tab n ts j → ClassHeld tab n ts k → nameRow j ≡ nameRow k
+    → className j ≡ className k
 one-text {ts = ts} a b e = sym (a .named .token .spelt) ∙ ap (λ (i : ℕ). tokenAt ts i .text) e ∙ b .named .token .spelt
 
 -- those of one name are one
-one-class : (G : List Class) {c : List ℕ} {j k : Class} → classNamed G (className j) ≡ some j → classNamed G c ≡ some k → className j ≡ c → j ≡ k
+one-class : (G : List Class) {c : List ℕ} {j k : Class} → classNamed G (className j) ≡ some j → classNamed G c ≡ some k → className j ≡ c
+    → j ≡ k
 one-class G {c} {j} {k} own f e = Option·some-injective j k (sym own ∙ ap (classNamed G) e ∙ f)
 
 module _ {tab : List ℕ} {n : ℕ} {ts : List Token} (G w : List Class) {k : Class} (stands : ClassHeld tab n ts k) (own : classNamed G (className k) ≡ some k)
@@ -209,14 +219,16 @@ module _ {tab : List ℕ} {n : ℕ} {ts : List Token} (G w : List Class) {k : Cl
       written : (p : Name) → same (className k) (p .text) ≡ true → among (p .text) w ≡ true → ⊥
       written p e a = true≢false (sym a ∙ ap (λ (x : List ℕ). among x w) (sym (same-equal (className k) (p .text) e)) ∙ may .new)
 
-      child : (q : Option Name) → j .parent ≡ q → (option q false λ p. same (className k) (p .text)) ≡ true → (among (className j) w ≡ false) × (same (className k) (className j) ≡ false)
+      child : (q : Option Name) → j .parent ≡ q → (option q false λ p. same (className k) (p .text)) ≡ true
+          → (among (className j) w ≡ false) × (same (className k) (className j) ≡ false)
       child none q e = absurd (false≢true e)
       child (some p) q e = (
         not-true (among (className j) w) (λ a. written p e (subst (λ (o : Option Name). (option o true λ p. among (p .text) w) ≡ true) q (closed a))),
         not-true (same (className k) (className j)) (λ a. written p e (may .after p (ap (λ (i : Class). i .parent) (one-class G own o (same-equal (className k) (className j) a)) ∙ q))),
       )
 
-  closed-more : (j : Class) → classNamed G (className j) ≡ some j → (among (className j) w ≡ true → (option (j .parent) true λ p. among (p .text) w) ≡ true)
+  closed-more : (j : Class) → classNamed G (className j) ≡ some j
+      → (among (className j) w ≡ true → (option (j .parent) true λ p. among (p .text) w) ≡ true)
       → among (className j) (w ++ k ∷ []) ≡ true → (option (j .parent) true λ p. among (p .text) (w ++ k ∷ [])) ≡ true
   closed-more j o closed a =
       ⊎-elim (λ b. more (j .parent) (closed b))
@@ -238,11 +250,13 @@ unfolding childRows
 child-few c [] = omega arith
 child-few c (k ∷ ks) = go (isChild c k) (child-few c ks)
   where
-    go : (b : Bool) → length (childRows c ks) ≤ length ks → length (if b then (λ _. nameRow k ∷ childRows c ks) else λ _. childRows c ks) ≤ length (k ∷ ks)
+    go : (b : Bool) → length (childRows c ks) ≤ length ks
+        → length (if b then (λ _. nameRow k ∷ childRows c ks) else λ _. childRows c ks) ≤ length (k ∷ ks)
     go true h = omega arith
     go false h = omega arith
 
-writing-next : (left : ℕ) (G w : List Class) {k : Class} → (left ≡ 0 → ⊥) → earliest w G ≡ some k → writing left G w ≡ k ∷ writing (left - 1) G (w ++ k ∷ [])
+writing-next : (left : ℕ) (G w : List Class) {k : Class} → (left ≡ 0 → ⊥) → earliest w G ≡ some k
+    → writing left G w ≡ k ∷ writing (left - 1) G (w ++ k ∷ [])
 unfolding writing
 writing-next zero G w more e = absurd (more refl)
 writing-next (suc n) G w {k} more e = let z : n ≡ suc n - 1 = omega arith in rw e (ap (λ (m : ℕ). k ∷ writing m G (w ++ k ∷ [])) z)
@@ -252,7 +266,8 @@ unfolding writing
 writing-end zero G w e = refl
 writing-end (suc n) G w e = rw e
 
-rows-there : {tab : List ℕ} {n : ℕ} {ts : List Token} {G : List Class} → ClassTableHeld tab n ts G → All (λ (k : Class). nameRow k < absent) G
+rows-there : {tab : List ℕ} {n : ℕ} {ts : List Token} {G : List Class} → ClassTableHeld tab n ts G
+    → All (λ (k : Class). nameRow k < absent) G
 rows-there w = all-weaken (λ k s. row-there (w .tokens) (nameRow k) (s .named .token .there)) (all-stand (w .classes))
 
 module _ {tab tree first next : List ℕ} {i left : ℕ} {before : List ℕ} where
@@ -275,14 +290,16 @@ module _ {tab tree first next : List ℕ} {i left : ℕ} {before : List ℕ} whe
               subst (λ (ks : List Class). (before ≡ overwritten i (positions ks) before) × (left + length ks ≡ left)) (sym none-left) (refl, omega arith);
         }
 
-    pub write-next : (left ≡ 0 → ⊥) → row < absent → {p : ℕ} → p ≡ wordAt tab 1 row → {strip : List ℕ} → strip ≡ set before i p → {tree₁ : List ℕ} → Removed row tree tree₁
+    pub write-next : (left ≡ 0 → ⊥) → row < absent → {p : ℕ} → p ≡ wordAt tab 1 row → {strip : List ℕ} → strip ≡ set before i p
+        → {tree₁ : List ℕ} → Removed row tree tree₁
         → {child : ℕ} → child ≡ getD first row 0 → {tree₂ : List ℕ} → Freed next 2048 child tree₁ tree₂ → {after : List ℕ}
         → {r : ℕ}
         → StripWritten tab tree₂ first next (i + 1) (left - 1) strip after r → StripWritten tab tree first next i left before after r
     unfolding overwritten positions
     write-next more near {p} e₁ {strip} put {tree₁} out {child} ec {tree₂} free {after} {r} rest = record { says = says }
       where
-        says : (n : ℕ) (ts : List Token) (G : List Class) → Tabled tab n ts G → ChildrenListed first next G G → (w : List Class) → ParentsWritten w G → Keeps tree (standing w G)
+        says : (n : ℕ) (ts : List Token) (G : List Class) → Tabled tab n ts G → ChildrenListed first next G G → (w : List Class)
+            → ParentsWritten w G → Keeps tree (standing w G)
             → (after ≡ overwritten i (positions (writing left G w)) before) × (r + length (writing left G w) ≡ left)
         says n ts G t l w c kept =
             let found = earliest-is w G (t .rising) (top-in kept top near) (λ r low. not-true (standing w G r) (λ e. omega (arith, top-least kept r (omega arith) e))) in
@@ -314,7 +331,8 @@ record FirstClass (tab : List ℕ) (n : ℕ) (ts : List Token) (k : Class) (ks :
   stands : ClassHeld tab n ts k
   rest : {next : ℕ} → next ≡ wordAt tab 6 row → (left ≡ 0 → ⊥) → ClassesAt tab n ts ks (left - 1) next
 
-first-class : {tab : List ℕ} {n : ℕ} {ts : List Token} → Lexemes tab n ts → {k : Class} {ks : List Class} {left row : ℕ} → ClassesAt tab n ts (k ∷ ks) left row → FirstClass tab n ts k ks left row
+first-class : {tab : List ℕ} {n : ℕ} {ts : List Token} → Lexemes tab n ts → {k : Class} {ks : List Class} {left row : ℕ}
+    → ClassesAt tab n ts (k ∷ ks) left row → FirstClass tab n ts k ks left row
 first-class {tab} {n} {ts} lx {k} {ks} {left} {row} a = go (a .stand)
   where
     go : ClassesHeld tab n ts (k ∷ ks) → FirstClass tab n ts k ks left row
@@ -328,7 +346,8 @@ first-class {tab} {n} {ts} lx {k} {ks} {left} {row} a = go (a .stand)
       };
     }
 
-nothing-gathered : {tab : List ℕ} {n : ℕ} {ts : List Token} {G : List Class} (tree first next : List ℕ) → Empty tree first → ClassTableHeld tab n ts G
+nothing-gathered : {tab : List ℕ} {n : ℕ} {ts : List Token} {G : List Class} (tree first next : List ℕ) → Empty tree first
+    → ClassTableHeld tab n ts G
     → Keeps tree (standing [] []) × ChildrenListed first next G []
 unfolding standing childRows
 nothing-gathered tree first next e w =
@@ -346,24 +365,28 @@ module _ {tab : List ℕ} {left row : ℕ} {tree first next : List ℕ} where
   pub gather-absent : absent ≤ row → Gathered tab left row tree first tree first next
   gather-absent far = record { says = λ e n ts G t ks a rise. go e n ts G t ks a }
     where
-      go : Empty tree first → (n : ℕ) (ts : List Token) (G : List Class) → Tabled tab n ts G → (ks : List Class) → ClassesAt tab n ts ks left row
+      go : Empty tree first → (n : ℕ) (ts : List Token) (G : List Class) → Tabled tab n ts G → (ks : List Class)
+          → ClassesAt tab n ts ks left row
           → Keeps tree (standing [] ks) × ChildrenListed first next G ks
       go e n ts G t [] a = nothing-gathered tree first next e (t .world)
       go e n ts G t (k ∷ ks) a =
           let h = first-class (t .world .tokens) a in
           absurd (omega (arith, h .here, row-there (t .world .tokens) (nameRow k) (h .stands .named .token .there)))
 
-pub link-row : {parent row : ℕ} {first next : List ℕ} → parent < length first → row < length next → {f : ℕ} → f ≡ getD first parent 0 → {next′ first′ : List ℕ}
+pub link-row : {parent row : ℕ} {first next : List ℕ} → parent < length first → row < length next → {f : ℕ} → f ≡ getD first parent 0
+    → {next′ first′ : List ℕ}
     → next′ ≡ set next row f → first′ ≡ set first parent row → ChildJoined parent row first next first′ next′
 link-row {row = row} {next = next} p q e s h = record { is-parent = p; is-row = q; head = h; link = s ∙ ap (set next row) e }
 
 -- a link from a row that is not in a list leaves the list
-linked-kept : {next : List ℕ} (i v : ℕ) {row : ℕ} {rows : List ℕ} → All (λ (r : ℕ). r ≡ i → ⊥) rows → RowsLinked next row rows → RowsLinked (set next i v) row rows
+linked-kept : {next : List ℕ} (i v : ℕ) {row : ℕ} {rows : List ℕ} → All (λ (r : ℕ). r ≡ i → ⊥) rows → RowsLinked next row rows
+    → RowsLinked (set next i v) row rows
 linked-kept i v h (linked-end far) = linked-end far
 linked-kept {next} i v (all-cons other h) (linked-more {row = row} near e l) = linked-more near (getD-set-other next i row v 0 other ∙ e) (linked-kept i v h l)
 
 -- the rows of later classes are other rows
-child-later : (c : List ℕ) (row : ℕ) (ks : List Class) → All (λ (j : Class). row < nameRow j) ks → All (λ (r : ℕ). r ≡ row → ⊥) (childRows c ks)
+child-later : (c : List ℕ) (row : ℕ) (ks : List Class) → All (λ (j : Class). row < nameRow j) ks
+    → All (λ (r : ℕ). r ≡ row → ⊥) (childRows c ks)
 unfolding childRows
 child-later c row [] all-nil = all-nil
 child-later c row (k ∷ ks) (all-cons l h) =
@@ -409,7 +432,8 @@ module _ {tab : List ℕ} {left row : ℕ} (more : left ≡ 0 → ⊥) (near : r
     above : MaybeNumber ts (parentName (k .parent)) c
     few : length ts ≤ 2048
 
-  later : Empty tree₀ first₀ → {n : ℕ} {ts : List Token} {G : List Class} → Tabled tab n ts G → {k : Class} {ks : List Class} → ClassesAt tab n ts (k ∷ ks) left row → RowsRise ks → Later n ts G k ks
+  later : Empty tree₀ first₀ → {n : ℕ} {ts : List Token} {G : List Class} → Tabled tab n ts G → {k : Class} {ks : List Class}
+      → ClassesAt tab n ts (k ∷ ks) left row → RowsRise ks → Later n ts G k ks
   later e {n} {ts} {G} t {k} {ks} a rise =
       let h = first-class (t .world .tokens) a in
       let q = g .says e n ts G t ks (h .rest e₆ more) rise in
@@ -424,7 +448,8 @@ module _ {tab : List ℕ} {left row : ℕ} (more : left ≡ 0 → ⊥) (near : r
   pub gather-root : absent ≤ c → {tree′ : List ℕ} → Entered row tree tree′ → Gathered tab left row tree₀ first₀ tree′ first next
   gather-root far {tree′} en = record { says = λ e n ts G t ks a rise. go e n ts G t ks a rise }
     where
-      go : Empty tree₀ first₀ → (n : ℕ) (ts : List Token) (G : List Class) → Tabled tab n ts G → (ks : List Class) → ClassesAt tab n ts ks left row → RowsRise ks
+      go : Empty tree₀ first₀ → (n : ℕ) (ts : List Token) (G : List Class) → Tabled tab n ts G → (ks : List Class)
+          → ClassesAt tab n ts ks left row → RowsRise ks
           → Keeps tree′ (standing [] ks) × ChildrenListed first next G ks
       go e n ts G t [] a rise = absurd (omega (arith, a .here))
       go e n ts G t (k ∷ ks) a (rising-more l s) =
@@ -439,7 +464,8 @@ module _ {tab : List ℕ} {left row : ℕ} (more : left ≡ 0 → ⊥) (near : r
     pub gather-unknown : absent ≤ parent → Gathered tab left row tree₀ first₀ tree first next
     gather-unknown far = record { says = λ e n ts G t ks a rise. go e n ts G t ks a rise }
       where
-        go : Empty tree₀ first₀ → (n : ℕ) (ts : List Token) (G : List Class) → Tabled tab n ts G → (ks : List Class) → ClassesAt tab n ts ks left row → RowsRise ks
+        go : Empty tree₀ first₀ → (n : ℕ) (ts : List Token) (G : List Class) → Tabled tab n ts G → (ks : List Class)
+            → ClassesAt tab n ts ks left row → RowsRise ks
             → Keeps tree (standing [] ks) × ChildrenListed first next G ks
         go e n ts G t [] a rise = absurd (omega (arith, a .here))
         go e n ts G t (k ∷ ks) a (rising-more l s) =
@@ -457,10 +483,12 @@ module _ {tab : List ℕ} {left row : ℕ} (more : left ≡ 0 → ⊥) (near : r
             nobody p (no-class e far) = e
             nobody p (a-class q e at near s sp) = absurd (omega arith)
 
-    pub gather-child : parent < absent → {first′ next′ : List ℕ} → ChildJoined parent row first next first′ next′ → Gathered tab left row tree₀ first₀ tree first′ next′
+    pub gather-child : parent < absent → {first′ next′ : List ℕ} → ChildJoined parent row first next first′ next′
+        → Gathered tab left row tree₀ first₀ tree first′ next′
     gather-child here {first′} {next′} put = record { says = λ e n ts G t ks a rise. go e n ts G t ks a rise }
       where
-        go : Empty tree₀ first₀ → (n : ℕ) (ts : List Token) (G : List Class) → Tabled tab n ts G → (ks : List Class) → ClassesAt tab n ts ks left row → RowsRise ks
+        go : Empty tree₀ first₀ → (n : ℕ) (ts : List Token) (G : List Class) → Tabled tab n ts G → (ks : List Class)
+            → ClassesAt tab n ts ks left row → RowsRise ks
             → Keeps tree (standing [] ks) × ChildrenListed first′ next′ G ks
         go e n ts G t [] a rise = absurd (omega (arith, a .here))
         go e n ts G t (k ∷ ks) a (rising-more l s) =
@@ -471,12 +499,15 @@ module _ {tab : List ℕ} {left row : ℕ} (more : left ≡ 0 → ⊥) (near : r
               all-weaken (λ j x. entry j (x .0) (x .1 .0) (x .1 .1) (h .here) (p .0) (p .1) at) (all-zip (all-stand (t .world .classes)) (all-zip (t .own) (h .listed))),
             )
           where
-            entry : (j : Class) → ClassHeld tab n ts j → classNamed G (className j) ≡ some j → RowsLinked next (getD first (nameRow j) 0) (childRows (className j) ks) → nameRow k ≡ row
-                → (p : Name) → k .parent ≡ some p → ClassAt tab n ts G (some (p .text)) c parent → RowsLinked next′ (getD first′ (nameRow j) 0) (childRows (className j) (k ∷ ks))
+            entry : (j : Class) → ClassHeld tab n ts j → classNamed G (className j) ≡ some j
+                → RowsLinked next (getD first (nameRow j) 0) (childRows (className j) ks) → nameRow k ≡ row
+                → (p : Name) → k .parent ≡ some p → ClassAt tab n ts G (some (p .text)) c parent
+                → RowsLinked next′ (getD first′ (nameRow j) 0) (childRows (className j) (k ∷ ks))
             entry j stands own old is p e (no-class nobody far) = absurd (omega arith)
             entry j stands own old is p e (a-class q found at near′ s sp) = rw (put .link, put .head) (by (ℕ-discrete (nameRow j) parent))
               where
-                by : Dec (nameRow j ≡ parent) → RowsLinked (set next row (getD first parent 0)) (getD (set first parent row) (nameRow j) 0) (childRows (className j) (k ∷ ks))
+                by : Dec (nameRow j ≡ parent)
+                    → RowsLinked (set next row (getD first parent 0)) (getD (set first parent row) (nameRow j) 0) (childRows (className j) (k ∷ ks))
                 by (yes z) =
                     let name : className j ≡ p .text = one-text stands s (z ∙ sym at) ∙ class-name G (p .text) found in
                     let child : isChild (className j) k ≡ true = ap (λ (o : Option Name). option o false λ q. same (className j) (q .text)) e ∙ same-of name in

@@ -25,7 +25,8 @@ use Rattle.parser.proofs.Types.{makes-array}
 use Rattle.parser.proofs.Pieces.{then-node, of-mode, as-mode}
 
 -- a node as the code writes it
-pub made : {T : List ℕ} {n : ℕ} {ts : List Token} (T₂ : List ℕ) (i first l r : ℕ) → TokensIn T n ts → first < n → T₂ ≡ node T i (col T 1 first) l r → T₂ ≡ node T i (startAt ts first) l r
+pub made : {T : List ℕ} {n : ℕ} {ts : List Token} (T₂ : List ℕ) (i first l r : ℕ) → TokensIn T n ts → first < n
+    → T₂ ≡ node T i (col T 1 first) l r → T₂ ≡ node T i (startAt ts first) l r
 made {T} T₂ i first l r h lt e = e ∙ ap (λ (b : ℕ). node T i b l r) (h .starts first lt)
 
 -- LEVELS
@@ -98,7 +99,8 @@ module _ (whole first : Mode expression) (rest : Rest) {n i : ℕ} {T : List ℕ
     (steps : (ts : List Token) → TokensIn T n ts → (P : (s : Sort) → Mode s → ℕ → Parsed (Part s))
     → step ts P whole i ≡ bind (P expression first i) (λ l j. P expression (restMode rest l) j))
     (low : rank first < rank whole) (few : n ≤ 2048) where
-  whole-ok : {x j : ℕ} {T₁ T₂ : List ℕ} {r₁ r : Answer} → ModePost first n n i T r₁ T₁ → r₁ ≡ At x j → RestPost rest n x j T₁ r T₂ → ModePost whole n n i T r T₂
+  whole-ok : {x j : ℕ} {T₁ T₂ : List ℕ} {r₁ r : Answer} → ModePost first n n i T r₁ T₁ → r₁ ≡ At x j → RestPost rest n x j T₁ r T₂
+      → ModePost whole n n i T r T₂
   whole-ok {x} {j} {T₁} {T₂} {r₁} {r} p e q =
       let w = within-ok e (p .within) in
       record {
@@ -135,7 +137,8 @@ module _ {n i : ℕ} {T T₁ : List ℕ} {r : Answer} where
   at-answer {m} e p = subst (λ (r : Answer). ModePost m n n i T r T₁) e p
 
 -- an operation that is refused is the first operand of a looser one, which is refused there too; d is how many levels lie between
-refused-below : {n i z : ℕ} {T T₁ : List ℕ} (d level top : ℕ) → top ≡ level + d → top ≤ 3 → n ≤ 2048 → ModePost (operation (levelAt top)) n n i T (Bad z) T₁
+refused-below : {n i z : ℕ} {T T₁ : List ℕ} (d level top : ℕ) → top ≡ level + d → top ≤ 3 → n ≤ 2048
+    → ModePost (operation (levelAt top)) n n i T (Bad z) T₁
     → ModePost (operation (levelAt level)) n n i T (Bad z) T₁
 refused-below zero level top e h few p = at-level (omega arith) p
 refused-below (suc d) level top e h few p = operation-bad few (operand-next level (omega arith) (refused-below d (level + 1) top (omega arith) h few p)) refl
@@ -153,14 +156,16 @@ module _ {n first left i : ℕ} {T T₁ : List ℕ} {r₁ : Answer} (level top :
   levels-bad e le = record { says = λ base o. refused-below (top - level) level top (omega arith) high few (at-answer e (operation-ok few o refl q)) }
 
 module _ {n i : ℕ} {T T₁ : List ℕ} {r₁ : Answer} (level : ℕ) (p : ModePost unary n n i T r₁ T₁) where
-  pub levels-ok : {x j : ℕ} {T₂ : List ℕ} {r : Answer} → r₁ ≡ At x j → LevelsPost level 3 n i x j T₁ r T₂ → ModePost (operation (levelAt level)) n n i T r T₂
+  pub levels-ok : {x j : ℕ} {T₂ : List ℕ} {r : Answer} → r₁ ≡ At x j → LevelsPost level 3 n i x j T₁ r T₂
+      → ModePost (operation (levelAt level)) n n i T r T₂
   levels-ok e q = q .says T (operand-last 3 (omega arith) (omega arith) (at-answer e p))
 
   pub unary-bad : {z : ℕ} → n ≤ 2048 → r₁ ≡ Bad z → level ≤ 3 → ModePost (operation (levelAt level)) n n i T (Bad z) T₁
   unary-bad few e le = refused-below (3 - level) level 3 (omega arith) (omega arith) few (operation-bad few (operand-last 3 (omega arith) (omega arith) p) e)
 
 -- what is no `new T[e]` is a primary and its suffixes
-not-array : (T : List ℕ) (n i : ℕ) → startsArray T n i ≡ false → (ts : List Token) → TokensIn T n ts → (P : (s : Sort) → Mode s → ℕ → Parsed (Part s))
+not-array : (T : List ℕ) (n i : ℕ) → startsArray T n i ≡ false → (ts : List Token) → TokensIn T n ts
+    → (P : (s : Sort) → Mode s → ℕ → Parsed (Part s))
     → step ts P postfix i ≡ bind (P expression primary i) (λ l j. P expression (suffixes true i l) j)
 unfolding step
 not-array T n i t ts h P = rw (makes-array T n i h ∙ t) refl
@@ -174,7 +179,8 @@ pub postfix-bad : {n i k : ℕ} {b : Bool} {T T₁ : List ℕ} {r₁ : Answer} �
 postfix-bad {n} {i} {T = T} few eb t p e = whole-bad postfix primary (moreSuffixes true i) (not-array T n i (sym eb ∙ t)) (omega arith) few p e
 
 -- WHAT FOLLOWS AN OPERAND
-is-binary : (p : Place) (o : Operator) (l r : Expression) (t : List ℕ) → store (binary p o l r) t ≡ node (store r (store l t)) (p .row) (p .start) (rowOf l) (rowOf r)
+is-binary : (p : Place) (o : Operator) (l r : Expression) (t : List ℕ)
+    → store (binary p o l r) t ≡ node (store r (store l t)) (p .row) (p .start) (rowOf l) (rowOf r)
 unfolding store
 is-binary p o l r t = refl
 
@@ -225,7 +231,8 @@ module _ (level : ℕ) {n first left i k : ℕ} {T : List ℕ} {b : Bool} (ek : 
 
 -- UNARY
 module _ {n i k : ℕ} {T : List ℕ} (ek : k ≡ kindInTable T n i) where
-  pub negation-is : {T₁ T₂ : List ℕ} {r₁ r : Answer} → n ≤ 2048 → k ≡ 29 → ModePost unary n n (i + 1) T r₁ T₁ → OnePart i T₁ r₁ r T₂ → ModePost unary n n i T r T₂
+  pub negation-is : {T₁ T₂ : List ℕ} {r₁ r : Answer} → n ≤ 2048 → k ≡ 29 → ModePost unary n n (i + 1) T r₁ T₁ → OnePart i T₁ r₁ r T₂
+      → ModePost unary n n i T r T₂
   unfolding step store
   negation-is few z p w =
       let il = there T n i k 29 ek z (omega arith) in

@@ -99,7 +99,8 @@ module _ {n name first second j : ℕ} {T T₁ : List ℕ} {r₁ r₂ : Answer} 
             (bind-bad _ e (then-token few (of-list (16 * (n - j) + 1) (omega arith) p) (omega arith) s .says ts h f en));
       }
 
-  pub body-ok : {x m : ℕ} {T₂ : List ℕ} {r : Answer} → r₂ ≡ At x m → ReturnedPost n name first second x m T₁ r T₂ → BodyPost n name first second j T r T₂
+  pub body-ok : {x m : ℕ} {T₂ : List ℕ} {r : Answer} → r₂ ≡ At x m → ReturnedPost n name first second x m T₁ r T₂
+      → BodyPost n name first second j T r T₂
   body-ok {x} {m} {r = r} e q =
       let o = then-token few (of-list (16 * (n - j) + 1) (omega arith) p) (omega arith) s in
       let w = within-ok e (o .within) in
@@ -114,7 +115,8 @@ module _ {n name first second j : ℕ} {T T₁ : List ℕ} {r₁ r₂ : Answer} 
 -- AFTER THE PARAMETERS
 
 -- a token before a piece, and what goes on after it
-headed : {A B : Type 0} (ts : List Token) (q j : ℕ) (k : ℕ → Parsed A) (g : A → ℕ → Parsed B) → (expect ts q j λ j. bind (k j) g) ≡ bind (expect ts q j k) g
+headed : {A B : Type 0} (ts : List Token) (q j : ℕ) (k : ℕ → Parsed A) (g : A → ℕ → Parsed B)
+    → (expect ts q j λ j. bind (k j) g) ≡ bind (expect ts q j k) g
 headed {A} {B} ts q j k g = go (eqb (kindAt ts j) q)
   where
     go : (b : Bool) → (if b then (λ _. bind (k (j + 1)) g) else λ _. bad j) ≡ bind (if b then (λ _. k (j + 1)) else λ _. bad j) g
@@ -130,7 +132,8 @@ module _ {n name first j : ℕ} {T T₁ : List ℕ} {r₁ : Answer} (p : OpenedP
         says = λ hd ps base _ _ _ ts h f en. at-result (headed ts 38 j (variablesFrom f false ts) (bodyFrom f ts hd ps)) (bind-bad _ e (p .piece .says ts h f en));
       }
 
-  pub locals-ok : {x m : ℕ} {T₂ : List ℕ} {r : Answer} → n ≤ 2048 → r₁ ≡ At x m → BodyPost n name first x m T₁ r T₂ → LocalsPost n name first j T r T₂
+  pub locals-ok : {x m : ℕ} {T₂ : List ℕ} {r : Answer} → n ≤ 2048 → r₁ ≡ At x m → BodyPost n name first x m T₁ r T₂
+      → LocalsPost n name first j T r T₂
   locals-ok {x} {m} {r = r} few e q =
       let w = within-ok e (p .piece .within) in
       record {
@@ -216,7 +219,8 @@ module _ {n i k : ℕ} {T : List ℕ} (ek : k ≡ kindInTable T n i) where
         (then-bad few (of-declaration (16 * (n - i) + 2) (omega arith) p) i 2049 (λ f ts m j. bind (methodsFrom f ts j) λ ms j. ok (m ∷ ms) j) e)
         (omega arith) (λ f ts h. rw (is h i ek z) refl)
 
-    pub methods-more : {x j : ℕ} {T₂ T₃ : List ℕ} {r₂ r : Answer} → r₁ ≡ At x j → DeclPost methodList n j T₁ r₂ T₂ → ListOf x T₂ r₂ r T₃ → DeclPost methodList n i T r T₃
+    pub methods-more : {x j : ℕ} {T₂ T₃ : List ℕ} {r₂ r : Answer} → r₁ ≡ At x j → DeclPost methodList n j T₁ r₂ T₂ → ListOf x T₂ r₂ r T₃
+        → DeclPost methodList n i T r T₃
     unfolding methodsFrom
     methods-more e q l =
         let w = within-ok e (p .within) in
@@ -256,7 +260,8 @@ module _ {n name above first j : ℕ} {T T₁ : List ℕ} {r₁ r₂ : Answer} (
             (bind-bad _ e (then-token few (of-declaration (16 * (n - j) + 3) (omega arith) p) (omega arith) s .says ts h f en));
       }
 
-  pub class-methods-ok : {x m : ℕ} {T₂ : List ℕ} → name < n → r₂ ≡ At x m → T₂ ≡ classRow T₁ name above first x → ClassMethodsPost n name above first j T (At name m) T₂
+  pub class-methods-ok : {x m : ℕ} {T₂ : List ℕ} → name < n → r₂ ≡ At x m → T₂ ≡ classRow T₁ name above first x
+      → ClassMethodsPost n name above first j T (At name m) T₂
   class-methods-ok {x} nl e eT =
       let o = then-token few (of-declaration (16 * (n - j) + 3) (omega arith) p) (omega arith) s in
       let w = within-ok e (o .within) in
@@ -279,7 +284,8 @@ module _ {n name above j : ℕ} {T T₁ : List ℕ} {r₁ : Answer} (p : OpenedP
         says = λ q _ ts h f en. at-result (headed ts 38 j (variablesFrom f true ts) (classMethodsFrom f ts (nameAt ts name) q)) (bind-bad _ e (p .piece .says ts h f en));
       }
 
-  pub members-ok : {x m : ℕ} {T₂ : List ℕ} {r : Answer} → n ≤ 2048 → r₁ ≡ At x m → ClassMethodsPost n name above x m T₁ r T₂ → MembersPost n name above j T r T₂
+  pub members-ok : {x m : ℕ} {T₂ : List ℕ} {r : Answer} → n ≤ 2048 → r₁ ≡ At x m → ClassMethodsPost n name above x m T₁ r T₂
+      → MembersPost n name above j T r T₂
   members-ok {x} {m} {r = r} few e s =
       let w = within-ok e (p .piece .within) in
       record {
@@ -345,7 +351,8 @@ module _ {n i k : ℕ} {T : List ℕ} (ek : k ≡ kindInTable T n i) where
         (then-bad few (of-declaration (16 * (n - i) + 3) (omega arith) p) i 2049 (λ f ts c j. bind (classesFrom f ts j) λ cs j. ok (c ∷ cs) j) e)
         (omega arith) (λ f ts h. rw (is-not h i ek z) refl)
 
-    pub classes-more : {x j : ℕ} {T₂ T₃ : List ℕ} {r₂ r : Answer} → r₁ ≡ At x j → DeclPost classList n j T₁ r₂ T₂ → ListOf x T₂ r₂ r T₃ → DeclPost classList n i T r T₃
+    pub classes-more : {x j : ℕ} {T₂ T₃ : List ℕ} {r₂ r : Answer} → r₁ ≡ At x j → DeclPost classList n j T₁ r₂ T₂ → ListOf x T₂ r₂ r T₃
+        → DeclPost classList n i T r T₃
     unfolding classesFrom
     classes-more e q l =
         let w = within-ok e (p .within) in
@@ -354,7 +361,8 @@ module _ {n i k : ℕ} {T : List ℕ} (ek : k ≡ kindInTable T n i) where
         (of-declaration (16 * (n - i) + 3) (omega arith) q) l) (omega arith) (λ f ts h. rw (is-not h i ek z) refl)
 
 -- THE PROGRAM
-is-program : (p : Program) (t : List ℕ) → storeProgram p t ≡ put (storeClasses (p .classes) (store (p .statement) t)) 6 0 (rowClasses (p .classes))
+is-program : (p : Program) (t : List ℕ)
+    → storeProgram p t ≡ put (storeClasses (p .classes) (store (p .statement) t)) 6 0 (rowClasses (p .classes))
 unfolding storeProgram
 is-program p t = refl
 
@@ -381,7 +389,8 @@ module _ {n k : ℕ} {T : List ℕ} (em : k ≡ matchedIn T n 0 mainHead) where
     main-part : PiecePost (part statement) (λ f ts. andToken ts 39 (andToken ts 39 (parseAs f ts aStatement 14))) (16 * n) 17 n n T r₃ T₁
     main-part = then-token few (then-token few (of-mode (16 * n) (omega arith) p) (omega arith) s) (omega arith) s₂
 
-    main-is : (f : ℕ) (ts : List Token) → TokensIn T n ts → programFrom f ts ≡ bind (andToken ts 39 (andToken ts 39 (parseAs f ts aStatement 14))) (others f ts)
+    main-is : (f : ℕ) (ts : List Token) → TokensIn T n ts
+        → programFrom f ts ≡ bind (andToken ts 39 (andToken ts 39 (parseAs f ts aStatement 14))) (others f ts)
     unfolding programFrom
     main-is f ts h = all-matched h 0 mainHead (mains f ts) (omega arith) ∙ regroup-two ts 39 39 (others f ts) (parseAs f ts aStatement 14)
 

@@ -83,7 +83,8 @@ member ts cons nil R a j =
     expect ts 32 j λ j. bind (R j) λ b j. ok (cons a b) j
 
 -- a token that follows is there
-pub follows-within : (low n top : ℕ) {T : List ℕ} {q : ℕ} {r r′ : Answer} → Follows T n q r r′ → 0 < q → Within low n top r → Within (low + 1) n top r′
+pub follows-within : (low n top : ℕ) {T : List ℕ} {q : ℕ} {r r′ : Answer} → Follows T n q r r′ → 0 < q → Within low n top r
+    → Within (low + 1) n top r′
 follows-within low n top {T} {q} (present {j = j} e) pos w = let l = there T n j _ q refl e pos in (omega (arith, w), omega (arith, w), w .2)
 follows-within low n top (missing e) pos w = tt
 follows-within low n top nothing pos w = tt
@@ -101,18 +102,21 @@ follows-fits nothing f = f
 
 -- a whole is as its part is
 module _ {row : ℕ} {write : ℕ → List ℕ} {T₁ : List ℕ} where
-  pub whole-kept : ((x : ℕ) → given (write x) ≡ given T₁) → {r r′ : Answer} {T₂ : List ℕ} → WholeOf row write T₁ r r′ T₂ → given T₂ ≡ given T₁
+  pub whole-kept : ((x : ℕ) → given (write x) ≡ given T₁) → {r r′ : Answer} {T₂ : List ℕ} → WholeOf row write T₁ r r′ T₂
+      → given T₂ ≡ given T₁
   whole-kept same (done {x = x}) = same x
   whole-kept same refused = refl
 
-  pub whole-within : (low low′ n top top′ : ℕ) → low′ ≤ low → row < top′ → {r r′ : Answer} {T₂ : List ℕ} → WholeOf row write T₁ r r′ T₂ → Within low n top r
+  pub whole-within : (low low′ n top top′ : ℕ) → low′ ≤ low → row < top′ → {r r′ : Answer} {T₂ : List ℕ} → WholeOf row write T₁ r r′ T₂
+      → Within low n top r
       → Within low′ n top′ r′
   whole-within low low′ n top top′ le less done w = (omega (arith, w), w .1, less)
   whole-within low low′ n top top′ le less refused w = tt
 
   pub whole-met : {A B : Type 0} {S : Stored A} {S′ : Stored B} {T base : List ℕ} (make : A → B)
       → ((a : A) → T₁ ≡ S .write a T → (row ≡ S′ .row (make a)) × (write (S .row a) ≡ S′ .write (make a) base))
-      → {r r′ : Answer} {T₂ : List ℕ} {res : Parsed A} → WholeOf row write T₁ r r′ T₂ → Met S T T₁ r res → Met S′ base T₂ r′ (bind res λ a j. ok (make a) j)
+      → {r r′ : Answer} {T₂ : List ℕ} {res : Parsed A} → WholeOf row write T₁ r r′ T₂ → Met S T T₁ r res
+      → Met S′ base T₂ r′ (bind res λ a j. ok (make a) j)
   whole-met make is-made done (met-ok {a = a} ea ta) = let m = is-made a ta in met-ok (m .0) (ap write ea ∙ m .1)
   whole-met make is-made refused met-bad = met-bad
 
@@ -139,7 +143,8 @@ module _ {A : Type 0} {S : Stored A} {P : ℕ → List Token → Parsed A} {enou
       → PiecePost S′ (λ f ts. bind (P f ts) (g f ts)) enough low′ n top′ T (Bad y) T₁
   then-bad low′ top′ g e = record { kept = p .kept; within = tt; says = λ ts h f en. bind-bad _ e (p .says ts h f en) }
 
-  pub then-on : {B : Type 0} {S′ : Stored B} {x j low′ top′ : ℕ} {r′ : Answer} {T₂ : List ℕ} (g : ℕ → List Token → A → ℕ → Parsed B) → r ≡ At x j
+  pub then-on : {B : Type 0} {S′ : Stored B} {x j low′ top′ : ℕ} {r′ : Answer} {T₂ : List ℕ} (g : ℕ → List Token → A → ℕ → Parsed B)
+      → r ≡ At x j
       → given T₂ ≡ given T₁ → Within low′ n top′ r′
       → ((ts : List Token) → TokensIn T₁ n ts → (f : ℕ) → enough < f → (a : A) → x ≡ S .row a → T₁ ≡ S .write a T → Met S′ T T₂ r′ (g f ts a j))
       → PiecePost S′ (λ f ts. bind (P f ts) (g f ts)) enough low′ n top′ T r′ T₂
@@ -181,7 +186,8 @@ module _ {A : Type 0} {S : Stored A} {P : ℕ → List Token → Parsed A} {enou
     no-member z z′ =
         then-on (λ f ts. member ts cons nil (R f ts)) e refl tt (λ ts h f en a ea ta. rw (is-not h j ek z, is-not h j ek z′) met-bad)
 
-    pub more-members : {low₂ : ℕ} {r₂ r′ : Answer} {T₂ T₃ : List ℕ} → k ≡ 32 → low ≤ low₂ → PiecePost L (λ f ts. R f ts (j + 1)) enough low₂ n 2049 T₁ r₂ T₂
+    pub more-members : {low₂ : ℕ} {r₂ r′ : Answer} {T₂ T₃ : List ℕ} → k ≡ 32 → low ≤ low₂
+        → PiecePost L (λ f ts. R f ts (j + 1)) enough low₂ n 2049 T₁ r₂ T₂
         → ListOf x T₂ r₂ r′ T₃ → PiecePost L (λ f ts. bind (P f ts) (member ts cons nil (R f ts))) enough low n 2049 T r′ T₃
     more-members {low₂} {T₂ = T₂} z le q s =
         let w = within-ok e (p .within) in
@@ -224,7 +230,8 @@ then-second {enough = enough} {low} {n} {i = i} {first} {x} {low₂ = low₂} {t
 
 -- the parsers of modes as pieces, and pieces as the parsers of modes
 module _ {s : Sort} {m : Mode s} {n top i : ℕ} {T T₁ : List ℕ} {r : Answer} where
-  pub of-mode : (enough : ℕ) → fuel m n i ≤ enough → ModePost m n top i T r T₁ → PiecePost (part s) (λ f ts. parseAs f ts m i) enough (i + 1) n top T r T₁
+  pub of-mode : (enough : ℕ) → fuel m n i ≤ enough → ModePost m n top i T r T₁
+      → PiecePost (part s) (λ f ts. parseAs f ts m i) enough (i + 1) n top T r T₁
   of-mode enough le p = record { kept = p .kept; within = p .within; says = λ ts h f en. p .says ts h f (omega arith) }
 
   pub as-mode : {P : ℕ → List Token → Parsed (Part s)} {enough low : ℕ} → enough < fuel m n i → i + 1 ≤ low
@@ -267,14 +274,16 @@ module _ {d : Declaration} {n i : ℕ} {T T₁ : List ℕ} {r : Answer} where
   of-declaration enough le p = record { kept = p .kept; within = p .within; says = λ ts h f en. p .says ts h f (omega arith) }
 
   module _ {P : ℕ → List Token → Parsed (Of d)} {enough low : ℕ} (le : lowOf d i ≤ low) (p : PiecePost (declarationStored d) P enough low n (topOf d n) T r T₁) where
-    pub as-declaration : enough ≤ 16 * (n - i) + rankOf d → ((f : ℕ) (ts : List Token) → TokensIn T n ts → itemFrom d f ts i ≡ P f ts) → DeclPost d n i T r T₁
+    pub as-declaration : enough ≤ 16 * (n - i) + rankOf d → ((f : ℕ) (ts : List Token) → TokensIn T n ts → itemFrom d f ts i ≡ P f ts)
+        → DeclPost d n i T r T₁
     as-declaration lt steps = record {
       kept = p .kept;
       within = within-more low (lowOf d i) n (topOf d n) (topOf d n) r le (omega arith) (p .within);
       says = λ ts h f en. at-result (steps f ts h) (p .says ts h f (omega arith));
     }
 
-    pub as-declarations : enough < 16 * (n - i) + rankOf d → ((f : ℕ) (ts : List Token) → TokensIn T n ts → itemFrom d (suc f) ts i ≡ P f ts) → DeclPost d n i T r T₁
+    pub as-declarations : enough < 16 * (n - i) + rankOf d
+        → ((f : ℕ) (ts : List Token) → TokensIn T n ts → itemFrom d (suc f) ts i ≡ P f ts) → DeclPost d n i T r T₁
     as-declarations lt steps = record {
       kept = p .kept;
       within = within-more low (lowOf d i) n (topOf d n) (topOf d n) r le (omega arith) (p .within);

@@ -120,7 +120,8 @@ is-length : (p : Place) (a : Expression) (t : List ℕ) → store (arrayLength p
 unfolding store
 is-length p a t = refl
 
-is-element : (p : Place) (a i : Expression) (t : List ℕ) → store (element p a i) t ≡ node (store i (store a t)) (p .row) (p .start) (rowOf a) (rowOf i)
+is-element : (p : Place) (a i : Expression) (t : List ℕ)
+    → store (element p a i) t ≡ node (store i (store a t)) (p .row) (p .start) (rowOf a) (rowOf i)
 unfolding store
 is-element p a i t = refl
 
@@ -143,8 +144,10 @@ module _ {n first left i : ℕ} {T : List ℕ} where
         says = λ l base el et ts h. stepped (suffixes b first l) ts i (16 * (n - i)) (λ f enough. rw (is h i ek z, t) met-bad);
       }
 
-  pub suffix-length : {k k′ : ℕ} {b : Bool} {T₁ T₂ : List ℕ} {r : Answer} → n ≤ 2048 → first < n → k ≡ kindInTable T n i → k ≡ 31 → k′ ≡ kindInTable T n (i + 1) → k′ ≡ 12
-      → T₁ ≡ node T i (col T 1 first) left 2048 → RestPost (moreSuffixes true first) n i (i + 2) T₁ r T₂ → RestPost (moreSuffixes b first) n left i T r T₂
+  pub suffix-length : {k k′ : ℕ} {b : Bool} {T₁ T₂ : List ℕ} {r : Answer} → n ≤ 2048 → first < n → k ≡ kindInTable T n i → k ≡ 31
+      → k′ ≡ kindInTable T n (i + 1) → k′ ≡ 12
+      → T₁ ≡ node T i (col T 1 first) left 2048 → RestPost (moreSuffixes true first) n i (i + 2) T₁ r T₂
+      → RestPost (moreSuffixes b first) n left i T r T₂
   unfolding step
   suffix-length {k} {k′} {b} {T₁} {T₂} {r} few lt ek z ek′ z′ eT q =
       let jl = there T n (i + 1) k′ 12 ek′ z′ (omega arith) in
@@ -157,7 +160,8 @@ module _ {n first left i : ℕ} {T : List ℕ} where
             ts (tokens-kept few same h) f (omega arith)));
       }
 
-  pub suffix-none : {k : ℕ} {b : Bool} → i ≤ n → left < n → k ≡ kindInTable T n i → k ≢ 36 → k ≢ 31 → RestPost (moreSuffixes b first) n left i T (At left i) T
+  pub suffix-none : {k : ℕ} {b : Bool} → i ≤ n → left < n → k ≡ kindInTable T n i → k ≢ 36 → k ≢ 31
+      → RestPost (moreSuffixes b first) n left i T (At left i) T
   unfolding step
   suffix-none {k} {b} le lt ek z z′ =
       record {
@@ -202,8 +206,10 @@ module _ {n first left i : ℕ} {T : List ℕ} where
 
   -- `.m(e, ..)`
   module _ {b : Bool} (z : kindInTable T n i ≡ 31) (z₁ : kindInTable T n (i + 1) ≡ 12 → ⊥) where
-    pub call-ok : {k k₂ x j : ℕ} {c : Bool} {T₁ T₂ T₃ : List ℕ} {r₁ r : Answer} → n ≤ 2048 → first < n → k ≡ kindInTable T n (i + 1) → c ≡ isName k → c ≡ true
-        → k₂ ≡ kindInTable T n (i + 2) → k₂ ≡ 34 → ModePost argumentList n 2049 (i + 3) T r₁ T₁ → r₁ ≡ At x j → T₂ ≡ node T₁ i (col T₁ 1 first) left x
+    pub call-ok : {k k₂ x j : ℕ} {c : Bool} {T₁ T₂ T₃ : List ℕ} {r₁ r : Answer} → n ≤ 2048 → first < n → k ≡ kindInTable T n (i + 1)
+        → c ≡ isName k → c ≡ true
+        → k₂ ≡ kindInTable T n (i + 2) → k₂ ≡ 34 → ModePost argumentList n 2049 (i + 3) T r₁ T₁ → r₁ ≡ At x j
+        → T₂ ≡ node T₁ i (col T₁ 1 first) left x
         → RestPost (moreSuffixes true first) n i j T₂ r T₃ → RestPost (moreSuffixes b first) n left i T r T₃
     unfolding step
     call-ok {k} {k₂} {x} {j} {c} {T₁} {T₂} {T₃} {r₁} {r} few lt ek ec t ek₂ z₂ p e eT q =
@@ -221,7 +227,8 @@ module _ {n first left i : ℕ} {T : List ℕ} where
         }
 
     pub call-bad : {k k₂ y : ℕ} {c : Bool} {T₁ : List ℕ} {r₁ : Answer} → k ≡ kindInTable T n (i + 1) → c ≡ isName k → c ≡ true
-        → k₂ ≡ kindInTable T n (i + 2) → k₂ ≡ 34 → ModePost argumentList n 2049 (i + 3) T r₁ T₁ → r₁ ≡ Bad y → RestPost (moreSuffixes b first) n left i T (Bad y) T₁
+        → k₂ ≡ kindInTable T n (i + 2) → k₂ ≡ 34 → ModePost argumentList n 2049 (i + 3) T r₁ T₁ → r₁ ≡ Bad y
+        → RestPost (moreSuffixes b first) n left i T (Bad y) T₁
     unfolding step
     call-bad {k} {k₂} {y} {c} {T₁} {r₁} ek ec t ek₂ z₂ p e =
         let il = there T n (i + 2) k₂ 34 ek₂ z₂ (omega arith) in
@@ -243,7 +250,8 @@ module _ {n first left i : ℕ} {T : List ℕ} where
               rw (is h i refl z, is-not h (i + 1) refl z₁, passes h isName (i + 1) ek (sym ec ∙ t), plus-two i, is-not h (i + 2) ek₂ z₂) met-bad);
         }
 
-    pub call-name : {k : ℕ} {c : Bool} → k ≡ kindInTable T n (i + 1) → c ≡ isName k → c ≡ false → RestPost (moreSuffixes b first) n left i T (Bad (i + 1)) T
+    pub call-name : {k : ℕ} {c : Bool} → k ≡ kindInTable T n (i + 1) → c ≡ isName k → c ≡ false
+        → RestPost (moreSuffixes b first) n left i T (Bad (i + 1)) T
     unfolding step
     call-name {k} {c} ek ec t =
         record {
@@ -332,7 +340,8 @@ module _ {n i : ℕ} {T : List ℕ} where
             at-result (o .read) (met-ok (o .row) (made T₁ i i 2048 2048 h il eT ∙ sym (o .lies T))));
       }
 
-  pub no-primary : {k : ℕ} {b : Bool} → k ≡ kindInTable T n i → b ≡ isAtom k → b ≡ false → k ≢ 14 → k ≢ 34 → ModePost primary n n i T (Bad i) T
+  pub no-primary : {k : ℕ} {b : Bool} → k ≡ kindInTable T n i → b ≡ isAtom k → b ≡ false → k ≢ 14 → k ≢ 34
+      → ModePost primary n n i T (Bad i) T
   unfolding step isAtom
   no-primary {k} {b} ek eb t z z′ =
       let q₄ = neither (eqb k 4 || eqb k 21 || eqb k 9 || eqb k 20) (isName k) (sym eb ∙ t) in
@@ -361,7 +370,8 @@ module _ {n i : ℕ} {T : List ℕ} where
               (met-ok refl (made T₁ i i 2048 2048 h (omega arith) eT ∙ sym (is-new-object (placeAt ts i i) (nameAt ts (i + 1)) T))));
         }
 
-    pub object-close : {k₂ k₃ : ℕ} → c ≡ true → k₂ ≡ kindInTable T n (i + 2) → k₂ ≡ 34 → k₃ ≡ kindInTable T n (i + 3) → k₃ ≢ 35 → ModePost primary n n i T (Bad (i + 3)) T
+    pub object-close : {k₂ k₃ : ℕ} → c ≡ true → k₂ ≡ kindInTable T n (i + 2) → k₂ ≡ 34 → k₃ ≡ kindInTable T n (i + 3) → k₃ ≢ 35
+        → ModePost primary n n i T (Bad (i + 3)) T
     unfolding step isName
     object-close t ek₂ z₂ ek₃ z₃ =
         record {
@@ -392,7 +402,8 @@ module _ {n i : ℕ} {T : List ℕ} where
 
   -- `(e)`
   module _ (z : kindInTable T n i ≡ 34) where
-    pub parentheses-ok : {x j k : ℕ} {T₁ : List ℕ} {r₁ : Answer} → n ≤ 2048 → ModePost (operation (levelAt 0)) n n (i + 1) T r₁ T₁ → r₁ ≡ At x j
+    pub parentheses-ok : {x j k : ℕ} {T₁ : List ℕ} {r₁ : Answer} → n ≤ 2048 → ModePost (operation (levelAt 0)) n n (i + 1) T r₁ T₁
+        → r₁ ≡ At x j
         → k ≡ kindInTable T₁ n j → k ≡ 35 → ModePost primary n n i T (At x (j + 1)) T₁
     unfolding step levelAt isName
     parentheses-ok {x} {j} {k} {T₁} {r₁} few p e ek z′ =
@@ -406,7 +417,8 @@ module _ {n i : ℕ} {T : List ℕ} where
               (bind-ok _ e (p .says ts h f (omega arith)) (λ a ea ta. rw (is (tokens-kept few (p .kept) h) j ek z′) (met-ok ea ta))));
         }
 
-    pub parentheses-close : {x j k : ℕ} {T₁ : List ℕ} {r₁ : Answer} → n ≤ 2048 → ModePost (operation (levelAt 0)) n n (i + 1) T r₁ T₁ → r₁ ≡ At x j
+    pub parentheses-close : {x j k : ℕ} {T₁ : List ℕ} {r₁ : Answer} → n ≤ 2048 → ModePost (operation (levelAt 0)) n n (i + 1) T r₁ T₁
+        → r₁ ≡ At x j
         → k ≡ kindInTable T₁ n j → k ≢ 35 → ModePost primary n n i T (Bad j) T₁
     unfolding step levelAt isName
     parentheses-close {x} {j} {k} {T₁} {r₁} few p e ek z′ =
@@ -418,7 +430,8 @@ module _ {n i : ℕ} {T : List ℕ} where
               (bind-ok _ e (p .says ts h f (omega arith)) (λ a ea ta. rw (is-not (tokens-kept few (p .kept) h) j ek z′) met-bad)));
         }
 
-    pub parentheses-bad : {k : ℕ} {T₁ : List ℕ} {r₁ : Answer} → ModePost (operation (levelAt 0)) n n (i + 1) T r₁ T₁ → r₁ ≡ Bad k → ModePost primary n n i T (Bad k) T₁
+    pub parentheses-bad : {k : ℕ} {T₁ : List ℕ} {r₁ : Answer} → ModePost (operation (levelAt 0)) n n (i + 1) T r₁ T₁ → r₁ ≡ Bad k
+        → ModePost primary n n i T (Bad k) T₁
     unfolding step levelAt isName
     parentheses-bad p e =
         let il = there T n i _ 34 refl z (omega arith) in

@@ -53,7 +53,8 @@ module _ {n i k : ℕ} {T : List ℕ} {b : Bool} (ek : k ≡ kindInTable T n i) 
         as-list (omega arith) (omega arith) (λ f ts h. rw (passes h beginsStatement i ek (sym eb ∙ t)) refl)
         (then-bad few (of-mode (16 * (n - i)) (omega arith) p) i 2049 (λ f ts a j. bind (parseAs f ts statementList j) λ c j. ok (sequence a c) j) e)
 
-    pub list-more : {x j : ℕ} {T₂ T₃ : List ℕ} {r₂ r : Answer} → r₁ ≡ At x j → ListPost n j T₁ r₂ T₂ → ListOf x T₂ r₂ r T₃ → ListPost n i T r T₃
+    pub list-more : {x j : ℕ} {T₂ T₃ : List ℕ} {r₂ r : Answer} → r₁ ≡ At x j → ListPost n j T₁ r₂ T₂ → ListOf x T₂ r₂ r T₃
+        → ListPost n i T r T₃
     unfolding step store
     list-more {j = j} e q s =
         let w = within-ok e (p .within) in
@@ -62,7 +63,8 @@ module _ {n i k : ℕ} {T : List ℕ} {b : Bool} (ek : k ≡ kindInTable T n i) 
         (of-list (16 * (n - i)) (omega arith) q) s)
 
 -- BLOCKS
-pub block-is : {n i : ℕ} {T T₁ T₂ : List ℕ} {r₁ r₂ r : Answer} → n ≤ 2048 → kindInTable T n i ≡ 38 → ListPost n (i + 1) T r₁ T₁ → Follows T₁ n 39 r₁ r₂
+pub block-is : {n i : ℕ} {T T₁ T₂ : List ℕ} {r₁ r₂ r : Answer} → n ≤ 2048 → kindInTable T n i ≡ 38 → ListPost n (i + 1) T r₁ T₁
+    → Follows T₁ n 39 r₁ r₂
     → OnePart i T₁ r₂ r T₂ → ModePost aStatement n n i T r T₂
 unfolding step store
 block-is {n} {i} {T} few z p s w =
@@ -75,7 +77,8 @@ module _ {n i k : ℕ} {T : List ℕ} (ek : k ≡ kindInTable T n (i + 1)) where
   pub test-open : k ≢ 34 → TestPost n i T (Bad (i + 1)) T
   test-open z = record { piece = record { kept = refl; within = tt; says = λ ts h f enough. rw (is-not h (i + 1) ek z) met-bad } }
 
-  pub test-ok : {T₁ : List ℕ} {r₁ r : Answer} → n ≤ 2048 → k ≡ 34 → ModePost (operation (levelAt 0)) n n (i + 2) T r₁ T₁ → Follows T₁ n 35 r₁ r → TestPost n i T r T₁
+  pub test-ok : {T₁ : List ℕ} {r₁ r : Answer} → n ≤ 2048 → k ≡ 34 → ModePost (operation (levelAt 0)) n n (i + 2) T r₁ T₁
+      → Follows T₁ n 35 r₁ r → TestPost n i T r T₁
   unfolding levelAt
   test-ok few z p s =
       record {
@@ -120,7 +123,8 @@ module _ {n i : ℕ} {T T₁ : List ℕ} {r₁ : Answer} (few : n ≤ 2048) (p :
   pub while-bad : {y : ℕ} → kindInTable T n i ≡ 23 → r₁ ≡ Bad y → ModePost aStatement n n i T (Bad y) T₁
   while-bad z e = test-bad few z (omega arith) p (λ f ts. repeatedFrom ts (λ s m j. parseAs f ts m j) i) (while-steps i) e
 
-  pub conditional-ok : {x j : ℕ} {T₂ : List ℕ} {r : Answer} → kindInTable T n i ≡ 10 → r₁ ≡ At x j → BranchesPost n i x j T₁ r T₂ → ModePost aStatement n n i T r T₂
+  pub conditional-ok : {x j : ℕ} {T₂ : List ℕ} {r : Answer} → kindInTable T n i ≡ 10 → r₁ ≡ At x j → BranchesPost n i x j T₁ r T₂
+      → ModePost aStatement n n i T r T₂
   conditional-ok {x} {j} {r = r} z e q =
       let il = there T n i _ 10 refl z (omega arith) in
       let w = within-ok e (p .piece .within) in
@@ -128,7 +132,8 @@ module _ {n i : ℕ} {T T₁ : List ℕ} {r₁ : Answer} (few : n ≤ 2048) (p :
       (then-on few (p .piece) (λ f ts. branchesFrom ts (λ s m j. parseAs f ts m j) i) e (q .kept) (within-more (j + 1) (i + 1) n n n r (omega arith) (omega arith) (q .within))
       (λ ts h f en a ea ta. q .says a T ea ta ts h f (omega arith)))
 
-  pub while-ok : {x j : ℕ} {T₂ T₃ : List ℕ} {r₂ r : Answer} → kindInTable T n i ≡ 23 → r₁ ≡ At x j → ModePost aStatement n n j T₁ r₂ T₂ → TwoParts i i x T₂ r₂ r T₃
+  pub while-ok : {x j : ℕ} {T₂ T₃ : List ℕ} {r₂ r : Answer} → kindInTable T n i ≡ 23 → r₁ ≡ At x j → ModePost aStatement n n j T₁ r₂ T₂
+      → TwoParts i i x T₂ r₂ r T₃
       → ModePost aStatement n n i T r T₃
   unfolding store
   while-ok z e q s =
@@ -212,7 +217,8 @@ module _ {n i m : ℕ} {T : List ℕ} (z : kindInTable T n i ≡ 19) (em : m ≡
             at-result (is-printing ts _ i (is h i refl z) ∙ not-matched h (i + 1) printHead (printing ts (λ s m j. parseAs f ts m j) i) (omega arith) ∙ ap bad (omega arith)) met-bad);
       }
 
-  pub print-ok : {T₁ T₂ : List ℕ} {r₁ r₂ r₃ r : Answer} → n ≤ 2048 → 5 ≤ m → ModePost (operation (levelAt 0)) n n (i + 6) T r₁ T₁ → Follows T₁ n 35 r₁ r₂
+  pub print-ok : {T₁ T₂ : List ℕ} {r₁ r₂ r₃ r : Answer} → n ≤ 2048 → 5 ≤ m → ModePost (operation (levelAt 0)) n n (i + 6) T r₁ T₁
+      → Follows T₁ n 35 r₁ r₂
       → Follows T₁ n 33 r₂ r₃ → OnePart i T₁ r₃ r T₂ → ModePost aStatement n n i T r T₂
   unfolding levelAt store
   print-ok few l p s s₂ w =
@@ -240,7 +246,8 @@ module _ (ts : List Token) (P : (s : Sort) → Mode s → ℕ → Parsed (Part s
       rw (ne-eqb (kindAt ts i) 38 (omega arith), ne-eqb (kindAt ts i) 10 (omega arith), ne-eqb (kindAt ts i) 23 (omega arith), ne-eqb (kindAt ts i) 19 (omega arith), t, e) refl
 
 -- what a name's token is
-of-name : {T : List ℕ} {n : ℕ} {ts : List Token} (h : TokensIn T n ts) (i : ℕ) → isName (kindInTable T n i) ≡ true → isName (kindAt ts i) ≡ true
+of-name : {T : List ℕ} {n : ℕ} {ts : List Token} (h : TokensIn T n ts) (i : ℕ) → isName (kindInTable T n i) ≡ true
+    → isName (kindAt ts i) ≡ true
 of-name h i t = ap isName (sym (h .kinds i)) ∙ t
 
 module _ {n i k : ℕ} {T : List ℕ} (t : isName (kindInTable T n i) ≡ true) (ek : k ≡ kindInTable T n (i + 1)) where
@@ -253,7 +260,8 @@ module _ {n i k : ℕ} {T : List ℕ} (t : isName (kindInTable T n i) ≡ true) 
             at-result (is-assignment ts _ i (of-name h i t) (is-not h (i + 1) ek z)) (rw (is-not h (i + 1) ek z′) met-bad));
       }
 
-  pub assign-ok : {T₁ T₂ : List ℕ} {r₁ r₂ r : Answer} → n ≤ 2048 → k ≡ 30 → ModePost (operation (levelAt 0)) n n (i + 2) T r₁ T₁ → Follows T₁ n 33 r₁ r₂
+  pub assign-ok : {T₁ T₂ : List ℕ} {r₁ r₂ r : Answer} → n ≤ 2048 → k ≡ 30 → ModePost (operation (levelAt 0)) n n (i + 2) T r₁ T₁
+      → Follows T₁ n 33 r₁ r₂
       → OnePart i T₁ r₂ r T₂ → ModePost aStatement n n i T r T₂
   unfolding levelAt store
   assign-ok few z p s w =
@@ -289,7 +297,8 @@ module _ {n i : ℕ} {T T₁ : List ℕ} {r₁ r₂ r₃ : Answer} (few : n ≤ 
       let il = there T n (i + 1) _ 36 refl z (omega arith) in
       as-mode (omega arith) (omega arith) (as-element n i t z) (then-bad few (index-part n i few p s s₂) (i + 1) n (assigning i) e)
 
-  pub value-ok : {x j : ℕ} {T₂ T₃ : List ℕ} {r₄ r₅ r : Answer} → r₃ ≡ At x j → ModePost (operation (levelAt 0)) n n j T₁ r₄ T₂ → Follows T₂ n 33 r₄ r₅
+  pub value-ok : {x j : ℕ} {T₂ T₃ : List ℕ} {r₄ r₅ r : Answer} → r₃ ≡ At x j → ModePost (operation (levelAt 0)) n n j T₁ r₄ T₂
+      → Follows T₂ n 33 r₄ r₅
       → TwoParts i i x T₂ r₅ r T₃ → ModePost aStatement n n i T r T₃
   unfolding levelAt store
   value-ok e q s₃ w₃ =
@@ -303,7 +312,8 @@ module _ {n i : ℕ} {T T₁ : List ℕ} {r₁ r₂ r₃ : Answer} (few : n ≤ 
       (then-token few (of-mode (after n i) (omega arith) q) (omega arith) s₃) w₃)
 
 -- NO STATEMENT
-pub no-statement : {n i k : ℕ} {T : List ℕ} {b : Bool} → k ≡ kindInTable T n i → k ≢ 38 → k ≢ 10 → k ≢ 23 → k ≢ 19 → b ≡ isName k → b ≡ false
+pub no-statement : {n i k : ℕ} {T : List ℕ} {b : Bool} → k ≡ kindInTable T n i → k ≢ 38 → k ≢ 10 → k ≢ 23 → k ≢ 19 → b ≡ isName k
+    → b ≡ false
     → ModePost aStatement n n i T (Bad i) T
 unfolding step
 no-statement {i = i} ek z₁ z₂ z₃ z₄ eb t =

@@ -119,7 +119,8 @@ module _ (T : List ℕ) (c : Bool) (n i : ℕ) where
     unfolding followsType
     follows-other t′ z = rw (t, ← ek, sym eb ∙ t′, ne-eqb k 36 z) refl
 
-  pub starts-here : {k : ℕ} {b b′ : Bool} → b ≡ followsType T c n (i + 1) → k ≡ kindInTable T n i → b′ ≡ beginsType k b → b′ ≡ startsVariable T c n i
+  pub starts-here : {k : ℕ} {b b′ : Bool} → b ≡ followsType T c n (i + 1) → k ≡ kindInTable T n i → b′ ≡ beginsType k b
+      → b′ ≡ startsVariable T c n i
   unfolding startsVariable
   starts-here eb ek eb′ = rw (← ek, ← eb) eb′
 
@@ -164,7 +165,8 @@ module _ {n i : ℕ} {T : List ℕ} {c : Bool} where
         as-declarations (omega arith) (then-bad few (first-variable few p s) i 2049 (λ f ts v j. bind (variablesFrom f c ts j) λ vs j. ok (v ∷ vs) j) e)
         (omega arith) (more-variables T c n i (sym eb ∙ t))
 
-    pub variables-more : {x j : ℕ} {T₂ T₃ : List ℕ} {r₃ r : Answer} → r₂ ≡ At x j → DeclPost (variableList c) n j T₁ r₃ T₂ → ListOf x T₂ r₃ r T₃
+    pub variables-more : {x j : ℕ} {T₂ T₃ : List ℕ} {r₃ r : Answer} → r₂ ≡ At x j → DeclPost (variableList c) n j T₁ r₃ T₂
+        → ListOf x T₂ r₃ r T₃
         → DeclPost (variableList c) n i T r T₃
     variables-more e q l =
         let w = within-ok e (first-variable few p s .within) in
@@ -183,7 +185,8 @@ module _ {c : Bool} {n j k : ℕ} {T : List ℕ} (ek : k ≡ kindInTable T n j) 
       record { piece = as-piece (omega arith) (omega arith) (λ f ts h. rw (is h j ek z) refl) (of-declaration (16 * (n - j)) (omega arith) p) }
 
 -- PARAMETERS
-some-parameters : (f : ℕ) (ts : List Token) (i : ℕ) → someParameters (suc f) ts i ≡ bind (variableFrom ts i) (member ts _∷_ [] (someParameters f ts))
+some-parameters : (f : ℕ) (ts : List Token) (i : ℕ)
+    → someParameters (suc f) ts i ≡ bind (variableFrom ts i) (member ts _∷_ [] (someParameters f ts))
 unfolding someParameters
 some-parameters f ts i = refl
 

@@ -28,13 +28,15 @@ module _ {tab : List ℕ} {n row : ℕ} {w : Walked} where
   unfolding HoldsMethods MethodsMatch MethodsOrdered methodsDeep methodsNodes
   methods-absent r far c p = record { says = λ ts tok ms. go ts tok ms }
     where
-      go : (ts : List Token) → TokensIn tab n ts → (ms : List Method) → rowMethods ms ≡ row → HoldsMethods tab ms → MethodsMatch ts ms → MethodsOrdered ms
+      go : (ts : List Token) → TokensIn tab n ts → (ms : List Method) → rowMethods ms ≡ row → HoldsMethods tab ms → MethodsMatch ts ms
+          → MethodsOrdered ms
           → WalkAnswers (methodsDeep ms) (methodsNodes ms) w
       go ts tok [] e h m o = nothing c p
       go ts tok (x ∷ xs) e h m o = absurd (omega (arith, m .0 .after .there, tok .count, r .few))
 
   -- nothing was walked yet
-  pub methods-none : {all rest : Walked} → all .count ≡ 0 → all .place ≡ nowhere → WalksMethods tab n row rest → Joins all rest w → WalksMethods tab n row w
+  pub methods-none : {all rest : Walked} → all .count ≡ 0 → all .place ≡ nowhere → WalksMethods tab n row rest → Joins all rest w
+      → WalksMethods tab n row w
   methods-none c p k j = record { says = λ ts tok ms e h m o. joined-nothing c p (k .says ts tok ms e h m o) j }
 
   module _ (near : row < 2047) where
@@ -53,7 +55,8 @@ module _ {tab : List ℕ} {n row : ℕ} {w : Walked} where
       unfolding HoldsMethods MethodsMatch MethodsOrdered methodsDeep methodsNodes
       methods-more k = record { says = λ ts tok ms. go ts tok ms }
         where
-          go : (ts : List Token) → TokensIn tab n ts → (ms : List Method) → rowMethods ms ≡ row → HoldsMethods tab ms → MethodsMatch ts ms → MethodsOrdered ms
+          go : (ts : List Token) → TokensIn tab n ts → (ms : List Method) → rowMethods ms ≡ row → HoldsMethods tab ms
+              → MethodsMatch ts ms → MethodsOrdered ms
               → WalkAnswers (methodsDeep ms) (methodsNodes ms) w
           go ts tok [] e h m o = absurd (omega arith)
           go ts tok (x ∷ xs) e h m o =
@@ -77,13 +80,15 @@ module _ {tab : List ℕ} {n row : ℕ} {w : Walked} where
   unfolding HoldsClasses ClassesMatch ClassesOrdered classesDeep classesNodes
   classes-absent r far c p = record { says = λ ts tok ks. go ts tok ks }
     where
-      go : (ts : List Token) → TokensIn tab n ts → (ks : List Class) → rowClasses ks ≡ row → HoldsClasses tab ks → ClassesMatch ts ks → ClassesOrdered ks
+      go : (ts : List Token) → TokensIn tab n ts → (ks : List Class) → rowClasses ks ≡ row → HoldsClasses tab ks → ClassesMatch ts ks
+          → ClassesOrdered ks
           → WalkAnswers (classesDeep ks) (classesNodes ks) w
       go ts tok [] e h m o = nothing c p
       go ts tok (x ∷ xs) e h m o = absurd (omega (arith, m .0 .name .token .there, tok .count, r .few))
 
   -- nothing was walked yet
-  pub classes-none : {all rest : Walked} → all .count ≡ 0 → all .place ≡ nowhere → WalksClasses tab n row rest → Joins all rest w → WalksClasses tab n row w
+  pub classes-none : {all rest : Walked} → all .count ≡ 0 → all .place ≡ nowhere → WalksClasses tab n row rest → Joins all rest w
+      → WalksClasses tab n row w
   classes-none c p k j = record { says = λ ts tok ks e h m o. joined-nothing c p (k .says ts tok ks e h m o) j }
 
   module _ (near : row < absent) where
@@ -101,7 +106,8 @@ module _ {tab : List ℕ} {n row : ℕ} {w : Walked} where
       unfolding HoldsClasses ClassesMatch ClassesOrdered classesDeep classesNodes
       classes-more k = record { says = λ ts tok ks. go ts tok ks }
         where
-          go : (ts : List Token) → TokensIn tab n ts → (ks : List Class) → rowClasses ks ≡ row → HoldsClasses tab ks → ClassesMatch ts ks → ClassesOrdered ks
+          go : (ts : List Token) → TokensIn tab n ts → (ks : List Class) → rowClasses ks ≡ row → HoldsClasses tab ks → ClassesMatch ts ks
+              → ClassesOrdered ks
               → WalkAnswers (classesDeep ks) (classesNodes ks) w
           go ts tok [] e h m o = absurd (omega arith)
           go ts tok (x ∷ xs) e h m o =
@@ -117,10 +123,12 @@ module _ {tab : List ℕ} {n row : ℕ} {w : Walked} where
 
 -- THE PROGRAM
 
-exactly : {first : Option ℕ} {many : ℕ} {w : Walked} → many ≤ countMost → WalkAnswers first many w → FoundPlace first (w .place) × (first ≡ none → w .count ≡ many)
+exactly : {first : Option ℕ} {many : ℕ} {w : Walked} → many ≤ countMost → WalkAnswers first many w
+    → FoundPlace first (w .place) × (first ≡ none → w .count ≡ many)
 exactly few h = (h .place, λ e. omega (arith, h .count e))
 
-pub program-whole : {tab : List ℕ} {n first : ℕ} {main rest w : Walked} → Walks tab n false 14 1 main → first ≡ col tab 6 0 → WalksClasses tab n first rest
+pub program-whole : {tab : List ℕ} {n first : ℕ} {main rest w : Walked} → Walks tab n false 14 1 main → first ≡ col tab 6 0
+    → WalksClasses tab n first rest
     → Joins main rest w → WalksProgram tab n w
 unfolding programDeep programNodes
 program-whole f e g j =

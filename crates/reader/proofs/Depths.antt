@@ -136,7 +136,8 @@ Encloses a w = (w .count ≡ min (1 + a .count) countMost) × (w .place ≡ a .p
 pub nothing : {w : Walked} → w .count ≡ 0 → w .place ≡ nowhere → WalkAnswers none 0 w
 nothing c p = record { place = p; count = λ _. omega arith }
 
-pub joined : {x y : Option ℕ} {k l : ℕ} {a b w : Walked} → WalkAnswers x k a → WalkAnswers y l b → Joins a b w → WalkAnswers (least x y) (k + l) w
+pub joined : {x y : Option ℕ} {k l : ℕ} {a b w : Walked} → WalkAnswers x k a → WalkAnswers y l b → Joins a b w
+    → WalkAnswers (least x y) (k + l) w
 joined {x} {y} {k} {l} {a} {b} {w} h g j =
     record {
       place = found-at (least x y) _ _ (sym (j .1)) (found-least x y _ _ (h .place) (g .place));
@@ -155,5 +156,6 @@ pub same-answer : {x y : Option ℕ} {k l : ℕ} {w : Walked} → x ≡ y → k 
 same-answer {x} {y} {k} {l} {w} e q h = subst (λ (o : Option ℕ). WalkAnswers o l w) e (subst (λ (m : ℕ). WalkAnswers x m w) q h)
 
 -- where one part is nothing, two answer what the other does
-pub joined-nothing : {x : Option ℕ} {k : ℕ} {a b w : Walked} → a .count ≡ 0 → a .place ≡ nowhere → WalkAnswers x k b → Joins a b w → WalkAnswers x k w
+pub joined-nothing : {x : Option ℕ} {k : ℕ} {a b w : Walked} → a .count ≡ 0 → a .place ≡ nowhere → WalkAnswers x k b → Joins a b w
+    → WalkAnswers x k w
 joined-nothing {x} c p h j = same-answer {x = x} refl (omega arith) (joined (nothing c p) h j)

@@ -83,12 +83,14 @@ module _ {tab : List ℕ} {n : ℕ} {w : Walked} (h : WalksProgram tab n w) wher
 -- FROM TOKENS TO THE TREE
 
 -- what the last stage answered is what reading answers
-filled : (s : List ℕ) (ts : List Token) → length s ≤ sourceMost → tokens s ≡ accepted ts → (j : ℕ) (p : Program) → parse ts ≡ ok p j → {a : Filled} {tab : List ℕ}
+filled : (s : List ℕ) (ts : List Token) → length s ≤ sourceMost → tokens s ≡ accepted ts → (j : ℕ) (p : Program) → parse ts ≡ ok p j
+    → {a : Filled} {tab : List ℕ}
     → a ≡ option (programDeep p) (Tree (length ts) (programNodes p)) (λ at. Refused tooDeep at)
     → Filling tab (record { stream = ts; tree = p }) → Fills (reading s) a tab
 filled s ts short lexed j p q {a} {tab} is f = go (programDeep p) refl is
   where
-    go : (o : Option ℕ) → programDeep p ≡ o → a ≡ option o (Tree (length ts) (programNodes p)) (λ at. Refused tooDeep at) → Fills (reading s) a tab
+    go : (o : Option ℕ) → programDeep p ≡ o → a ≡ option o (Tree (length ts) (programNodes p)) (λ at. Refused tooDeep at)
+        → Fills (reading s) a tab
     go none d e =
         subst (λ (o : Outcome Reading). Fills o a tab) (sym (read-well s short ts lexed p j q d)) (e, f)
     go (some at) d e = subst (λ (o : Outcome Reading). Fills o a tab) (sym (not-shallow s short ts lexed p j at q d)) e
@@ -101,7 +103,8 @@ at-answer : {n : ℕ} {T T₁ : List ℕ} {r₁ r : Answer} → r₁ ≡ r → P
 at-answer {n} {T} {T₁} e p = subst (λ (r : Answer). ProgramPost n T r T₁) e p
 
 module _ {n size : ℕ} {T T₁ : List ℕ} {r₁ : Answer} (p : ProgramPost n T r₁ T₁) (few : n ≤ 2048) where
-  place-of : (s : List ℕ) (ts : List Token) (k v : ℕ) → length s ≡ size → length ts ≡ n → Rows T ts → v ≡ placeIn T₁ n k size → v ≡ positionOf s ts k
+  place-of : (s : List ℕ) (ts : List Token) (k v : ℕ) → length s ≡ size → length ts ≡ n → Rows T ts → v ≡ placeIn T₁ n k size
+      → v ≡ positionOf s ts k
   unfolding placeIn
   place-of s ts k v es en h ev = ev ∙ elim (decLt k n) [
     | yes l ↦

@@ -56,11 +56,13 @@ pub record SoFar (Walk : ℕ → Walked → Type 0) (row at : ℕ) (all : Walked
 
 module _ (Walk : ℕ → Walked → Type 0) {row : ℕ} where
   -- none was walked yet
-  pub so-far-none : {all : Walked} → all .count ≡ 0 → all .place ≡ nowhere → ((rest w : Walked) → Walk row rest → Joins all rest w → Walk row w) → SoFar Walk row row all
+  pub so-far-none : {all : Walked} → all .count ≡ 0 → all .place ≡ nowhere
+      → ((rest w : Walked) → Walk row rest → Joins all rest w → Walk row w) → SoFar Walk row row all
   so-far-none c p h = record { count = omega arith; place = omega arith; whole = h }
 
   -- a member was walked at `at`, and the list goes on at `next`
-  pub so-far-more : {at next : ℕ} {all all′ : Walked} (own : Walked) → ((rest w : Walked) → Walk next rest → Joins own rest w → Walk at w) → SoFar Walk row at all → Joins all own all′
+  pub so-far-more : {at next : ℕ} {all all′ : Walked} (own : Walked)
+      → ((rest w : Walked) → Walk next rest → Joins own rest w → Walk at w) → SoFar Walk row at all → Joins all own all′
       → SoFar Walk row next all′
   so-far-more own step h j =
       record {
@@ -72,5 +74,6 @@ module _ (Walk : ℕ → Walked → Type 0) {row : ℕ} where
       }
 
   -- no member is left
-  pub so-far-end : {at : ℕ} {all : Walked} (none : Walked) → none .count ≡ 0 → none .place ≡ nowhere → Walk at none → SoFar Walk row at all → Walk row all
+  pub so-far-end : {at : ℕ} {all : Walked} (none : Walked) → none .count ≡ 0 → none .place ≡ nowhere → Walk at none
+      → SoFar Walk row at all → Walk row all
   so-far-end {all = all} none c p e h = h .whole none all e (omega (arith, h .count), omega (arith, h .place))

@@ -34,7 +34,8 @@ name-kinds : (k : ℕ) → isName k ≡ true → (false ≡ eqb k kIf) × (false
 unfolding isName
 name-kinds k e = (sym (Passing.kinds-apart isName k kIf e refl), sym (Passing.kinds-apart isName k kOpenBrace e refl), sym (Passing.kinds-apart isName k kDot e refl))
 
-operator-kinds : (o : Operator) → (false ≡ eqb (operatorKind o) kIf) × (false ≡ eqb (operatorKind o) kOpenBrace) × (false ≡ eqb (operatorKind o) kDot)
+operator-kinds : (o : Operator)
+    → (false ≡ eqb (operatorKind o) kIf) × (false ≡ eqb (operatorKind o) kOpenBrace) × (false ≡ eqb (operatorKind o) kDot)
 operator-kinds and = (refl, refl, refl)
 operator-kinds less = (refl, refl, refl)
 operator-kinds plus = (refl, refl, refl)
@@ -85,7 +86,8 @@ module _ {tab : List ℕ} {ts : List Token} where
   empty low chain = record { chained = λ h. absurd (omega arith); holds = tt; matches = tt; ordered = tt }
 
   -- a part of a known sort
-  pub sound : {s : Sort} {t : Part s} {low : ℕ} {chain : Bool} → isList s ≡ chain → Holds tab t → Matches ts t → Ordered low t → Sound tab ts low chain t
+  pub sound : {s : Sort} {t : Part s} {low : ℕ} {chain : Bool} → isList s ≡ chain → Holds tab t → Matches ts t → Ordered low t
+      → Sound tab ts low chain t
   sound e h m o = record { chained = λ _. e; holds = h; matches = m; ordered = o }
 
   -- a node of two parts, of one, of none

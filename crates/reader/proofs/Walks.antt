@@ -71,7 +71,8 @@ record Split (tab : List ℕ) (ts : List Token) (low : ℕ) {s : Sort} (t : Part
   depth : (d : ℕ) → deep d t ≡ least (deep d head) (deep d tail)
   size : nodes t ≡ nodes head + nodes tail
 
-members : {tab : List ℕ} {ts : List Token} {low : ℕ} {s : Sort} (t : Part s) → rowOf t < absent → isList s ≡ true → Holds tab t → Matches ts t → Ordered low t → Split tab ts low t
+members : {tab : List ℕ} {ts : List Token} {low : ℕ} {s : Sort} (t : Part s) → rowOf t < absent → isList s ≡ true → Holds tab t
+    → Matches ts t → Ordered low t → Split tab ts low t
 unfolding Holds Matches Ordered deep nodes
 members (literal p n) lt e h m o = absurd (true-false (sym e))
 members (truth p b) lt e h m o = absurd (true-false (sym e))
@@ -129,7 +130,8 @@ empty : {tab : List ℕ} {ts : List Token} {low : ℕ} → Sound tab ts low fals
 unfolding Holds Matches Ordered
 empty = record { chained = λ lt. absurd (omega arith); holds = tt; matches = tt; ordered = tt }
 
-sound-as : {tab : List ℕ} {ts : List Token} {low : ℕ} {b c : Bool} {s : Sort} {t : Part s} → b ≡ c → Sound tab ts low b t → Sound tab ts low c t
+sound-as : {tab : List ℕ} {ts : List Token} {low : ℕ} {b c : Bool} {s : Sort} {t : Part s} → b ≡ c → Sound tab ts low b t
+    → Sound tab ts low c t
 sound-as {tab} {ts} {low} {t = t} e h = subst (λ (x : Bool). Sound tab ts low x t) e h
 
 -- PARTS
@@ -143,7 +145,8 @@ module _ {tab : List ℕ} {n : ℕ} {chain : Bool} {row d : ℕ} {w : Walked} wh
       }
 
   -- nothing was walked yet
-  pub part-none : {all rest : Walked} → all .count ≡ 0 → all .place ≡ nowhere → Walks tab n chain row d rest → Joins all rest w → Walks tab n chain row d w
+  pub part-none : {all rest : Walked} → all .count ≡ 0 → all .place ≡ nowhere → Walks tab n chain row d rest → Joins all rest w
+      → Walks tab n chain row d w
   part-none c p k j = record { says = λ ts tok t low e h. joined-nothing c p (k .says ts tok t low e h) j }
 
 module _ {tab : List ℕ} {n row d : ℕ} {w : Walked} (near : row < absent) where
@@ -176,7 +179,8 @@ module _ {tab : List ℕ} {n row d : ℕ} {w : Walked} (near : row < absent) whe
         }
 
 -- the member in this row, and those from the next on
-pub part-step : {tab : List ℕ} {n row d next : ℕ} {first rest w : Walked} (chain : Bool) → row < absent → Walks tab n false row d first → next ≡ follower tab chain row
+pub part-step : {tab : List ℕ} {n row d next : ℕ} {first rest w : Walked} (chain : Bool) → row < absent → Walks tab n false row d first
+    → next ≡ follower tab chain row
     → Walks tab n chain next d rest → Joins first rest w → Walks tab n chain row d w
 part-step {tab} {n} {row} {d} {rest = rest} true near f e g j = elim (decLt row (col tab 6 row)) [
   | yes up ↦ part-more near f j (subst (λ (i : ℕ). Walks tab n true i d rest) (e ∙ follower-up tab row up) g)
@@ -190,16 +194,19 @@ part-step {tab} {n} {row} {d} {rest = rest} false near f e g j = part-only near 
 abbrev below : (d : ℕ) {tab : List ℕ} {ts : List Token} {s : Sort} {t : Part s} → Apart tab ts t → Option ℕ
 below d v = least (least (deep (d + 1) (v .t₁)) (deep (d + 1) (v .t₂))) (deep (d + 1) (v .t₃))
 
-not-before-parts : (d : ℕ) {tab : List ℕ} {ts : List Token} {s : Sort} {t : Part s} (v : Apart tab ts t) → NotBefore (v .place .start) (below d v)
+not-before-parts : (d : ℕ) {tab : List ℕ} {ts : List Token} {s : Sort} {t : Part s} (v : Apart tab ts t)
+    → NotBefore (v .place .start) (below d v)
 not-before-parts d v =
     both (both (not-before (d + 1) (v .t₁) _ (v .sound₁ .ordered)) (not-before (d + 1) (v .t₂) _ (v .sound₂ .ordered)))
     (not-before (d + 1) (v .t₃) _ (v .sound₃ .ordered))
 
 -- a node that is too deep is itself the first one
-too-deep : (d : ℕ) {tab : List ℕ} {ts : List Token} {s : Sort} {t : Part s} (v : Apart tab ts t) → depthMost < d → deep d t ≡ some (v .place .start)
+too-deep : (d : ℕ) {tab : List ℕ} {ts : List Token} {s : Sort} {t : Part s} (v : Apart tab ts t) → depthMost < d
+    → deep d t ≡ some (v .place .start)
 too-deep d v far = v .depth d ∙ first-here d (v .place) far (not-before-parts d v)
 
-pub node-far : {tab : List ℕ} {n row d : ℕ} {w : Walked} → row < absent → depthMost < d → w .place ≡ col tab 3 row → w .place < nowhere → Walks tab n false row d w
+pub node-far : {tab : List ℕ} {n row d : ℕ} {w : Walked} → row < absent → depthMost < d → w .place ≡ col tab 3 row → w .place < nowhere
+    → Walks tab n false row d w
 node-far {tab} {n} {row} {d} {w} near far p small =
     record {
       says = λ ts tok t low e h.
@@ -216,7 +223,8 @@ closed : {tab : List ℕ} {ts : List Token} (d : ℕ) {s : Sort} {t : Part s} (v
     → WalkAnswers (below d v) (nodes (v .t₁) + nodes (v .t₂) + nodes (v .t₃)) parts → Encloses parts w → WalkAnswers (deep d t) (nodes t) w
 closed d v fine h c = same-answer (sym (v .depth d ∙ fine-here d (v .place) (below d v) fine)) (sym (v .size)) (enclosed h c)
 
-kind-here : {tab : List ℕ} {n k : ℕ} {ts : List Token} (row : ℕ) → k ≡ kindInTable tab n row → TokensIn tab n ts → {s : Sort} (t : Part s) → rowOf t ≡ row → kindAt ts (rowOf t) ≡ k
+kind-here : {tab : List ℕ} {n k : ℕ} {ts : List Token} (row : ℕ) → k ≡ kindInTable tab n row → TokensIn tab n ts
+    → {s : Sort} (t : Part s) → rowOf t ≡ row → kindAt ts (rowOf t) ≡ k
 kind-here {ts = ts} row kind tok t e = ap (kindAt ts) e ∙ sym (tok .kinds row) ∙ sym kind
 
 -- the first two parts, as the code walks them
@@ -240,7 +248,8 @@ module _ {tab : List ℕ} {n : ℕ} (row d : ℕ) {k left right : ℕ} {a b two 
             (same-answer (least-absent (least (deep (d + 1) (v .t₁)) (deep (d + 1) (v .t₂))) (deep (d + 1) (v .t₃)) (z .1 (d + 1))) (omega (arith, z .0)) (both-parts tok e v)) c;
       }
 
-  pub node-three : {last : ℕ} {c three w : Walked} → row < absent → d ≤ depthMost → k ≡ kIf → last ≡ col tab 7 row → Walks tab n false last (d + 1) c
+  pub node-three : {last : ℕ} {c three w : Walked} → row < absent → d ≤ depthMost → k ≡ kIf → last ≡ col tab 7 row
+      → Walks tab n false last (d + 1) c
       → Joins two c three → Encloses three w → Walks tab n false row d w
   node-three near fine is e₃ q i o =
       record {

@@ -58,7 +58,8 @@ statement-nodes p = omega (arith, some-nodes (p .statement))
     some-nodes (assignElement q y i e) = omega arith
 
 -- it has a token
-pub accepted-some : (s tab : List ℕ) {tokens classes : ℕ} {f : Finding} → Leaves s (checking s) f tab → f ≡ found tokens classes → 0 < tokens
+pub accepted-some : (s tab : List ℕ) {tokens classes : ℕ} {f : Finding} → Leaves s (checking s) f tab → f ≡ found tokens classes
+    → 0 < tokens
 accepted-some s tab {tokens} {classes} {f} h q = by (checking s) (h .finds)
   where
     by : (v : Outcome Program) → FindsProgram s v f tab → 0 < tokens
@@ -69,7 +70,8 @@ accepted-some s tab {tokens} {classes} {f} h q = by (checking s) (h .finds)
     by (refused n i) a = let e = a in apart (cc)
 
 -- an accepted lesson can be run
-runnable : (s : List ℕ) (p : Program) (tokens classes : ℕ) (tab code code′ entries entries′ : List ℕ) → Checked s p (found tokens classes) tab
+runnable : (s : List ℕ) (p : Program) (tokens classes : ℕ) (tab code code′ entries entries′ : List ℕ)
+    → Checked s p (found tokens classes) tab
     → CodeWritten p (found tokens classes) tab code code′ entries entries′ → 16 * tokens ≤ length code → 2048 ≤ length entries
     → Runnable tab code′ entries′ (record { tokens = tokens; classes = classes }) p
 runnable s p tokens classes tab code code′ entries entries′ h a long many =
@@ -93,11 +95,13 @@ runnable s p tokens classes tab code code′ entries entries′ h a long many =
 -- WHAT IS PERFORMED
 
 pub completed : (tab code fast values : List ℕ) (sz : Sizes) (b : Bounds) (heap output : List ℤ) {code′ entries′ : List ℕ} {x : Ended} {output′ : List ℤ}
-    → Prepares (sz .tokens) (sz .classes) tab code code′ (replicate 2048 0) entries′ → Executed tab code′ entries′ fast values sz b heap output x output′
+    → Prepares (sz .tokens) (sz .classes) tab code code′ (replicate 2048 0) entries′
+    → Executed tab code′ entries′ fast values sz b heap output x output′
     → CompletesInRoom tab code fast values sz b heap output (endAnswerOf x) output′
 completed tab code fast values sz b heap output {code′} {entries′} {x} {output′} w E = record { says = λ long roomy. record { says = λ s h. by long roomy s (checking s) (h .finds) } }
   where
-    by : 16 * sz .tokens ≤ length code → Roomy (sz .tokens) (b .calls) fast values → (s : List ℕ) (v : Outcome Program) → FindsProgram s v (found (sz .tokens) (sz .classes)) tab
+    by : 16 * sz .tokens ≤ length code → Roomy (sz .tokens) (b .calls) fast values → (s : List ℕ) (v : Outcome Program)
+        → FindsProgram s v (found (sz .tokens) (sz .classes)) tab
         → Performs v b heap output (endAnswerOf x) output′
     by long roomy s (accepted p) h =
         let many : length (replicate {A = ℕ} 2048 0) ≡ 2048 = length-replicate {A = ℕ} 2048 0 in
@@ -110,16 +114,20 @@ values-fit : (tokens calls k : ℕ) {n : ℕ} → (tokens + 1) / 2 ≤ k → cal
 values-fit tokens calls k t c l = let m : (calls + 1) * ((tokens + 1) / 2) ≤ 65 * k = mul-le-mul (omega arith) t in omega (arith, m)
 
 -- the room of a small lesson, and of any
-pub small-fits : {tab : List ℕ} {sz : Sizes} {b : Bounds} {heap output output′ : List ℤ} {a : Run.RunAnswer} → sz .tokens ≤ 125 → b .calls ≤ 64
-    → CompletesInRoom tab (replicate 2048 0) (replicate 512 0) (replicate 4096 0) sz b heap output a output′ → Completes tab sz b heap output a output′
+pub small-fits : {tab : List ℕ} {sz : Sizes} {b : Bounds} {heap output output′ : List ℤ} {a : Run.RunAnswer} → sz .tokens ≤ 125
+    → b .calls ≤ 64
+    → CompletesInRoom tab (replicate 2048 0) (replicate 512 0) (replicate 4096 0) sz b heap output a output′
+    → Completes tab sz b heap output a output′
 small-fits {sz = sz} {b = b} t c X =
     let l : length (replicate {A = ℕ} 2048 0) ≡ 2048 = length-replicate {A = ℕ} 2048 0 in
     let m : length (replicate {A = ℕ} 512 0) ≡ 512 = length-replicate {A = ℕ} 512 0 in
     let n : length (replicate {A = ℕ} 4096 0) ≡ 4096 = length-replicate {A = ℕ} 4096 0 in
     X .says (omega (arith, l)) (record { places = omega (arith, m); enough = values-fit (sz .tokens) (b .calls) 63 (omega arith) c (omega (arith, n)) })
 
-pub wide-fits : {tab : List ℕ} {sz : Sizes} {b : Bounds} {heap output output′ : List ℤ} {a : Run.RunAnswer} → sz .tokens ≤ 2048 → b .calls ≤ 64
-    → CompletesInRoom tab (replicate 32768 0) (replicate 8192 0) (replicate 66561 0) sz b heap output a output′ → Completes tab sz b heap output a output′
+pub wide-fits : {tab : List ℕ} {sz : Sizes} {b : Bounds} {heap output output′ : List ℤ} {a : Run.RunAnswer} → sz .tokens ≤ 2048
+    → b .calls ≤ 64
+    → CompletesInRoom tab (replicate 32768 0) (replicate 8192 0) (replicate 66561 0) sz b heap output a output′
+    → Completes tab sz b heap output a output′
 wide-fits {sz = sz} {b = b} t c X =
     let l : length (replicate {A = ℕ} 32768 0) ≡ 32768 = length-replicate {A = ℕ} 32768 0 in
     let m : length (replicate {A = ℕ} 8192 0) ≡ 8192 = length-replicate {A = ℕ} 8192 0 in
@@ -139,23 +147,28 @@ refuses-so s b heap output tab {n} {p} {f} {a} h q e = by (checking s) (h .finds
     by (refused k i) c = let z = c in let x : n ≡ k = cc in let y : p ≡ i = cc in (e ∙ rw (x, y), refl)
 
 -- zeros as long as the strips were
-cleared : (table table₁ : List ℕ) (heap heap₁ : List ℤ) {table₂ : List ℕ} {heap₂ : List ℤ} → length table₁ ≡ length table → length heap₁ ≡ length heap
-    → table₂ ≡ replicate (length table₁) 0 → heap₂ ≡ replicate (length heap₁) (pos 0) → (table₂ ≡ replicate (length table) 0) × (heap₂ ≡ replicate (length heap) (pos 0))
+cleared : (table table₁ : List ℕ) (heap heap₁ : List ℤ) {table₂ : List ℕ} {heap₂ : List ℤ} → length table₁ ≡ length table
+    → length heap₁ ≡ length heap
+    → table₂ ≡ replicate (length table₁) 0 → heap₂ ≡ replicate (length heap₁) (pos 0)
+    → (table₂ ≡ replicate (length table) 0) × (heap₂ ≡ replicate (length heap) (pos 0))
 cleared table table₁ heap heap₁ lt lh et eh = (et ∙ ap (λ (n : ℕ). replicate n 0) lt, eh ∙ ap (λ (n : ℕ). replicate n (pos 0)) lh)
 
 pub unperformed : (s : List ℕ) (z : Sizes) (b : Bounds) (table table₁ : List ℕ) (heap output : List ℤ) {table₂ : List ℕ} {heap₂ : List ℤ} {n p : ℕ} {f : Finding} {a : Run.RunAnswer}
-    → Leaves s (checking s) f table₁ → f ≡ declined n p → length table₁ ≡ length table → table₂ ≡ replicate (length table₁) 0 → heap₂ ≡ replicate (length heap) (pos 0) → a ≡ refusal n p
+    → Leaves s (checking s) f table₁ → f ≡ declined n p → length table₁ ≡ length table → table₂ ≡ replicate (length table₁) 0
+    → heap₂ ≡ replicate (length heap) (pos 0) → a ≡ refusal n p
     → Performed s z b table heap output a table₂ heap₂ output
 unperformed s z b table table₁ heap output h q lt et eh e =
     record { performs = refuses-so s b heap output table₁ h q e; clears = λ _. cleared table table₁ heap heap lt refl et eh }
 
 pub checked : {s : List ℕ} {z y : Sizes} {b : Bounds} (table table₁ table₂ : List ℕ) {heap heap₁ output : List ℤ} {table₃ : List ℕ} {heap₂ output′ : List ℤ} {a : Run.RunAnswer}
     → Performed s y b table₁ heap output a table₂ heap₁ output′ → length table₂ ≡ length table → length heap₁ ≡ length heap
-    → table₃ ≡ replicate (length table₂) 0 → heap₂ ≡ replicate (length heap₁) (pos 0) → Performed s z b table heap output a table₃ heap₂ output′
+    → table₃ ≡ replicate (length table₂) 0 → heap₂ ≡ replicate (length heap₁) (pos 0)
+    → Performed s z b table heap output a table₃ heap₂ output′
 checked table table₁ table₂ {heap} {heap₁} h lt lh et eh = record { performs = h .performs; clears = λ _. cleared table table₂ heap heap₁ lt lh et eh }
 
 -- what Check found is known of the lesson
-pub now-known : (s tab : List ℕ) {tokens classes : ℕ} {f : Finding} → Leaves s (checking s) f tab → f ≡ found tokens classes → LeftByCheck s (record { tokens = tokens; classes = classes }) tab
+pub now-known : (s tab : List ℕ) {tokens classes : ℕ} {f : Finding} → Leaves s (checking s) f tab → f ≡ found tokens classes
+    → LeftByCheck s (record { tokens = tokens; classes = classes }) tab
 now-known s tab h q = record { says = λ _. subst (λ (y : Finding). Leaves s (checking s) y tab) q h }
 
 -- of no tokens nothing is known
@@ -195,13 +208,15 @@ module _ (s : List ℕ) (budget calls : ℕ) (table : List ℕ) (heap output : L
         runs a {table₂} {heap₂} output₂ short h =
             rw (le-ltb (length table) 16384 long, ne-eqb calls 0 some-calls, le-ltb 64 calls few-calls, le-ltb 16384 (length heap) short) (by (checking s) (h .performs))
           where
-            same : (o : List ℤ) → output₂ ≡ o → strips table₂ heap₂ output₂ ≡ strips (replicate (length table) 0) (replicate (length heap) (pos 0)) o
+            same : (o : List ℤ) → output₂ ≡ o
+                → strips table₂ heap₂ output₂ ≡ strips (replicate (length table) 0) (replicate (length heap) (pos 0)) o
             same o e =
                 let z = h .clears refl in
                 ap (λ (t : List ℕ). strips t heap₂ output₂) (z .0)
                 ∙ ap (λ (k : List ℤ). strips (replicate (length table) 0) k output₂) (z .1)
                 ∙ ap (strips (replicate (length table) 0) (replicate (length heap) (pos 0))) e
 
-            by : (v : Outcome Program) → Performs v (record { budget = budget; calls = calls }) heap output a output₂ → RunMeets v budget calls Before a (strips table₂ heap₂ output₂)
+            by : (v : Outcome Program) → Performs v (record { budget = budget; calls = calls }) heap output a output₂
+                → RunMeets v budget calls Before a (strips table₂ heap₂ output₂)
             by (accepted p) (r, e) = (r, same _ e)
             by (refused n i) (r, e) = (r, same (drop 0 output) (e ∙ drop-none output))

@@ -59,7 +59,8 @@ module _ {tab : List ℕ} {s : Scope} {row first : ℕ} (e₄ : first ≡ wordAt
             rw (stops (judge G Γ (m .body)) (λ _. judge G Γ (m .value) >>= λ t. must G (m .value) (m .result .type) t) (statements ts G Γ sc m at st) is);
       }
 
-  pub carried-value : {w : ℕ} → v ≡ Fine w → {t want second : ℕ} → t ≡ wordAt tab 3 row → TypeOf tab (s .tokens) t want → second ≡ wordAt tab 5 (row + 1) → {r : Judged}
+  pub carried-value : {w : ℕ} → v ≡ Fine w → {t want second : ℕ} → t ≡ wordAt tab 3 row → TypeOf tab (s .tokens) t want
+      → second ≡ wordAt tab 5 (row + 1) → {r : Judged}
       → OperandPost tab s row (s .tokens) second want r → CarriedJudged tab s row r
   carried-value is {t} {want} {second} e₃ type e₅ g =
       record {
@@ -80,18 +81,22 @@ module _ {tab : List ℕ} {s : Scope} {row first : ℕ} (e₄ : first ≡ wordAt
 -- BODIES
 
 -- where a method's parameters and locals begin
-given-at : {tab : List ℕ} {n : ℕ} (row parameters : ℕ) → parameters ≡ wordAt tab 4 row → (ts : List Token) → Lexemes tab n ts → (m : Method) → m .name .row ≡ row → MethodHeld tab n ts m
+given-at : {tab : List ℕ} {n : ℕ} (row parameters : ℕ) → parameters ≡ wordAt tab 4 row → (ts : List Token) → Lexemes tab n ts
+    → (m : Method) → m .name .row ≡ row → MethodHeld tab n ts m
     → rowVariables (m .parameters) ≡ parameters
 given-at {tab} row parameters e₄ ts lx m at st =
     sym (word-in tab 4 (m .name .row) (row-there lx (m .name .row) (st .head .name .token .there)) (st .first)) ∙ ap (wordAt tab 4) at ∙ sym e₄
 
-own-at : {tab : List ℕ} {n : ℕ} (row locals : ℕ) → locals ≡ wordAt tab 5 row → (ts : List Token) → Lexemes tab n ts → (m : Method) → m .name .row ≡ row → MethodHeld tab n ts m
+own-at : {tab : List ℕ} {n : ℕ} (row locals : ℕ) → locals ≡ wordAt tab 5 row → (ts : List Token) → Lexemes tab n ts → (m : Method)
+    → m .name .row ≡ row → MethodHeld tab n ts m
     → rowVariables (m .locals) ≡ locals
 own-at {tab} row locals e₅ ts lx m at st =
     sym (word-in tab 5 (m .name .row) (row-there lx (m .name .row) (st .head .name .token .there)) (st .second)) ∙ ap (wordAt tab 5) at ∙ sym e₅
 
-declared : {tab : List ℕ} {n : ℕ} (row parameters locals before : ℕ) → parameters ≡ wordAt tab 4 row → locals ≡ wordAt tab 5 row → Counts tab n parameters before → {v : Judged}
-    → VariablesJudged tab n n parameters before locals 0 locals v → (ts : List Token) (G : List Class) → ClassTableHeld tab n ts G → (m : Method) → m .name .row ≡ row → MethodHeld tab n ts m
+declared : {tab : List ℕ} {n : ℕ} (row parameters locals before : ℕ) → parameters ≡ wordAt tab 4 row → locals ≡ wordAt tab 5 row
+    → Counts tab n parameters before → {v : Judged}
+    → VariablesJudged tab n n parameters before locals 0 locals v → (ts : List Token) (G : List Class) → ClassTableHeld tab n ts G
+    → (m : Method) → m .name .row ≡ row → MethodHeld tab n ts m
     → v ≡ asJudged (variables G (map textOf (m .parameters)) (m .locals))
 declared {tab} row parameters locals before e₄ e₅ many f ts G w m at st =
     let count : length (m .parameters) ≡ before
@@ -107,7 +112,8 @@ module _ {tab : List ℕ} {n classes owner row parameters locals before : ℕ} (
       record { says = λ ts G w l c sp m at st. rw (stops (variables G (map textOf (m .parameters)) (m .locals)) _ (declared row parameters locals before e₄ e₅ many f ts G w m at st) is) }
 
   pub body-carried : {u : ℕ} → v ≡ Fine u → {r : Judged}
-      → CarriedJudged tab (record { tokens = n; classes = classes; owner = owner; parameters = parameters; locals = locals }) row r → BodyJudged tab n classes owner row r
+      → CarriedJudged tab (record { tokens = n; classes = classes; owner = owner; parameters = parameters; locals = locals }) row r
+      → BodyJudged tab n classes owner row r
   body-carried is g =
       record {
         says = λ ts G w l c sp m at st.
@@ -136,7 +142,8 @@ module _ {tab : List ℕ} {n classes left owner row : ℕ} where
   unfolding bodies
   methods-end far = record { says = λ ts G w l c sp ms at st few. go ts G w c ms at st }
     where
-      go : (ts : List Token) (G : List Class) → ClassTableHeld tab n ts G → (c : List ℕ) (ms : List Method) → rowMethods ms ≡ row → MethodsHeld tab n ts ms → Fine 0 ≡ asJudged (bodies G c ms)
+      go : (ts : List Token) (G : List Class) → ClassTableHeld tab n ts G → (c : List ℕ) (ms : List Method) → rowMethods ms ≡ row
+          → MethodsHeld tab n ts ms → Fine 0 ≡ asJudged (bodies G c ms)
       go ts G w c [] at st = refl
       go ts G w c (m ∷ ms) at (more-methods s c₆ st) = absurd (omega (arith, at, row-there (w .tokens) (m .name .row) (s .head .name .token .there)))
 
@@ -145,16 +152,19 @@ module _ {tab : List ℕ} {n classes left owner row : ℕ} where
     unfolding bodies
     methods-refused {k} {p} is = record { says = λ ts G w l c sp ms at st few. go ts G w l c sp ms at st }
       where
-        go : (ts : List Token) (G : List Class) → ClassTableHeld tab n ts G → length G ≡ classes → (c : List ℕ) → NameNumber ts c owner → (ms : List Method) → rowMethods ms ≡ row → MethodsHeld tab n ts ms
+        go : (ts : List Token) (G : List Class) → ClassTableHeld tab n ts G → length G ≡ classes → (c : List ℕ) → NameNumber ts c owner
+            → (ms : List Method) → rowMethods ms ≡ row → MethodsHeld tab n ts ms
             → Refused k p ≡ asJudged (bodies G c ms)
         go ts G w l c sp [] at st = absurd (omega (arith, at))
         go ts G w l c sp (m ∷ ms) at (more-methods s c₆ st) = rw (stops (body G c m) (λ _. bodies G c ms) (f .says ts G w l c sp m at s) is)
 
-    pub methods-next : {u : ℕ} → v ≡ Fine u → {next : ℕ} → next ≡ wordAt tab 6 row → {r : Judged} → MethodsJudged tab n classes (left - 1) owner next r → MethodsJudged tab n classes left owner row r
+    pub methods-next : {u : ℕ} → v ≡ Fine u → {next : ℕ} → next ≡ wordAt tab 6 row → {r : Judged}
+        → MethodsJudged tab n classes (left - 1) owner next r → MethodsJudged tab n classes left owner row r
     unfolding bodies
     methods-next is {next} e₆ {r} g = record { says = λ ts G w l c sp ms at st few. go ts G w l c sp ms at st few }
       where
-        go : (ts : List Token) (G : List Class) → ClassTableHeld tab n ts G → length G ≡ classes → (c : List ℕ) → NameNumber ts c owner → (ms : List Method) → rowMethods ms ≡ row → MethodsHeld tab n ts ms
+        go : (ts : List Token) (G : List Class) → ClassTableHeld tab n ts G → length G ≡ classes → (c : List ℕ) → NameNumber ts c owner
+            → (ms : List Method) → rowMethods ms ≡ row → MethodsHeld tab n ts ms
             → length ms ≤ left → r ≡ asJudged (bodies G c ms)
         go ts G w l c sp [] at st few = absurd (omega (arith, at))
         go ts G w l c sp (m ∷ ms) at (more-methods s c₆ st) few =
@@ -164,10 +174,12 @@ module _ {tab : List ℕ} {n classes left owner row : ℕ} where
 -- CLASSES
 
 module _ {tab : List ℕ} {n classes row first : ℕ} (e₅ : first ≡ wordAt tab 5 row) where
-  pub class-judged : {owner : ℕ} → owner ≡ wordAt tab 2 row → {r : Judged} → MethodsJudged tab n classes n owner first r → ClassJudged tab n classes row r
+  pub class-judged : {owner : ℕ} → owner ≡ wordAt tab 2 row → {r : Judged} → MethodsJudged tab n classes n owner first r
+      → ClassJudged tab n classes row r
   class-judged {owner} e₂ {r} f = record { says = go }
     where
-      go : (ts : List Token) (G : List Class) → ClassTableHeld tab n ts G → length G ≡ classes → (k : Class) → k .name .row ≡ row → ClassHeld tab n ts k
+      go : (ts : List Token) (G : List Class) → ClassTableHeld tab n ts G → length G ≡ classes → (k : Class) → k .name .row ≡ row
+          → ClassHeld tab n ts k
           → r ≡ asJudged (bodies G (k .name .text) (k .methods))
       go ts G w l k at s =
           let there = row-there (w .tokens) (k .name .row) (s .named .token .there) in
@@ -186,7 +198,8 @@ module _ {tab : List ℕ} {n classes left row : ℕ} where
   unfolding classBodies
   classes-end far = record { says = λ ts G w l ks h. go ts G w ks (h .here) (h .stand) }
     where
-      go : (ts : List Token) (G : List Class) → ClassTableHeld tab n ts G → (ks : List Class) → rowClasses ks ≡ row → ClassesHeld tab n ts ks → Fine 0 ≡ asJudged (classBodies G ks)
+      go : (ts : List Token) (G : List Class) → ClassTableHeld tab n ts G → (ks : List Class) → rowClasses ks ≡ row
+          → ClassesHeld tab n ts ks → Fine 0 ≡ asJudged (classBodies G ks)
       go ts G w [] at st = refl
       go ts G w (k ∷ ks) at (more-classes s c₆ st) = absurd (omega (arith, at, row-there (w .tokens) (k .name .row) (s .named .token .there)))
 
@@ -195,15 +208,18 @@ module _ {tab : List ℕ} {n classes left row : ℕ} where
     unfolding classBodies
     classes-refused {k} {p} is = record { says = λ ts G w l ks h. go ts G w l ks (h .here) (h .stand) }
       where
-        go : (ts : List Token) (G : List Class) → ClassTableHeld tab n ts G → length G ≡ classes → (ks : List Class) → rowClasses ks ≡ row → ClassesHeld tab n ts ks → Refused k p ≡ asJudged (classBodies G ks)
+        go : (ts : List Token) (G : List Class) → ClassTableHeld tab n ts G → length G ≡ classes → (ks : List Class)
+            → rowClasses ks ≡ row → ClassesHeld tab n ts ks → Refused k p ≡ asJudged (classBodies G ks)
         go ts G w l [] at st = absurd (omega (arith, at))
         go ts G w l (c ∷ ks) at (more-classes s c₆ st) = rw (stops (bodies G (c .name .text) (c .methods)) (λ _. classBodies G ks) (f .says ts G w l c at s) is)
 
-    pub classes-next : {u : ℕ} → v ≡ Fine u → {next : ℕ} → next ≡ wordAt tab 6 row → {r : Judged} → ClassesJudged tab n classes (left - 1) next r → ClassesJudged tab n classes left row r
+    pub classes-next : {u : ℕ} → v ≡ Fine u → {next : ℕ} → next ≡ wordAt tab 6 row → {r : Judged}
+        → ClassesJudged tab n classes (left - 1) next r → ClassesJudged tab n classes left row r
     unfolding classBodies
     classes-next is {next} e₆ {r} g = record { says = λ ts G w l ks h. go ts G w l ks (h .here) (h .stand) (h .few) }
       where
-        go : (ts : List Token) (G : List Class) → ClassTableHeld tab n ts G → length G ≡ classes → (ks : List Class) → rowClasses ks ≡ row → ClassesHeld tab n ts ks → length ks ≤ left → r ≡ asJudged (classBodies G ks)
+        go : (ts : List Token) (G : List Class) → ClassTableHeld tab n ts G → length G ≡ classes → (ks : List Class)
+            → rowClasses ks ≡ row → ClassesHeld tab n ts ks → length ks ≤ left → r ≡ asJudged (classBodies G ks)
         go ts G w l [] at st few = absurd (omega (arith, at))
         go ts G w l (c ∷ ks) at (more-classes s c₆ st) few =
             rw (goes-on (bodies G (c .name .text) (c .methods)) (λ _. classBodies G ks) (f .says ts G w l c at s) is)
@@ -219,7 +235,8 @@ none-listed : (tab : List ℕ) (n : ℕ) (ts : List Token) → ListedAt tab n ts
 none-listed tab n ts = record { at = refl; stand = no-variables; few = omega arith }
 
 module _ {tab : List ℕ} {n classes : ℕ} {v : Judged} (f : StatementPost tab (mainScope n classes) 14 n 14 v) where
-  main-settled : (ts : List Token) (p : Program) → Ready tab n ts p → length (p .classes) ≡ classes → v ≡ asJudged (judge (p .classes) mainContext (p .statement))
+  main-settled : (ts : List Token) (p : Program) → Ready tab n ts p → length (p .classes) ≡ classes
+      → v ≡ asJudged (judge (p .classes) mainContext (p .statement))
   main-settled ts p h l =
       f .says ts (p .classes) mainContext
       (record {
@@ -239,7 +256,8 @@ module _ {tab : List ℕ} {n classes : ℕ} {v : Judged} (f : StatementPost tab 
   bodies-main is =
       record { says = λ ts p h l. rw (stops (judge (p .classes) mainContext (p .statement)) (λ _. classBodies (p .classes) (p .classes)) (main-settled ts p h l) is) }
 
-  pub bodies-classes : {u : ℕ} → v ≡ Fine u → {first : ℕ} → first ≡ wordAt tab 6 0 → {r : Judged} → ClassesJudged tab n classes n first r → BodiesJudged tab n classes r
+  pub bodies-classes : {u : ℕ} → v ≡ Fine u → {first : ℕ} → first ≡ wordAt tab 6 0 → {r : Judged} → ClassesJudged tab n classes n first r
+      → BodiesJudged tab n classes r
   unfolding allBodies
   bodies-classes is e₆ g =
       record {

@@ -44,13 +44,15 @@ pub zeros-below : (m : ℕ) → StampsBelow 1 (replicate m 0)
 zeros-below m = record { words = λ i. omega (arith, getD-replicate-same {A = ℕ} m i 0) }
 
 -- the classes of a ready table, from the first on
-classes-at : {tab : List ℕ} {n : ℕ} {ts : List Token} {p : Program} → Ready tab n ts p → {first : ℕ} → rowClasses (p .classes) ≡ first → ClassesAt tab n ts (p .classes) n first
+classes-at : {tab : List ℕ} {n : ℕ} {ts : List Token} {p : Program} → Ready tab n ts p → {first : ℕ} → rowClasses (p .classes) ≡ first
+    → ClassesAt tab n ts (p .classes) n first
 classes-at h e = record { here = e; stand = h .world .classes; few = h .world .few }
 
 -- CONTENTS
 
 module _ {tab : List ℕ} {n classes first : ℕ} {v : Judged} (f : DeclarationsJudged tab n classes n first v) where
-  declared : (ts : List Token) (p : Program) → Ready tab n ts p → length (p .classes) ≡ classes → rowClasses (p .classes) ≡ first → v ≡ asJudged (declarations (p .classes) (p .classes))
+  declared : (ts : List Token) (p : Program) → Ready tab n ts p → length (p .classes) ≡ classes → rowClasses (p .classes) ≡ first
+      → v ≡ asJudged (declarations (p .classes) (p .classes))
   declared ts p h l e = f .says ts (p .classes) (h .world) l (p .classes) (classes-at h e) (h .own)
 
   pub contents-refused : {k q : ℕ} → v ≡ Refused k q → ContentsJudged tab n classes first (Refused k q)
@@ -64,7 +66,8 @@ module _ {tab : List ℕ} {n classes first : ℕ} {v : Judged} (f : Declarations
 -- CHAINS
 
 module _ {tab : List ℕ} {n classes first : ℕ} {v : Judged} (f : ChainsJudged tab classes n first v) where
-  chains-told : (ts : List Token) (p : Program) → Ready tab n ts p → length (p .classes) ≡ classes → rowClasses (p .classes) ≡ first → v ≡ asJudged (endingChains (p .classes) (p .classes))
+  chains-told : (ts : List Token) (p : Program) → Ready tab n ts p → length (p .classes) ≡ classes → rowClasses (p .classes) ≡ first
+      → v ≡ asJudged (endingChains (p .classes) (p .classes))
   chains-told ts p h l e = f .says n ts (p .classes) (h .world) l (p .classes) (classes-at h e)
 
   pub chained-refused : {k q : ℕ} → v ≡ Refused k q → ChainedJudged tab n classes first (Refused k q)
@@ -77,11 +80,13 @@ module _ {tab : List ℕ} {n classes first : ℕ} {v : Judged} (f : ChainsJudged
 
 -- PARENTS
 
-many-classes : {tab : List ℕ} {n : ℕ} {ts : List Token} {ks : List Class} → Lexemes tab n ts → ClassesHeld tab n ts ks → Many tab (rowClasses ks) (length ks)
+many-classes : {tab : List ℕ} {n : ℕ} {ts : List Token} {ks : List Class} → Lexemes tab n ts → ClassesHeld tab n ts ks
+    → Many tab (rowClasses ks) (length ks)
 many-classes lx no-classes = many-none {row = absent} (omega arith)
 many-classes lx (more-classes {k = k} s c₆ h) = many-more (row-there lx (k .name .row) (s .named .token .there)) c₆ (many-classes lx h)
 
-first-row : (tab : List ℕ) {n : ℕ} {ts : List Token} {p : Program} → Ready tab n ts p → {first : ℕ} → first ≡ wordAt tab 6 0 → rowClasses (p .classes) ≡ first
+first-row : (tab : List ℕ) {n : ℕ} {ts : List Token} {p : Program} → Ready tab n ts p → {first : ℕ} → first ≡ wordAt tab 6 0
+    → rowClasses (p .classes) ≡ first
 first-row tab h e = sym (e ∙ word-in tab 6 0 (omega arith) (h .first))
 
 module _ {tab : List ℕ} {n first : ℕ} (e₆ : first ≡ wordAt tab 6 0) {v : Judged} (f : ParentsJudged tab n first v) where
@@ -130,7 +135,8 @@ stages : (p : Program) → let G = p .classes in
     (knownParents G G >>= λ _. endingChains G G >>= λ _. declarations G G >>= λ _. allBodies p >>= λ _. accepted p) ≡ parentsOn p
 stages p = ap (λ (o : Outcome Program). knownParents (p .classes) (p .classes) >>= λ _. o) (go (endingChains (p .classes) (p .classes)) (declarations (p .classes) (p .classes)))
   where
-    go : (a b : Outcome (Unit {0})) → (a >>= λ _. b >>= λ _. allBodies p >>= λ _. accepted p) ≡ ((a >>= λ _. b >>= λ _. allBodies p) >>= λ _. accepted p)
+    go : (a b : Outcome (Unit {0}))
+        → (a >>= λ _. b >>= λ _. allBodies p >>= λ _. accepted p) ≡ ((a >>= λ _. b >>= λ _. allBodies p) >>= λ _. accepted p)
     go (accepted x) (accepted y) = refl
     go (accepted x) (refused n q) = refl
     go (refused n q) b = refl
@@ -164,7 +170,8 @@ told-right s (refused n q) f tab h = ap told h
 main-names : {ts : List Token} {p : Program} → DerivesProgram ts p → (p .main ≡ nameAt ts 1) × (p .parameter ≡ nameAt ts 11)
 main-names (a-program h d e₁ e₂ ks) = (refl, refl)
 
-promised : (s : List ℕ) (d : Reading) (p : Program) {r : Finding} (after : List ℕ) → reading s ≡ accepted d → judged (d .tree) ≡ accepted p → Holding (d .stream) p r after
+promised : (s : List ℕ) (d : Reading) (p : Program) {r : Finding} (after : List ℕ) → reading s ≡ accepted d
+    → judged (d .tree) ≡ accepted p → Holding (d .stream) p r after
     → Checked s p r after
 unfolding checking
 promised s d p after e q h =
@@ -224,20 +231,24 @@ module _ (s : List ℕ) (a : Filled) (middle : List ℕ) (f : Fills (reading s) 
       go (refused k p) h = let z = h in apart (cc)
 
   -- what is told of it
-  pub answer-refused : {n q : ℕ} → a ≡ notRead n q → {x : CheckAnswer} → checkAnswerOf x ≡ told (declined n q) → checkAnswerOf x ≡ checkAnswer (checking s)
+  pub answer-refused : {n q : ℕ} → a ≡ notRead n q → {x : CheckAnswer} → checkAnswerOf x ≡ told (declined n q)
+      → checkAnswerOf x ≡ checkAnswer (checking s)
   answer-refused is t = t ∙ find-refused [] is .answers
 
-  pub answer-tree : {after : List ℕ} {n m : ℕ} → a ≡ Tree n m → {r : Finding} → TreeJudged n middle r after → {x : CheckAnswer} → checkAnswerOf x ≡ told r → checkAnswerOf x ≡ checkAnswer (checking s)
+  pub answer-tree : {after : List ℕ} {n m : ℕ} → a ≡ Tree n m → {r : Finding} → TreeJudged n middle r after → {x : CheckAnswer}
+      → checkAnswerOf x ≡ told r → checkAnswerOf x ≡ checkAnswer (checking s)
   answer-tree is g t = t ∙ find-tree is g .answers
 
 -- THE OPERATION
 
 module _ (s table : List ℕ) where
-  pub check-short : {r : CheckAnswer} → length table < 16384 → r .number ≡ 1 → r .position ≡ 0 → r .classes ≡ 0 → Checks s table (checkAnswerOf r) table
+  pub check-short : {r : CheckAnswer} → length table < 16384 → r .number ≡ 1 → r .position ≡ 0 → r .classes ≡ 0
+      → Checks s table (checkAnswerOf r) table
   unfolding check tableAfter
   check-short h e₁ e₂ e₃ = record { answer = rw (lt-ltb (length table) tableLeast h, e₁, e₂, e₃); table = rw (lt-ltb (length table) tableLeast h) }
 
-  pub check-done : (r : CheckAnswer) (middle : List ℕ) {after : List ℕ} → 16384 ≤ length table → length middle ≡ length table → after ≡ replicate (length middle) 0
+  pub check-done : (r : CheckAnswer) (middle : List ℕ) {after : List ℕ} → 16384 ≤ length table → length middle ≡ length table
+      → after ≡ replicate (length middle) 0
       → checkAnswerOf r ≡ checkAnswer (checking s) → Checks s table (checkAnswerOf r) after
   unfolding check tableAfter
   check-done r middle long same zero m =
@@ -245,8 +256,10 @@ module _ (s table : List ℕ) where
 
 -- THE ANSWER
 
-pub told-found : {f : Finding} {n k : ℕ} → f ≡ found n k → {r : CheckAnswer} → r .number ≡ 0 → r .position ≡ 0 → r .classes ≡ k → checkAnswerOf r ≡ told f
+pub told-found : {f : Finding} {n k : ℕ} → f ≡ found n k → {r : CheckAnswer} → r .number ≡ 0 → r .position ≡ 0 → r .classes ≡ k
+    → checkAnswerOf r ≡ told f
 told-found is e₁ e₂ e₃ = rw (is, e₁, e₂, e₃)
 
-pub told-unfit : {f : Finding} {n q : ℕ} → f ≡ declined n q → {r : CheckAnswer} → r .number ≡ n → r .position ≡ q → r .classes ≡ 0 → checkAnswerOf r ≡ told f
+pub told-unfit : {f : Finding} {n q : ℕ} → f ≡ declined n q → {r : CheckAnswer} → r .number ≡ n → r .position ≡ q → r .classes ≡ 0
+    → checkAnswerOf r ≡ told f
 told-unfit is e₁ e₂ e₃ = rw (is, e₁, e₂, e₃)

@@ -156,7 +156,8 @@ module _ {A B : Type 0} {R : A → B → Type 0} where
   all2-swap (all2-cons r h) = all2-cons r (all2-swap h)
 
   -- a store on the left of what the right list's element allows
-  pub all2-set : {xs : List A} {ys : List B} (i : ℕ) {a : A} {b : B} → All2 R xs ys → getElem? ys i ≡ some b → R a b → All2 R (set xs i a) ys
+  pub all2-set : {xs : List A} {ys : List B} (i : ℕ) {a : A} {b : B} → All2 R xs ys → getElem? ys i ≡ some b → R a b
+      → All2 R (set xs i a) ys
   all2-set i all2-nil e q = all2-nil
   all2-set zero {a} {b} (all2-cons {b = y} r h) e q = all2-cons (subst (R a) (sym (Option·some-injective y b e)) q) h
   all2-set (suc i) (all2-cons r h) e q = all2-cons r (all2-set i h e q)
@@ -182,6 +183,7 @@ module _ {A B : Type 0} {R : A → B → Type 0} where
   all2-map f g r [] = all2-nil
   all2-map f g r (c ∷ cs) = all2-cons (r c) (all2-map f g r cs)
 
-pub all2-weaken : {A B : Type 0} {R S : A → B → Type 0} → ((a : A) (b : B) → R a b → S a b) → {xs : List A} {ys : List B} → All2 R xs ys → All2 S xs ys
+pub all2-weaken : {A B : Type 0} {R S : A → B → Type 0} → ((a : A) (b : B) → R a b → S a b) → {xs : List A} {ys : List B} → All2 R xs ys
+    → All2 S xs ys
 all2-weaken f all2-nil = all2-nil
 all2-weaken f (all2-cons {a = a} {b = b} r h) = all2-cons (f a b r) (all2-weaken f h)

@@ -14,11 +14,13 @@ use Rattle.lookup.specs.contracts.HeldClasses.{NameNumber, ClassTableHeld}
 -- the chain of the name of number c has h classes, whatever the tokens and the classes are that the table holds: it ends within h and not
 -- within fewer
 pub record Height (tab : List ℕ) (c h : ℕ) : Type 0 where
-  pub says : (n : ℕ) (ts : List Token) (G : List Class) → ClassTableHeld tab n ts G → (name : List ℕ) → NameNumber ts name c → (left : ℕ) → endsWithin left G name ≡ leb h left
+  pub says : (n : ℕ) (ts : List Token) (G : List Class) → ClassTableHeld tab n ts G → (name : List ℕ) → NameNumber ts name c → (left : ℕ)
+      → endsWithin left G name ≡ leb h left
 
 -- it does not end within so many
 pub record Higher (tab : List ℕ) (c left : ℕ) : Type 0 where
-  pub says : (n : ℕ) (ts : List Token) (G : List Class) → ClassTableHeld tab n ts G → (name : List ℕ) → NameNumber ts name c → endsWithin left G name ≡ false
+  pub says : (n : ℕ) (ts : List Token) (G : List Class) → ClassTableHeld tab n ts G → (name : List ℕ) → NameNumber ts name c
+      → endsWithin left G name ≡ false
 
 -- each word of the array that is not 0 is the height of its number
 pub record HeightsRight (tab heights : List ℕ) : Type 0 where

@@ -48,7 +48,8 @@ indexed tab row class = if ltb row absent then (λ _. put tab 7 row class) else 
 -- the names of classes match their tokens, and each leads to the next
 pub data ClassesNamed (tab : List ℕ) (ts : List Token) : List Class → Type 0 where
   none-named : ClassesNamed tab ts []
-  more-named : {k : Class} {ks : List Class} → NameMatches ts (k .name) → col tab 6 (k .name .row) ≡ rowClasses ks → ClassesNamed tab ts ks → ClassesNamed tab ts (k ∷ ks)
+  more-named : {k : Class} {ks : List Class} → NameMatches ts (k .name) → col tab 6 (k .name .row) ≡ rowClasses ks
+      → ClassesNamed tab ts ks → ClassesNamed tab ts (k ∷ ks)
 
 -- what is in the second table as it was in the first: all columns but the last, and that one in the rows of `if` tokens
 pub record ColumnsKept (ts : List Token) (tab tab′ : List ℕ) : Type 0 where
@@ -62,7 +63,8 @@ pub record Shown (tab : List ℕ) (ts : List Token) (js : List Class) : Type 0 w
 
 -- js are in the index before, and ks are entered; `top` is the name of the main class, which has the number `main`
 pub record EntriesMade (main left row : ℕ) (before : List ℕ) (r : Judged) (after : List ℕ) : Type 0 where
-  pub says : (n : ℕ) (ts : List Token) → Lexemes before n ts → (top : List ℕ) → NameNumber ts top main → (js : List Class) → Shown before ts js
+  pub says : (n : ℕ) (ts : List Token) → Lexemes before n ts → (top : List ℕ) → NameNumber ts top main → (js : List Class)
+      → Shown before ts js
       → (ks : List Class) → rowClasses ks ≡ row → ClassesNamed before ts ks → length ks ≤ left
       → (r ≡ asJudged (distinctClasses (onto (top ∷ []) (map className js)) ks))
       × (distinctClasses (onto (top ∷ []) (map className js)) ks ≡ accepted tt → ColumnsKept ts before after × Indexed after ts (js ++ ks))

@@ -32,7 +32,8 @@ pub record KnownAt (tab : List ℕ) (n row : ℕ) (r : Bool) : Type 0 where
 
 pub record FieldsJudged (tab : List ℕ) (n left stamp row : ℕ) (before after : List ℕ) (r : Judged) : Type 0 where
   pub below : Stays stamp before after
-  pub says : (ts : List Token) (G : List Class) → ClassTableHeld tab n ts G → (earlier : List (List ℕ)) (vs : List Variable) → FieldsAt tab ts before stamp earlier vs left row
+  pub says : (ts : List Token) (G : List Class) → ClassTableHeld tab n ts G → (earlier : List (List ℕ)) (vs : List Variable)
+      → FieldsAt tab ts before stamp earlier vs left row
       → r ≡ asJudged (fields G earlier vs)
 
 -- one parameter or local: 24, 27, 28
@@ -56,11 +57,13 @@ pub record VariablesJudged (tab : List ℕ) (n left others before first index ro
 -- METHOD HEADS
 
 pub record TypesCompared (tab : List ℕ) (n left a b : ℕ) (r : Bool) : Type 0 where
-  pub says : (ts : List Token) → Lexemes tab n ts → (vs ws : List Variable) → rowVariables vs ≡ a → VariablesHeld tab ts vs → rowVariables ws ≡ b
+  pub says : (ts : List Token) → Lexemes tab n ts → (vs ws : List Variable) → rowVariables vs ≡ a → VariablesHeld tab ts vs
+      → rowVariables ws ≡ b
       → VariablesHeld tab ts ws → length vs ≤ left → length ws ≤ left → r ≡ sameTypes vs ws
 
 pub record RedeclaresAt (tab : List ℕ) (n classes lower upper : ℕ) (r : Bool) : Type 0 where
-  pub says : (ts : List Token) (G : List Class) → ClassTableHeld tab n ts G → length G ≡ classes → (l u : Method) → l .name .row ≡ lower → MethodHeld tab n ts l
+  pub says : (ts : List Token) (G : List Class) → ClassTableHeld tab n ts G → length G ≡ classes → (l u : Method) → l .name .row ≡ lower
+      → MethodHeld tab n ts l
       → u .name .row ≡ upper → MethodHeld tab n ts u → r ≡ redeclares G l u
 
 -- a class of the table, and the number of the name of its parent
@@ -87,9 +90,11 @@ closed G k m = variables G [] (m .parameters) >>= λ _. redeclaration G k m
 -- where it is fine, the method's name has the stamp too
 pub record OpeningJudged (tab : List ℕ) (n stamp row : ℕ) (before after : List ℕ) (r : Judged) : Type 0 where
   pub below : Stays stamp before after
-  pub says : (ts : List Token) (G : List Class) → ClassTableHeld tab n ts G → (earlier : List (List ℕ)) (m : Method) → MethodAt tab n ts before stamp earlier m row
+  pub says : (ts : List Token) (G : List Class) → ClassTableHeld tab n ts G → (earlier : List (List ℕ)) (m : Method)
+      → MethodAt tab n ts before stamp earlier m row
       → r ≡ asJudged (judgedHead G earlier m)
-  pub marks : {u : ℕ} → r ≡ Fine u → (ts : List Token) → Lexemes tab n ts → (earlier : List (List ℕ)) (m : Method) → MethodAt tab n ts before stamp earlier m row
+  pub marks : {u : ℕ} → r ≡ Fine u → (ts : List Token) → Lexemes tab n ts → (earlier : List (List ℕ)) (m : Method)
+      → MethodAt tab n ts before stamp earlier m row
       → Marked ts after stamp (methodName m ∷ earlier)
 
 pub record RestJudged (tab : List ℕ) (n classes parent row : ℕ) (r : Judged) : Type 0 where
@@ -99,14 +104,17 @@ pub record RestJudged (tab : List ℕ) (n classes parent row : ℕ) (r : Judged)
 pub record HeadJudged (tab : List ℕ) (n classes parent stamp row : ℕ) (before after : List ℕ) (r : Judged) : Type 0 where
   pub below : Stays stamp before after
   pub says : (ts : List Token) (G : List Class) → ClassTableHeld tab n ts G → length G ≡ classes → (k : Class) → Parented ts G k parent
-      → (earlier : List (List ℕ)) (m : Method) → MethodAt tab n ts before stamp earlier m row → r ≡ asJudged (judgedHead G earlier m >>= λ _. closed G k m)
-  pub marks : {u : ℕ} → r ≡ Fine u → (ts : List Token) → Lexemes tab n ts → (earlier : List (List ℕ)) (m : Method) → MethodAt tab n ts before stamp earlier m row
+      → (earlier : List (List ℕ)) (m : Method) → MethodAt tab n ts before stamp earlier m row
+      → r ≡ asJudged (judgedHead G earlier m >>= λ _. closed G k m)
+  pub marks : {u : ℕ} → r ≡ Fine u → (ts : List Token) → Lexemes tab n ts → (earlier : List (List ℕ)) (m : Method)
+      → MethodAt tab n ts before stamp earlier m row
       → Marked ts after stamp (methodName m ∷ earlier)
 
 pub record HeadsJudged (tab : List ℕ) (n classes left parent stamp row : ℕ) (before after : List ℕ) (r : Judged) : Type 0 where
   pub below : Stays stamp before after
   pub says : (ts : List Token) (G : List Class) → ClassTableHeld tab n ts G → length G ≡ classes → (k : Class) → Parented ts G k parent
-      → (earlier : List (List ℕ)) (ms : List Method) → MethodsAt tab n ts before stamp earlier ms left row → r ≡ asJudged (heads G k earlier ms)
+      → (earlier : List (List ℕ)) (ms : List Method) → MethodsAt tab n ts before stamp earlier ms left row
+      → r ≡ asJudged (heads G k earlier ms)
 
 -- CLASSES
 
@@ -116,7 +124,8 @@ orphaned G none = false
 orphaned G (some p) = option (classNamed G (p .text)) true λ _. false
 
 pub record OrphanAt (tab : List ℕ) (class : ℕ) (r : Bool) : Type 0 where
-  pub says : (n : ℕ) (ts : List Token) (G : List Class) → ClassTableHeld tab n ts G → (k : Class) → k .name .row ≡ class → ClassHeld tab n ts k → r ≡ orphaned G (k .parent)
+  pub says : (n : ℕ) (ts : List Token) (G : List Class) → ClassTableHeld tab n ts G → (k : Class) → k .name .row ≡ class
+      → ClassHeld tab n ts k → r ≡ orphaned G (k .parent)
 
 -- the classes ks stand from a row on
 pub record ClassesAt (tab : List ℕ) (n : ℕ) (ts : List Token) (ks : List Class) (left row : ℕ) : Type 0 where
@@ -125,10 +134,12 @@ pub record ClassesAt (tab : List ℕ) (n : ℕ) (ts : List Token) (ks : List Cla
   pub few : length ks ≤ left
 
 pub record ParentsJudged (tab : List ℕ) (left row : ℕ) (r : Judged) : Type 0 where
-  pub says : (n : ℕ) (ts : List Token) (G : List Class) → ClassTableHeld tab n ts G → (ks : List Class) → ClassesAt tab n ts ks left row → r ≡ asJudged (knownParents G ks)
+  pub says : (n : ℕ) (ts : List Token) (G : List Class) → ClassTableHeld tab n ts G → (ks : List Class) → ClassesAt tab n ts ks left row
+      → r ≡ asJudged (knownParents G ks)
 
 pub record ChainsJudged (tab : List ℕ) (classes left row : ℕ) (r : Judged) : Type 0 where
-  pub says : (n : ℕ) (ts : List Token) (G : List Class) → ClassTableHeld tab n ts G → length G ≡ classes → (ks : List Class) → ClassesAt tab n ts ks left row
+  pub says : (n : ℕ) (ts : List Token) (G : List Class) → ClassTableHeld tab n ts G → length G ≡ classes → (ks : List Class)
+      → ClassesAt tab n ts ks left row
       → r ≡ asJudged (endingChains G ks)
 
 -- each class is what its name finds
@@ -137,9 +148,11 @@ FoundByName G ks = All (λ (k : Class). classNamed G (k .name .text) ≡ some k)
 
 pub record MembersJudged (tab : List ℕ) (n classes stamp class : ℕ) (after : List ℕ) (r : Judged) : Type 0 where
   pub below : StampsBelow (stamp + 2) after
-  pub says : (ts : List Token) (G : List Class) → ClassTableHeld tab n ts G → length G ≡ classes → (k : Class) → k .name .row ≡ class → ClassHeld tab n ts k
+  pub says : (ts : List Token) (G : List Class) → ClassTableHeld tab n ts G → length G ≡ classes → (k : Class) → k .name .row ≡ class
+      → ClassHeld tab n ts k
       → classNamed G (k .name .text) ≡ some k → r ≡ asJudged (fields G [] (k .fields) >>= λ _. heads G k [] (k .methods))
 
 pub record DeclarationsJudged (tab : List ℕ) (n classes left row : ℕ) (r : Judged) : Type 0 where
-  pub says : (ts : List Token) (G : List Class) → ClassTableHeld tab n ts G → length G ≡ classes → (ks : List Class) → ClassesAt tab n ts ks left row → FoundByName G ks
+  pub says : (ts : List Token) (G : List Class) → ClassTableHeld tab n ts G → length G ≡ classes → (ks : List Class)
+      → ClassesAt tab n ts ks left row → FoundByName G ks
       → r ≡ asJudged (declarations G ks)

@@ -46,7 +46,8 @@ parse-refusal ts k e =
       λ s. let z = complete ts (s .0) (s .1) in let z₂ : _≡_ {A = ℕ} 0 1 = cc in omega arith,
     )
 
-first-misfit : (ts : List Token) → Proper ts → (k : ℕ) → k ≤ length ts → Viable ts k → (k < length ts → ¬ Viable ts (k + 1)) → ¬ Sentence ts → parse ts ≡ bad k
+first-misfit : (ts : List Token) → Proper ts → (k : ℕ) → k ≤ length ts → Viable ts k → (k < length ts → ¬ Viable ts (k + 1))
+    → ¬ Sentence ts → parse ts ≡ bad k
 first-misfit ts proper k le v no-further no-sentence = go (parse ts) refl
   where
     go : (r : Parsed Program) → parse ts ≡ r → parse ts ≡ bad k

@@ -39,7 +39,8 @@ pub data Gives {A : Type 0} (a : A) (j : ℕ) : Parsed A → Type 0 where
   given : Gives a j (ok a j)
   spent : Gives a j out
 
-after : {A B : Type 0} {a : A} {b : B} {j n : ℕ} {r : Parsed A} (g : A → ℕ → Parsed B) → Gives a j r → Gives b n (g a j) → Gives b n (bind r g)
+after : {A B : Type 0} {a : A} {b : B} {j n : ℕ} {r : Parsed A} (g : A → ℕ → Parsed B) → Gives a j r → Gives b n (g a j)
+    → Gives b n (bind r g)
 after g given h = h
 after g spent h = spent
 
@@ -145,7 +146,9 @@ operator-halts conjunction k e = halts-at conjunction k kAnd (is-chosen (eqb k k
 operator-halts comparison k e = halts-at comparison k kLess (is-chosen (eqb k kLess) Operator.less e) refl
 operator-halts sum k {o} e = go (eqb k kPlus) refl e
   where
-    go : (b : Bool) → eqb k kPlus ≡ b → (if b then (λ _. some Operator.plus) else λ _. if eqb k kMinus then (λ _. some Operator.minus) else λ _. none) ≡ some o → goesOn sum k ≡ false
+    go : (b : Bool) → eqb k kPlus ≡ b
+        → (if b then (λ _. some Operator.plus) else λ _. if eqb k kMinus then (λ _. some Operator.minus) else λ _. none) ≡ some o
+        → goesOn sum k ≡ false
     go true p e = halts-at sum k kPlus p refl
     go false p e = halts-at sum k kMinus (is-chosen (eqb k kMinus) Operator.minus e) refl
 operator-halts product k e = halts-at product k kTimes (is-chosen (eqb k kTimes) Operator.times e) refl
@@ -170,36 +173,42 @@ module _ (ts : List Token) where
   Found Kind.statementList i j t = beginsStatement (kindAt ts j) ≡ false → (f : ℕ) → Gives t j (parseAs f ts Mode.statementList i)
 
   -- one step
-  unroll : {s : Sort} {t : Part s} {j : ℕ} (m : Mode s) (i : ℕ) → ((f : ℕ) → Gives t j (step ts (λ s m j. parseAs f ts m j) m i)) → (f : ℕ) → Gives t j (parseAs f ts m i)
+  unroll : {s : Sort} {t : Part s} {j : ℕ} (m : Mode s) (i : ℕ) → ((f : ℕ) → Gives t j (step ts (λ s m j. parseAs f ts m j) m i))
+      → (f : ℕ) → Gives t j (parseAs f ts m i)
   unfolding parseAs
   unroll m i h zero = spent
   unroll m i h (suc f) = h f
 
   -- no operator, no suffix follows
-  no-operator : (L : Level) (start : ℕ) (l : Expression) (j : ℕ) → isOperatorOf L (kindAt ts j) ≡ false → (f : ℕ) → Gives l j (parseAs f ts (Mode.operations L start l) j)
+  no-operator : (L : Level) (start : ℕ) (l : Expression) (j : ℕ) → isOperatorOf L (kindAt ts j) ≡ false → (f : ℕ)
+      → Gives l j (parseAs f ts (Mode.operations L start l) j)
   unfolding step
   no-operator L start l j e = unroll (Mode.operations L start l) j λ f. rw (not-some (operatorOf L (kindAt ts j)) e) given
 
-  no-more-suffixes : (b : Bool) (start : ℕ) (l : Expression) (j : ℕ) → goesOn product (kindAt ts j) ≡ false → (f : ℕ) → Gives l j (parseAs f ts (Mode.suffixes b start l) j)
+  no-more-suffixes : (b : Bool) (start : ℕ) (l : Expression) (j : ℕ) → goesOn product (kindAt ts j) ≡ false → (f : ℕ)
+      → Gives l j (parseAs f ts (Mode.suffixes b start l) j)
   unfolding step
   no-more-suffixes b start l j h =
       let k = kindAt ts j in
       unroll (Mode.suffixes b start l) j λ f. rw (or-left (eqb k kOpenBracket) (eqb k kDot) h, or-right (eqb k kOpenBracket) (eqb k kDot) h) given
 
   -- a whole operation, a whole operand and a whole expression
-  found-operation : (L : Level) (i j : ℕ) (t : Expression) → Found (Kind.operation L) i j t → (goesOn L (kindAt ts j) || isOperatorOf L (kindAt ts j)) ≡ false
+  found-operation : (L : Level) (i j : ℕ) (t : Expression) → Found (Kind.operation L) i j t
+      → (goesOn L (kindAt ts j) || isOperatorOf L (kindAt ts j)) ≡ false
       → (f : ℕ) → Gives t j (parseAs f ts (Mode.operation L) i)
   found-operation L i j t d h f =
       let k = kindAt ts j in
       d (or-left (goesOn L k) (isOperatorOf L k) h) t j (no-operator L i t j (or-right (goesOn L k) (isOperatorOf L k) h)) f
 
-  found-operand : (L : Level) (i j : ℕ) (t : Expression) → Found (Grammar.operand L) i j t → goesOn L (kindAt ts j) ≡ false → (f : ℕ) → Gives t j (parseAs f ts (operand L) i)
+  found-operand : (L : Level) (i j : ℕ) (t : Expression) → Found (Grammar.operand L) i j t → goesOn L (kindAt ts j) ≡ false → (f : ℕ)
+      → Gives t j (parseAs f ts (operand L) i)
   found-operand conjunction i j t d h f = found-operation comparison i j t d h f
   found-operand comparison i j t d h f = found-operation sum i j t d h f
   found-operand sum i j t d h f = found-operation product i j t d h f
   found-operand product i j t d h f = d h f
 
-  found-whole : (i j : ℕ) (t : Expression) {q : ℕ} → Found Grammar.anExpression i j t → kindAt ts j ≡ q → extends q ≡ false → (f : ℕ) → Gives t j (parseAs f ts anExpression i)
+  found-whole : (i j : ℕ) (t : Expression) {q : ℕ} → Found Grammar.anExpression i j t → kindAt ts j ≡ q → extends q ≡ false → (f : ℕ)
+      → Gives t j (parseAs f ts anExpression i)
   found-whole i j t d e n f = found-operation conjunction i j t d (ap extends e ∙ n) f
 
   found : {s : Sort} {c : Kind s} {i j : ℕ} {t : Part s} → Derives ts s c i j t → Found c i j t
@@ -265,7 +274,8 @@ module _ (ts : List Token) where
   found-variable (a-variable d e) = rw (found-type d e, e)
 
   -- what begins a variable, in a class and in a body
-  type-begins : {i j : ℕ} {t : TypeUse} → DerivesType ts i j t → isName (kindAt ts j) ≡ true → (inClass : Bool) → beginsVariable inClass ts i ≡ true
+  type-begins : {i j : ℕ} {t : TypeUse} → DerivesType ts i j t → isName (kindAt ts j) ≡ true → (inClass : Bool)
+      → beginsVariable inClass ts i ≡ true
   unfolding beginsVariable isName
   type-begins (an-array d e e₁) n true = element-begins d
   type-begins (an-array {i = i} d e e₁) n false =
@@ -276,14 +286,16 @@ module _ (ts : List Token) where
   variable-begins : {i j : ℕ} {v : Variable} → DerivesVariable ts i j v → (inClass : Bool) → beginsVariable inClass ts i ≡ true
   variable-begins (a-variable d e) b = type-begins d e b
 
-  found-variables : {i j : ℕ} {vs : List Variable} → DerivesVariables ts i j vs → (inClass : Bool) → beginsVariable inClass ts j ≡ false → (f : ℕ) → Gives vs j (variablesFrom f inClass ts i)
+  found-variables : {i j : ℕ} {vs : List Variable} → DerivesVariables ts i j vs → (inClass : Bool) → beginsVariable inClass ts j ≡ false
+      → (f : ℕ) → Gives vs j (variablesFrom f inClass ts i)
   unfolding variablesFrom
   found-variables no-variable b n zero = spent
   found-variables no-variable b n (suc f) = rw n given
   found-variables (more-variables d e ds) b n zero = spent
   found-variables (more-variables d e ds) b n (suc f) = rw (variable-begins d b, found-variable d, e) (after _ (found-variables ds b n f) given)
 
-  found-parameters : {i j : ℕ} {vs : List Variable} → DerivesParameters ts i j vs → kindAt ts j ≡ kClose → (f : ℕ) → Gives vs (j + 1) (someParameters f ts i)
+  found-parameters : {i j : ℕ} {vs : List Variable} → DerivesParameters ts i j vs → kindAt ts j ≡ kClose → (f : ℕ)
+      → Gives vs (j + 1) (someParameters f ts i)
   unfolding someParameters
   found-parameters (one-parameter d) e zero = spent
   found-parameters (one-parameter d) e (suc f) = rw (found-variable d, e) given
@@ -303,13 +315,15 @@ module _ (ts : List Token) where
   parameters-open (one-parameter d) = variable-opens d
   parameters-open (more-parameters d e ds) = variable-opens d
 
-  found-formals : {i j : ℕ} {vs : List Variable} → DerivesFormals ts i j vs → kindAt ts j ≡ kClose → (f : ℕ) → Gives vs (j + 1) (parametersFrom f ts i)
+  found-formals : {i j : ℕ} {vs : List Variable} → DerivesFormals ts i j vs → kindAt ts j ≡ kClose → (f : ℕ)
+      → Gives vs (j + 1) (parametersFrom f ts i)
   unfolding parametersFrom
   found-formals no-formal e f = rw e given
   found-formals (some-formals d) e f = rw (parameters-open d) (found-parameters d e f)
 
   -- no local begins where the statements do
-  body-begins : {c : Kind statements} {i j : ℕ} {ss : Part statements} → Derives ts statements c i j ss → kindAt ts j ≡ kReturn → beginsVariable false ts i ≡ false
+  body-begins : {c : Kind statements} {i j : ℕ} {ss : Part statements} → Derives ts statements c i j ss → kindAt ts j ≡ kReturn
+      → beginsVariable false ts i ≡ false
   unfolding beginsVariable beginsType isName
   body-begins no-statement e = rw e
   body-begins (more-statements d ds) e = first d .1
@@ -323,7 +337,8 @@ module _ (ts : List Token) where
   method-begins : {i j : ℕ} {m : Method} → DerivesMethod ts i j m → kindAt ts i ≡ kPublic
   method-begins (a-method e dh e₁ dp e₂ e₃ dl ds e₄ dv e₅ e₆) = e
 
-  found-methods : {i j : ℕ} {ms : List Method} → DerivesMethods ts i j ms → kindAt ts j ≡ kCloseBrace → (f : ℕ) → Gives ms j (methodsFrom f ts i)
+  found-methods : {i j : ℕ} {ms : List Method} → DerivesMethods ts i j ms → kindAt ts j ≡ kCloseBrace → (f : ℕ)
+      → Gives ms j (methodsFrom f ts i)
   unfolding methodsFrom
   found-methods no-method e zero = spent
   found-methods no-method e (suc f) = rw e given

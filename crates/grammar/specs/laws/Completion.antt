@@ -249,7 +249,8 @@ module _ (us : List Token) where
   abbrev Filled : Symbol → Type 0
   Filled x = (S : List Symbol) (e : Halt) (i : ℕ) → Fits (x ∷ S) → KindsFrom us i (words (x ∷ S)) → ((j : ℕ) → KindsFrom us j (words S) → RunsTo us S j e) → RunsTo us (x ∷ S) i e
 
-  in-turn : {xs : List Symbol} → All (λ x. Filled x) xs → (S : List Symbol) (e : Halt) (i : ℕ) → Fits (xs ++ S) → KindsFrom us i (words (xs ++ S))
+  in-turn : {xs : List Symbol} → All (λ x. Filled x) xs → (S : List Symbol) (e : Halt) (i : ℕ) → Fits (xs ++ S)
+      → KindsFrom us i (words (xs ++ S))
       → ((j : ℕ) → KindsFrom us j (words S) → RunsTo us S j e) → RunsTo us (xs ++ S) i e
   in-turn all-nil S e i g sp k = k i sp
   in-turn (all-cons {l = xs} p ps) S e i g sp k = p (xs ++ S) e i g sp λ j s. in-turn ps S e j (fits-tail g) s k
@@ -342,7 +343,8 @@ module _ (us : List Token) where
       λ S f. ends-cases (λ k. rule locals k ≡ push (statementList ∷ [])) (first (words S)) f refl refl
 
   -- a symbol whose word is empty, and which one kind of token follows
-  vanishes : (x : Symbol) (q : ℕ) → word x ≡ [] → ((S : List Symbol) → follow x (first (words S)) ≡ true → first (words S) ≡ q) → rule x q ≡ push [] → Filled x
+  vanishes : (x : Symbol) (q : ℕ) → word x ≡ [] → ((S : List Symbol) → follow x (first (words S)) ≡ true → first (words S) ≡ q)
+      → rule x q ≡ push [] → Filled x
   vanishes x q w h r = by-rule x all-nil (λ S. rw w) λ S f. rw w (ap (rule x) (h S f) ∙ r)
 
   fill-afterElement : Filled afterElement
@@ -482,7 +484,8 @@ module _ (ts : List Token) where
   at-once : {S : List Symbol} (k : ℕ) → Fits S → k ≤ length ts → RunsTo (cut ts k (words S)) S k (done (length (cut ts k (words S))))
   at-once {S} k g le = filled (cut ts k (words S)) g k (spells-end (take k ts) (words S) k (sym (length-take-le k ts le)))
 
-  completes : {S : List Symbol} {i k : ℕ} → Fits S → i ≤ length ts → RunsTo ts S i (stopped k) → (w : List ℕ) × RunsTo (cut ts k w) S i (done (length (cut ts k w)))
+  completes : {S : List Symbol} {i k : ℕ} → Fits S → i ≤ length ts → RunsTo ts S i (stopped k)
+      → (w : List ℕ) × RunsTo (cut ts k w) S i (done (length (cut ts k w)))
   completes {k = k} g le (shifts {x = x} {i = i} r h) =
       let here = passed i r g in
       let c = completes (fits-tail g) (omega arith) h in

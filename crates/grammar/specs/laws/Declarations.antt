@@ -62,7 +62,8 @@ module _ (ts : List Token) where
 
   -- FIELDS
 
-  read-fields : (f i : ℕ) → 16 * (length ts - i) < f → PassesOver ts (fields ∷ []) i (λ vs j. DerivesVariables ts i j vs) (variablesFrom f true ts i)
+  read-fields : (f i : ℕ) → 16 * (length ts - i) < f
+      → PassesOver ts (fields ∷ []) i (λ vs j. DerivesVariables ts i j vs) (variablesFrom f true ts i)
   unfolding variablesFrom beginsVariable beginsType rule isName
   read-fields zero i h = absurd (omega arith)
   read-fields (suc f) i h =
@@ -121,11 +122,13 @@ module _ (ts : List Token) where
             accept (a-variable (simp towards-numerals (an-array (a-class e) e₁ e₃)) e₄)))
             λ v j le d. after-local i h here v j (omega arith) d)))))
 
-    locals-step : (i : ℕ) → 16 * (length ts - i) < suc f → Passes ts (locals ∷ []) (locals ∷ []) i (Locals i) (variablesFrom (suc f) false ts i)
+    locals-step : (i : ℕ) → 16 * (length ts - i) < suc f
+        → Passes ts (locals ∷ []) (locals ∷ []) i (Locals i) (variablesFrom (suc f) false ts i)
     unfolding variablesFrom
     locals-step i h = go (beginsVariable false ts i) (isName (kindAt ts i)) refl refl
       where
-        go : (b n : Bool) → beginsVariable false ts i ≡ b → isName (kindAt ts i) ≡ n → Passes ts (locals ∷ []) (locals ∷ []) i (Locals i) (variablesFrom (suc f) false ts i)
+        go : (b n : Bool) → beginsVariable false ts i ≡ b → isName (kindAt ts i) ≡ n
+            → Passes ts (locals ∷ []) (locals ∷ []) i (Locals i) (variablesFrom (suc f) false ts i)
         go true true e e₁ = named-local i h e e₁
         go true false e e₁ = typed-local i h e e₁
         go false n e e₁ = rw e (accept (no-variable, e))
@@ -170,7 +173,8 @@ module _ (ts : List Token) where
           pushed-by {xs = afterName ∷ statementList ∷ []} (rw (n, b))
           (named-body f i (i + 1) (afterName ∷ []) h e λ f h. named-statement ts f i e h)
 
-      go : (n : Bool) → isName (kindAt ts i) ≡ n → PassesOver ts (locals ∷ []) i (λ ss j. Derives ts statements Kind.statementList i j ss) (parseAs f ts Mode.statementList i)
+      go : (n : Bool) → isName (kindAt ts i) ≡ n
+          → PassesOver ts (locals ∷ []) i (λ ss j. Derives ts statements Kind.statementList i j ss) (parseAs f ts Mode.statementList i)
       go true e =
           let follows : (isName (kindAt ts (i + 1)) || marked ts (i + 1)) ≡ false = rw (untyped, e) at none-here in
           pushed-by {xs = aName ∷ afterLocal ∷ []} (rw (untyped, e))
@@ -198,7 +202,8 @@ module _ (ts : List Token) where
 
   -- METHODS
 
-  read-method : (f i : ℕ) → i < length ts → 16 * (length ts - i) < suc f → PassesOver ts aMethod i (λ m j. DerivesMethod ts i j m × (i < j)) (methodFrom f ts i)
+  read-method : (f i : ℕ) → i < length ts → 16 * (length ts - i) < suc f
+      → PassesOver ts aMethod i (λ m j. DerivesMethod ts i j m × (i < j)) (methodFrom f ts i)
   unfolding methodFrom
   read-method f i here h =
       expects kPublic i _ λ e. binds-all (aType ∷ aName ∷ []) _ (read-variable (i + 1)) λ head a le dh. expects kOpen a _ λ e₁.
@@ -207,7 +212,8 @@ module _ (ts : List Token) where
       expects kReturn d _ λ e₃. binds _ (parts ts f anExpression (d + 1) (omega arith)) λ v n le₄ dv. expects kSemicolon n _ λ e₄. expects kCloseBrace (n + 1) _ λ e₅.
       accept (simp towards-numerals (a-method e dh e₁ (dp .1) (dp .2) (rw (dp .3) at e₂) (simp towards-numerals at (rw (dp .3) at (dl .0))) ds e₃ dv e₄ e₅), omega arith)
 
-  read-methods : (f i : ℕ) → 16 * (length ts - i) < f → PassesOver ts (methods ∷ []) i (λ ms j. DerivesMethods ts i j ms) (methodsFrom f ts i)
+  read-methods : (f i : ℕ) → 16 * (length ts - i) < f
+      → PassesOver ts (methods ∷ []) i (λ ms j. DerivesMethods ts i j ms) (methodsFrom f ts i)
   unfolding methodsFrom rule
   read-methods zero i h = absurd (omega arith)
   read-methods (suc f) i h =
@@ -225,14 +231,16 @@ module _ (ts : List Token) where
       (λ e. pushed (takes kExtends e (expects-name (i + 1) _ λ e₁. accept (simp towards-numerals (a-parent e e₁)))))
       (λ _. pushed (accept no-parent)))
 
-  read-class : (f i : ℕ) → i < length ts → 16 * (length ts - i) < suc f → PassesOver ts aClass i (λ c j. DerivesClass ts i j c × (i < j)) (classFrom f ts i)
+  read-class : (f i : ℕ) → i < length ts → 16 * (length ts - i) < suc f
+      → PassesOver ts aClass i (λ c j. DerivesClass ts i j c × (i < j)) (classFrom f ts i)
   unfolding classFrom
   read-class f i here h =
       expects kClass i _ λ e. expects-name (i + 1) _ λ e₁. binds _ (read-parent (i + 1 + 1)) λ p a le dp. expects kOpenBrace a _ λ e₂.
       binds _ (read-fields f (a + 1) (omega arith)) λ fs b le₂ df. binds _ (read-methods f b (omega arith)) λ ms c le₃ dm. expects kCloseBrace c _ λ e₃.
       accept (a-class-declaration e e₁ (simp towards-numerals at dp) e₂ df dm e₃, omega arith)
 
-  read-classes : (f i : ℕ) → 16 * (length ts - i) < f → PassesOver ts (classes ∷ []) i (λ cs j. DerivesClasses ts i j cs × (kindAt ts j ≡ kEnd)) (classesFrom f ts i)
+  read-classes : (f i : ℕ) → 16 * (length ts - i) < f
+      → PassesOver ts (classes ∷ []) i (λ cs j. DerivesClasses ts i j cs × (kindAt ts j ≡ kEnd)) (classesFrom f ts i)
   unfolding classesFrom rule
   read-classes zero i h = absurd (omega arith)
   read-classes (suc f) i h =

@@ -68,12 +68,14 @@ Meant ts Mode.statementList i t j = Derives ts statements Kind.statementList i j
 
 -- every parser with the fuel f
 record Below (ts : List Token) (f : ℕ) : Type 0 where
-  of : {s : Sort} (m : Mode s) (i : ℕ) → 16 * (length ts - i) + rank m < f → PassesOver ts (symbolOf m ∷ []) i (Meant ts m i) (parseAs f ts m i)
+  of : {s : Sort} (m : Mode s) (i : ℕ) → 16 * (length ts - i) + rank m < f
+      → PassesOver ts (symbolOf m ∷ []) i (Meant ts m i) (parseAs f ts m i)
 
 abbrev Step : List Token → (f : ℕ) → {s : Sort} → Mode s → ℕ → Type 0
 Step ts f m i = 16 * (length ts - i) + rank m < suc f → PassesOver ts (symbolOf m ∷ []) i (Meant ts m i) (step ts (λ s m j. parseAs f ts m j) m i)
 
-postfix-of : {ts : List Token} (b : Bool) {first i : ℕ} {l : Expression} → Before ts b first i l → Derives ts expression Kind.postfix first i l
+postfix-of : {ts : List Token} (b : Bool) {first i : ℕ} {l : Expression} → Before ts b first i l
+    → Derives ts expression Kind.postfix first i l
 postfix-of true d = no-array d
 postfix-of false d = d
 
@@ -313,7 +315,8 @@ module _ (ts : List Token) (f : ℕ) (p : Below ts f) where
   unfolding rule isName
   aStatement-step i h = go (isName (kindAt ts i)) refl
     where
-      go : (b : Bool) → isName (kindAt ts i) ≡ b → PassesOver ts (Symbol.aStatement ∷ []) i (Meant ts Mode.aStatement i) (step ts (λ s m j. parseAs f ts m j) Mode.aStatement i)
+      go : (b : Bool) → isName (kindAt ts i) ≡ b
+          → PassesOver ts (Symbol.aStatement ∷ []) i (Meant ts Mode.aStatement i) (step ts (λ s m j. parseAs f ts m j) Mode.aStatement i)
       go true e =
           let n = no-keyword (kindAt ts i) e in
           pushed-by {xs = Symbol.aName ∷ Symbol.afterName ∷ []} (rw (n .0, n .1, n .2, n .3, e)) (takes-name e (named i e (omega arith)))
@@ -339,7 +342,8 @@ module _ (ts : List Token) (f : ℕ) (p : Below ts f) where
   every-step Mode.aStatement i h = aStatement-step i h
   every-step Mode.statementList i h = statementList-step i h
 
-pub parts : (ts : List Token) (f : ℕ) {s : Sort} (m : Mode s) (i : ℕ) → 16 * (length ts - i) + rank m < f → PassesOver ts (symbolOf m ∷ []) i (Meant ts m i) (parseAs f ts m i)
+pub parts : (ts : List Token) (f : ℕ) {s : Sort} (m : Mode s) (i : ℕ) → 16 * (length ts - i) + rank m < f
+    → PassesOver ts (symbolOf m ∷ []) i (Meant ts m i) (parseAs f ts m i)
 unfolding parseAs
 parts ts zero m i h = absurd (omega arith)
 parts ts (suc f) m i h = every-step ts f (record { of = λ m i h. parts ts f m i h }) m i h

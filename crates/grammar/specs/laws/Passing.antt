@@ -41,7 +41,8 @@ pub kinds-apart : (test : ℕ → Bool) (k q : ℕ) → test k ≡ true → test
 kinds-apart test k q e n = ne-eqb k q λ z. let z₂ : true ≡ false = sym e ∙ ap test z ∙ n in let z₃ : _≡_ {A = ℕ} 0 1 = cc in omega arith
 
 -- a name is none of the other tokens that begin a statement or a type
-pub no-keyword : (k : ℕ) → isName k ≡ true → (eqb k kOpenBrace ≡ false) × (eqb k kIf ≡ false) × (eqb k kWhile ≡ false) × (eqb k kSystem ≡ false)
+pub no-keyword : (k : ℕ) → isName k ≡ true
+    → (eqb k kOpenBrace ≡ false) × (eqb k kIf ≡ false) × (eqb k kWhile ≡ false) × (eqb k kSystem ≡ false)
 unfolding isName
 no-keyword k e = (kinds-apart isName k kOpenBrace e refl, kinds-apart isName k kIf e refl, kinds-apart isName k kWhile e refl, kinds-apart isName k kSystem e refl)
 
@@ -91,7 +92,8 @@ or-right true b e = let z : _≡_ {A = ℕ} 0 1 = cc in absurd (omega arith)
 or-right false b e = e
 
 pub data Passes (ts : List Token) {A : Type 0} (xs ys : List Symbol) (i : ℕ) (Q : A → ℕ → Type 0) : Parsed A → Type 0 where
-  passes-ok : {a : A} {j : ℕ} → i ≤ j → ((S : List Symbol) (e : Halt) → RunsTo ts (ys ++ S) j e → RunsTo ts (xs ++ S) i e) → Q a j → Passes ts xs ys i Q (ok a j)
+  passes-ok : {a : A} {j : ℕ} → i ≤ j → ((S : List Symbol) (e : Halt) → RunsTo ts (ys ++ S) j e → RunsTo ts (xs ++ S) i e) → Q a j
+      → Passes ts xs ys i Q (ok a j)
   passes-bad : {k : ℕ} → ((S : List Symbol) → RunsTo ts (xs ++ S) i (stopped k)) → Passes ts xs ys i Q (bad k)
 
 abbrev pub PassesOver : (ts : List Token) {A : Type 0} → List Symbol → ℕ → (A → ℕ → Type 0) → Parsed A → Type 0
@@ -111,7 +113,8 @@ module _ {ts : List Token} {A : Type 0} {Q : A → ℕ → Type 0} {ys : List Sy
   accept {i} q = passes-ok {j = i} (omega arith) (λ S e h. h) q
 
   -- the topmost symbol is replaced
-  pub pushed-by : {x : Symbol} {xs : List Symbol} {i : ℕ} {r : Parsed A} → rule x (kindAt ts i) ≡ push xs → Passes ts xs ys i Q r → Passes ts (x ∷ []) ys i Q r
+  pub pushed-by : {x : Symbol} {xs : List Symbol} {i : ℕ} {r : Parsed A} → rule x (kindAt ts i) ≡ push xs → Passes ts xs ys i Q r
+      → Passes ts (x ∷ []) ys i Q r
   pushed-by e (passes-ok le go q) = passes-ok le (λ S d h. pushes e (go S d h)) q
   pushed-by e (passes-bad go) = passes-bad (λ S. pushes e (go S))
 
@@ -123,13 +126,15 @@ module _ {ts : List Token} {A : Type 0} {Q : A → ℕ → Type 0} {ys : List Sy
       go e refused = passes-bad (λ S. refuses e)
 
   -- a token is passed
-  shifted : {x : Symbol} {xs : List Symbol} {i : ℕ} {r : Parsed A} → rule x (kindAt ts i) ≡ shift → Passes ts xs ys (i + 1) Q r → Passes ts (x ∷ xs) ys i Q r
+  shifted : {x : Symbol} {xs : List Symbol} {i : ℕ} {r : Parsed A} → rule x (kindAt ts i) ≡ shift → Passes ts xs ys (i + 1) Q r
+      → Passes ts (x ∷ xs) ys i Q r
   shifted e (passes-ok {j = j} le go q) = passes-ok {j = j} (omega arith) (λ S d h. shifts e (go S d h)) q
   shifted e (passes-bad go) = passes-bad (λ S. shifts e (go S))
 
   -- one parser after another; the symbols ws are what the first leaves of zs
   bound : {B : Type 0} {P : B → ℕ → Type 0} (zs ws xs : List Symbol) {i : ℕ} {r : Parsed B} (g : B → ℕ → Parsed A)
-      → Passes ts zs ws i P r → ((b : B) (j : ℕ) → i ≤ j → P b j → Passes ts (ws ++ xs) ys j Q (g b j)) → Passes ts (zs ++ xs) ys i Q (bind r g)
+      → Passes ts zs ws i P r → ((b : B) (j : ℕ) → i ≤ j → P b j → Passes ts (ws ++ xs) ys j Q (g b j))
+      → Passes ts (zs ++ xs) ys i Q (bind r g)
   bound zs ws xs {i = i} g (passes-ok {a = b} {j = j} le go p) h = after (h b j le p)
     where
       after : {r : Parsed A} → Passes ts (ws ++ xs) ys j Q r → Passes ts (zs ++ xs) ys i Q r
@@ -142,35 +147,41 @@ module _ {ts : List Token} {A : Type 0} {Q : A → ℕ → Type 0} {ys : List Sy
   binds-all zs {xs = xs} g h k = bound zs [] xs g h k
 
   pub binds : {B : Type 0} {P : B → ℕ → Type 0} {x : Symbol} {xs : List Symbol} {i : ℕ} {r : Parsed B} (g : B → ℕ → Parsed A)
-      → PassesOver ts (x ∷ []) i P r → ((b : B) (j : ℕ) → i ≤ j → P b j → Passes ts xs ys j Q (g b j)) → Passes ts (x ∷ xs) ys i Q (bind r g)
+      → PassesOver ts (x ∷ []) i P r → ((b : B) (j : ℕ) → i ≤ j → P b j → Passes ts xs ys j Q (g b j))
+      → Passes ts (x ∷ xs) ys i Q (bind r g)
   binds {x = x} g h k = binds-all (x ∷ []) g h k
 
   -- the first leaves its symbol where it is
   pub binds-again : {B : Type 0} {P : B → ℕ → Type 0} {x : Symbol} {xs : List Symbol} {i : ℕ} {r : Parsed B} (g : B → ℕ → Parsed A)
-      → Passes ts (x ∷ []) (x ∷ []) i P r → ((b : B) (j : ℕ) → i ≤ j → P b j → Passes ts (x ∷ xs) ys j Q (g b j)) → Passes ts (x ∷ xs) ys i Q (bind r g)
+      → Passes ts (x ∷ []) (x ∷ []) i P r → ((b : B) (j : ℕ) → i ≤ j → P b j → Passes ts (x ∷ xs) ys j Q (g b j))
+      → Passes ts (x ∷ xs) ys i Q (bind r g)
   binds-again {x = x} {xs = xs} g h k = bound (x ∷ []) (x ∷ []) xs g h k
 
   -- the same place, written otherwise
   pub moved : {xs : List Symbol} {i : ℕ} (j : ℕ) {r : Parsed A} → j ≡ i → Passes ts xs ys j Q r → Passes ts xs ys i Q r
   moved {xs} j {r} e h = subst (λ (i : ℕ). Passes ts xs ys i Q r) e h
 
-  pub gives : {P : A → ℕ → Type 0} {xs : List Symbol} {i : ℕ} {r : Parsed A} → Passes ts xs ys i P r → ((a : A) (j : ℕ) → i ≤ j → P a j → Q a j) → Passes ts xs ys i Q r
+  pub gives : {P : A → ℕ → Type 0} {xs : List Symbol} {i : ℕ} {r : Parsed A} → Passes ts xs ys i P r
+      → ((a : A) (j : ℕ) → i ≤ j → P a j → Q a j) → Passes ts xs ys i Q r
   gives (passes-ok {a = a} {j = j} le go p) f = passes-ok le go (f a j le p)
   gives (passes-bad go) f = passes-bad go
 
   -- the parser and the machine make the same test
   pub tests : (b : Bool) (i : ℕ) (m n : Unit {0} → Move) (r s : Unit {0} → Parsed A)
-      → (b ≡ true → Moves ts ys i Q (m tt) (r tt)) → (b ≡ false → Moves ts ys i Q (n tt) (s tt)) → Moves ts ys i Q (if b then m else n) (if b then r else s)
+      → (b ≡ true → Moves ts ys i Q (m tt) (r tt)) → (b ≡ false → Moves ts ys i Q (n tt) (s tt))
+      → Moves ts ys i Q (if b then m else n) (if b then r else s)
   tests true i m n r s f g = f refl
   tests false i m n r s f g = g refl
 
-  pub tests-kind : (q i : ℕ) (m n : Unit {0} → Move) (r s : Unit {0} → Parsed A) → (kindAt ts i ≡ q → Moves ts ys i Q (m tt) (r tt)) → (eqb (kindAt ts i) q ≡ false → Moves ts ys i Q (n tt) (s tt))
+  pub tests-kind : (q i : ℕ) (m n : Unit {0} → Move) (r s : Unit {0} → Parsed A) → (kindAt ts i ≡ q → Moves ts ys i Q (m tt) (r tt))
+      → (eqb (kindAt ts i) q ≡ false → Moves ts ys i Q (n tt) (s tt))
       → Moves ts ys i Q (if eqb (kindAt ts i) q then m else n) (if eqb (kindAt ts i) q then r else s)
   tests-kind q i m n r s f g = tests (eqb (kindAt ts i) q) i m n r s (λ e. f (eqb-true (kindAt ts i) q e)) g
 
   -- the parser looks at a second token, and the machine leaves it to its next symbol
   tests-first : (b c : Bool) (i : ℕ) (m n : Unit {0} → Move) (r s : Unit {0} → Parsed A)
-      → (b ≡ true → Moves ts ys i Q (m tt) (if c then r else s)) → (b ≡ false → Moves ts ys i Q (n tt) (s tt)) → Moves ts ys i Q (if b then m else n) (if b && c then r else s)
+      → (b ≡ true → Moves ts ys i Q (m tt) (if c then r else s)) → (b ≡ false → Moves ts ys i Q (n tt) (s tt))
+      → Moves ts ys i Q (if b then m else n) (if b && c then r else s)
   tests-first true true i m n r s f g = f refl
   tests-first true false i m n r s f g = f refl
   tests-first false c i m n r s f g = g refl
@@ -194,19 +205,23 @@ module _ {ts : List Token} {A : Type 0} {Q : A → ℕ → Type 0} {ys : List Sy
   tests-again q c i m n r s t f g = tests-next q c i m n r (λ _. if eqb (kindAt ts i) q then s else t) (λ e. rw (eq-eqb (kindAt ts i) q e) (f e)) λ e. rw e (g e)
 
   -- a token of a kind that is known
-  pub takes : {xs : List Symbol} {i : ℕ} (q : ℕ) {r : Parsed A} → kindAt ts i ≡ q → Passes ts xs ys (i + 1) Q r → Passes ts (one q ∷ xs) ys i Q r
+  pub takes : {xs : List Symbol} {i : ℕ} (q : ℕ) {r : Parsed A} → kindAt ts i ≡ q → Passes ts xs ys (i + 1) Q r
+      → Passes ts (one q ∷ xs) ys i Q r
   takes {i = i} q e h = shifted (one-passes q (kindAt ts i) e) h
 
-  pub takes-name : {xs : List Symbol} {i : ℕ} {r : Parsed A} → isName (kindAt ts i) ≡ true → Passes ts xs ys (i + 1) Q r → Passes ts (aName ∷ xs) ys i Q r
+  pub takes-name : {xs : List Symbol} {i : ℕ} {r : Parsed A} → isName (kindAt ts i) ≡ true → Passes ts xs ys (i + 1) Q r
+      → Passes ts (aName ∷ xs) ys i Q r
   unfolding rule
   takes-name e h = shifted (rw e) h
 
-  pub takes-operator : {xs : List Symbol} (L : Level) {i : ℕ} {o : Operator} {r : Parsed A} → operatorOf L (kindAt ts i) ≡ some o → Passes ts xs ys (i + 1) Q r → Passes ts (anOperator L ∷ xs) ys i Q r
+  pub takes-operator : {xs : List Symbol} (L : Level) {i : ℕ} {o : Operator} {r : Parsed A} → operatorOf L (kindAt ts i) ≡ some o
+      → Passes ts xs ys (i + 1) Q r → Passes ts (anOperator L ∷ xs) ys i Q r
   unfolding rule
   takes-operator L e h = shifted (rw e) h
 
   -- a token that the parser expects
-  pub expects : {xs : List Symbol} (q i : ℕ) (r : Parsed A) → (kindAt ts i ≡ q → Passes ts xs ys (i + 1) Q r) → Passes ts (one q ∷ xs) ys i Q (expect ts q i λ _. r)
+  pub expects : {xs : List Symbol} (q i : ℕ) (r : Parsed A) → (kindAt ts i ≡ q → Passes ts xs ys (i + 1) Q r)
+      → Passes ts (one q ∷ xs) ys i Q (expect ts q i λ _. r)
   unfolding rule
   expects {xs} q i r f = go (eqb (kindAt ts i) q) refl
     where
@@ -214,7 +229,8 @@ module _ {ts : List Token} {A : Type 0} {Q : A → ℕ → Type 0} {ys : List Sy
       go true e = let e′ = eqb-true (kindAt ts i) q e in takes q e′ (f e′)
       go false e = passes-bad (λ S. refuses {x = one q} {i = i} (rw e))
 
-  pub expects-name : {xs : List Symbol} (i : ℕ) (r : Parsed A) → (isName (kindAt ts i) ≡ true → Passes ts xs ys (i + 1) Q r) → Passes ts (aName ∷ xs) ys i Q (expectName ts i λ _. r)
+  pub expects-name : {xs : List Symbol} (i : ℕ) (r : Parsed A) → (isName (kindAt ts i) ≡ true → Passes ts xs ys (i + 1) Q r)
+      → Passes ts (aName ∷ xs) ys i Q (expectName ts i λ _. r)
   unfolding rule
   expects-name {xs} i r f = go (isName (kindAt ts i)) refl
     where
@@ -234,5 +250,6 @@ module _ {ts : List Token} {A : Type 0} {Q : A → ℕ → Type 0} {ys : List Sy
       go (no-element n) = passes-bad (λ S. refuses {x = anElement} {i = i} (rw n))
 
 -- a form of one token
-pub single : {ts : List Token} {A : Type 0} {Q : A → ℕ → Type 0} {a : A} (q i : ℕ) → (kindAt ts i ≡ q → Q a (i + 1)) → kindAt ts i ≡ q → Moves ts [] i Q (push (one q ∷ [])) (ok a (i + 1))
+pub single : {ts : List Token} {A : Type 0} {Q : A → ℕ → Type 0} {a : A} (q i : ℕ) → (kindAt ts i ≡ q → Q a (i + 1)) → kindAt ts i ≡ q
+    → Moves ts [] i Q (push (one q ∷ [])) (ok a (i + 1))
 single q i f e = pushed (takes q e (accept (f e)))

@@ -142,7 +142,8 @@ indexOf (stopped k) = k
 pub data RunsTo (ts : List Token) : List Symbol → ℕ → Halt → Type 0 where
   finish : {i : ℕ} → RunsTo ts [] i (done i)
   shifts : {x : Symbol} {S : List Symbol} {i : ℕ} {e : Halt} → rule x (kindAt ts i) ≡ shift → RunsTo ts S (i + 1) e → RunsTo ts (x ∷ S) i e
-  pushes : {x : Symbol} {S : List Symbol} {i : ℕ} {e : Halt} {xs : List Symbol} → rule x (kindAt ts i) ≡ push xs → RunsTo ts (xs ++ S) i e → RunsTo ts (x ∷ S) i e
+  pushes : {x : Symbol} {S : List Symbol} {i : ℕ} {e : Halt} {xs : List Symbol} → rule x (kindAt ts i) ≡ push xs
+      → RunsTo ts (xs ++ S) i e → RunsTo ts (x ∷ S) i e
   refuses : {x : Symbol} {S : List Symbol} {i : ℕ} → rule x (kindAt ts i) ≡ refuse → RunsTo ts (x ∷ S) i (stopped i)
 
 -- a run does not go back
@@ -168,7 +169,8 @@ unique (refuses r) (pushes q g) = let z : _≡_ {A = ℕ} 0 1 = cc in absurd (om
 unique (refuses r) (refuses q) = refl
 
 -- a run that stops at token k is the same on every list that has the same tokens up to and with k
-pub elsewhere : {ts us : List Token} {S : List Symbol} {i k : ℕ} → ((p : ℕ) → p ≤ k → kindAt us p ≡ kindAt ts p) → RunsTo ts S i (stopped k) → RunsTo us S i (stopped k)
+pub elsewhere : {ts us : List Token} {S : List Symbol} {i k : ℕ} → ((p : ℕ) → p ≤ k → kindAt us p ≡ kindAt ts p)
+    → RunsTo ts S i (stopped k) → RunsTo us S i (stopped k)
 elsewhere same (shifts {x = x} {i = i} r h) = shifts (ap (rule x) (same i (omega (arith, onward h))) ∙ r) (elsewhere same h)
 elsewhere same (pushes {x = x} {i = i} r h) = pushes (ap (rule x) (same i (onward h)) ∙ r) (elsewhere same h)
 elsewhere same (refuses {x = x} {i = i} r) = refuses (ap (rule x) (same i (omega arith)) ∙ r)

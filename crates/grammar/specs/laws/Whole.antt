@@ -31,7 +31,8 @@ module _ {ts : List Token} {A : Type 0} {xs : List Symbol} {i : ℕ} {Q : A → 
   at-bad : {k : ℕ} → PassesOver ts xs i Q (bad k) → RunsTo ts (xs ++ []) i (stopped k)
   at-bad (passes-bad go) = go []
 
-pub parsed : (ts : List Token) {p : Program} {j : ℕ} → parse ts ≡ ok p j → ((kindAt ts j ≡ kEnd) × (j ≡ length ts → DerivesProgram ts p)) × RunsTo ts startStack 0 (done j)
+pub parsed : (ts : List Token) {p : Program} {j : ℕ} → parse ts ≡ ok p j
+    → ((kindAt ts j ≡ kEnd) × (j ≡ length ts → DerivesProgram ts p)) × RunsTo ts startStack 0 (done j)
 parsed ts e = at-ok (rw e at (read-program ts))
 
 pub refused : (ts : List Token) {k : ℕ} → parse ts ≡ bad k → RunsTo ts startStack 0 (stopped k)

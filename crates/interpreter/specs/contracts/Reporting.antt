@@ -22,5 +22,7 @@ endedAs n q s v m = record { number = n; position = q; steps = s; climbs = v; wo
 
 pub data Closes (c : List ℕ) (budget : ℕ) (m : Registers) (climbs : ℕ) : Ended → Type 0 where
   closes-halt : {r : Ended} → m .due ≡ 3 → r ≡ endedAs 0 0 (Word.sub budget (m .left)) climbs m → Closes c budget m climbs r
-  closes-spent : {r : Ended} {q : ℕ} → m .due ≡ 50 → ShortPost c (m .place % 8192) (m .left) q → r ≡ endedAs 50 q budget climbs m → Closes c budget m climbs r
-  closes-fault : {r : Ended} → m .due ≢ 3 → m .due ≢ 50 → r ≡ endedAs (m .due) (operandAt c (m .place % 8192)) (Word.sub budget (m .left)) climbs m → Closes c budget m climbs r
+  closes-spent : {r : Ended} {q : ℕ} → m .due ≡ 50 → ShortPost c (m .place % 8192) (m .left) q → r ≡ endedAs 50 q budget climbs m
+      → Closes c budget m climbs r
+  closes-fault : {r : Ended} → m .due ≢ 3 → m .due ≢ 50
+      → r ≡ endedAs (m .due) (operandAt c (m .place % 8192)) (Word.sub budget (m .left)) climbs m → Closes c budget m climbs r

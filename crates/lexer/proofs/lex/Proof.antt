@@ -15,7 +15,8 @@ abbrev μ-loop : tie.MeasureT-loop
 μ-loop source table₀ kinds count₀ at₀ table count at = length source - at
 
 -- at the loop's head the table is as long as it was at entry
-kept : (c : tie.At-loop Inv-loop μ-loop) → length (c .loop .table) ≡ length (c .before .before .before .before .before .before .before .before .args .table .now)
+kept : (c : tie.At-loop Inv-loop μ-loop)
+    → length (c .loop .table) ≡ length (c .before .before .before .before .before .before .before .before .args .table .now)
 kept c = omega (arith, c .loop .inv .1, c .before .before .before .before .clear-buckets .kept .0)
 
 loop-holds : tie.Need-loop-holds Inv-loop μ-loop

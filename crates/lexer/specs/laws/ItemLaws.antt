@@ -65,7 +65,8 @@ unfolding longestRun
 run-all p [] = all-nil
 run-all p (b ∷ l) = go (p b) refl (run-all p l)
   where
-    go : (c : Bool) → p b ≡ c → All (λ d. p d ≡ true) (longestRun p l) → All (λ d. p d ≡ true) (if c then (λ _. b ∷ longestRun p l) else λ _. [])
+    go : (c : Bool) → p b ≡ c → All (λ d. p d ≡ true) (longestRun p l)
+        → All (λ d. p d ≡ true) (if c then (λ _. b ∷ longestRun p l) else λ _. [])
     go true e h = all-cons e h
     go false e h = all-nil
 
@@ -105,7 +106,8 @@ word-kind-fits t =
     (ltb-true 0 (wordKind t) (q .0), kind-fits (wordKind t) (q .1))
 
 -- what holds of the kind of each mark and of 0 holds of every mark's
-of-marks : (P : ℕ → Type 0) → P 25 → P 26 → P 27 → P 28 → P 29 → P 30 → P 31 → P 32 → P 33 → P 34 → P 35 → P 36 → P 37 → P 38 → P 39 → P 0 → (b : ℕ) → P (markKind b)
+of-marks : (P : ℕ → Type 0) → P 25 → P 26 → P 27 → P 28 → P 29 → P 30 → P 31 → P 32 → P 33 → P 34 → P 35 → P 36 → P 37 → P 38 → P 39
+    → P 0 → (b : ℕ) → P (markKind b)
 unfolding markKind
 of-marks P m₂₅ m₂₆ m₂₇ m₂₈ m₂₉ m₃₀ m₃₁ m₃₂ m₃₃ m₃₄ m₃₅ m₃₆ m₃₇ m₃₈ m₃₉ m₀ b =
     if-both P (eqb b 60) (λ _. 25) _ m₂₅
@@ -200,7 +202,8 @@ module _ (i b : ℕ) (r : List ℕ) where
   good-comment none e w = tt
   good-comment (some j) e w = omega (arith, length-drop 1 r, ap length (w .second))
 
-  good-run : (p : ℕ → Bool) (k : ℕ) → 0 < k → k < 40 → (k ≡ kLiteral → Digits (longestRun p (b ∷ r))) → (isName k ≡ true → longestRun p (b ∷ r) ≡ longestRun isNamePart (b ∷ r))
+  good-run : (p : ℕ → Bool) (k : ℕ) → 0 < k → k < 40 → (k ≡ kLiteral → Digits (longestRun p (b ∷ r)))
+      → (isName k ≡ true → longestRun p (b ∷ r) ≡ longestRun isNamePart (b ∷ r))
       → p b ≡ true → Good i (b ∷ r) (token k (longestRun p (b ∷ r)))
   good-run p k l h d n e = record {
     positive = l;
@@ -235,7 +238,8 @@ module _ (i b : ℕ) (r : List ℕ) where
     named = λ q. absurd (false≢true q);
   }
 
-  good-mark : (k : ℕ) → KindFits k → isName k ≡ false → (z : Bool) → eqb k 0 ≡ z → Good i (b ∷ r) (if z then (λ _. nothing) else λ _. token k (b ∷ []))
+  good-mark : (k : ℕ) → KindFits k → isName k ≡ false → (z : Bool) → eqb k 0 ≡ z
+      → Good i (b ∷ r) (if z then (λ _. nothing) else λ _. token k (b ∷ []))
   good-mark k h n true e = tt
   good-mark k h n false e = record {
     positive = not-zero k (eqb-false k 0 e);

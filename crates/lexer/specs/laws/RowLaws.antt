@@ -61,7 +61,8 @@ first-named [] x h = absurd (omega arith)
 first-named (t ∷ ts) x h = go (hit t x) refl h (first-named ts x)
   where
     go : (c : Bool) → hit t x ≡ c → (if c then (λ _. 0) else λ _. firstNamed ts x + 1) < suc (length ts)
-        → (firstNamed ts x < length ts → NameToken ts (firstNamed ts x) x) → NameToken (t ∷ ts) (if c then (λ _. 0) else λ _. firstNamed ts x + 1) x
+        → (firstNamed ts x < length ts → NameToken ts (firstNamed ts x) x)
+        → NameToken (t ∷ ts) (if c then (λ _. 0) else λ _. firstNamed ts x + 1) x
     go true e l f =
         let q = and-true (isName (t .kind)) (same (t .text) x) e in
         record { item = t; at = refl; named = q .0; text = same-equal (t .text) x (q .1) }
@@ -92,7 +93,8 @@ first-none (t ∷ ts) x f =
     go false e h = omega arith
 
 -- a name's number is fixed by the tokens before it
-pub first-stable : (ts us : List Token) (t : Token) → isName (t .kind) ≡ true → firstNamed (ts ++ t ∷ us) (t .text) ≡ firstNamed ts (t .text)
+pub first-stable : (ts us : List Token) (t : Token) → isName (t .kind) ≡ true
+    → firstNamed (ts ++ t ∷ us) (t .text) ≡ firstNamed ts (t .text)
 unfolding firstNamed
 first-stable [] us t n = rw (hit-true t (t .text) n refl)
 first-stable (u ∷ ts) us t n =
@@ -135,7 +137,8 @@ earlier h finish = finish
 earlier {i} h (follow {t = t} c l k r) = follow {i = i} {t = t} c (omega arith) k r
 
 -- an outcome that is accepted after a step was accepted before it
-bound : {A B : Type 0} (o : Outcome A) (f : A → B) {b : B} → (o >>= λ a. accepted (f a)) ≡ accepted b → (a : A) × (o ≡ accepted a) × (f a ≡ b)
+bound : {A B : Type 0} (o : Outcome A) (f : A → B) {b : B} → (o >>= λ a. accepted (f a)) ≡ accepted b
+    → (a : A) × (o ≡ accepted a) × (f a ≡ b)
 bound (accepted a) f e = (a, refl, cc)
 bound (refused n p) f e = apart (cc)
 
@@ -195,7 +198,8 @@ module _
     of-item nothing g e = never e
     of-item (token k t) g e = of-token k t g (eqb count tokensMost) (tooLong k t) (zeroFirst k t) (tooLarge k t) refl refl refl refl e
 
-sequence-from : (f : ℕ) (s : List ℕ) (count i : ℕ) (ts : List Token) → count ≤ tokensMost → tokensFrom f s count i ≡ accepted ts → Sequence s count i ts
+sequence-from : (f : ℕ) (s : List ℕ) (count i : ℕ) (ts : List Token) → count ≤ tokensMost → tokensFrom f s count i ≡ accepted ts
+    → Sequence s count i ts
 unfolding tokensFrom
 sequence-from zero s count i ts h e = subst (Sequence s count i) (accepted-eq e) finish
 sequence-from (suc f) s count i ts h e = go (λ c j us k q. sequence-from f s c j us k q) (leb (length s) i) refl e
@@ -245,7 +249,8 @@ module _ (s : List ℕ) (ts : List Token) (accepts : tokens s ≡ accepted ts) w
   token-not-end i t e q = omega (arith, token-of i t e .positive)
 
   -- a later token starts past the end of an earlier one
-  pub tokens-ordered : (i j : ℕ) (t u : Token) → i < j → getElem? ts i ≡ some t → getElem? ts j ≡ some u → t .start + length (t .text) ≤ u .start
+  pub tokens-ordered : (i j : ℕ) (t u : Token) → i < j → getElem? ts i ≡ some t → getElem? ts j ≡ some u
+      → t .start + length (t .text) ≤ u .start
   tokens-ordered i j t u h e f = ordered i j h sequence e f
 
   pub starts-increase : (i j : ℕ) (t u : Token) → i < j → getElem? ts i ≡ some t → getElem? ts j ≡ some u → t .start < u .start

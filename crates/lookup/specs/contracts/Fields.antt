@@ -15,7 +15,8 @@ use Rattle.lookup.specs.contracts.HeldClasses.{Lexemes, NameNumber, Mayb
 -- c is the number of the name of a class, or of none
 pub record ObjectSize (tab : List ℕ) (n left c : ℕ) (r : ℕ) : Type 0 where
   pub most : r ≤ 2048 * left
-  pub says : (ts : List Token) (G : List Class) → ClassTableHeld tab n ts G → (name : Option (List ℕ)) → MaybeNumber ts name c → r ≡ length (layout (chainFrom left G name))
+  pub says : (ts : List Token) (G : List Class) → ClassTableHeld tab n ts G → (name : Option (List ℕ)) → MaybeNumber ts name c
+      → r ≡ length (layout (chainFrom left G name))
 
 -- TWO WORDS FOR EACH NAME
 
@@ -34,7 +35,8 @@ pub record FieldsOf (ts : List Token) (G : List Class) (left : ℕ) (owner : Opt
 
 -- the same of the class whose name has the number c, whatever the tokens and the classes are that the table holds
 pub record FieldsHeld (tab : List ℕ) (n left c : ℕ) (fields : List ℕ) : Type 0 where
-  pub says : (ts : List Token) (G : List Class) → ClassTableHeld tab n ts G → (name : Option (List ℕ)) → MaybeNumber ts name c → FieldsOf ts G left name fields
+  pub says : (ts : List Token) (G : List Class) → ClassTableHeld tab n ts G → (name : Option (List ℕ)) → MaybeNumber ts name c
+      → FieldsOf ts G left name fields
 
 -- WRITING THEM
 
@@ -53,7 +55,8 @@ pub record Cleared (n : ℕ) (before after : List ℕ) : Type 0 where
 -- a field of the list comes before what was found above
 pub record OwnHeld (tab : List ℕ) (n left row at : ℕ) (before after : List ℕ) : Type 0 where
   pub stays : KeptBehind before after
-  pub says : (ts : List Token) → Lexemes tab n ts → (vs : List Variable) → rowVariables vs ≡ row → VariablesHeld tab ts vs → length vs ≤ left
+  pub says : (ts : List Token) → Lexemes tab n ts → (vs : List Variable) → rowVariables vs ≡ row → VariablesHeld tab ts vs
+      → length vs ≤ left
       → (text : List ℕ) (x : ℕ) → NameNumber ts text x → (upper : Option Slot) → TellsAt ts before x upper
       → TellsAt ts after x (option (variableNamed vs text) upper λ s. some (moved at s))
 

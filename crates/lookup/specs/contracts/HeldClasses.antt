@@ -108,7 +108,8 @@ pub record MethodHeld (tab : List ℕ) (n : ℕ) (ts : List Token) (m : Method) 
 
 pub data MethodsHeld (tab : List ℕ) (n : ℕ) (ts : List Token) : List Method → Type 0 where
   no-methods : MethodsHeld tab n ts []
-  more-methods : {m : Method} {ms : List Method} → MethodHeld tab n ts m → col tab 6 (m .name .row) ≡ rowMethods ms → MethodsHeld tab n ts ms
+  more-methods : {m : Method} {ms : List Method} → MethodHeld tab n ts m → col tab 6 (m .name .row) ≡ rowMethods ms
+      → MethodsHeld tab n ts ms
       → MethodsHeld tab n ts (m ∷ ms)
 
 pub record ClassHeld (tab : List ℕ) (n : ℕ) (ts : List Token) (k : Class) : Type 0 where

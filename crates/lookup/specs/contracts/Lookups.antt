@@ -34,7 +34,8 @@ pub record Knows (tab : List ℕ) (n w : ℕ) (r : Bool) : Type 0 where
   pub says : (ts : List Token) (G : List Class) → ClassTableHeld tab n ts G → (t : Ty) → Codes ts t w → r ≡ known G (underlying t)
 
 pub record Fits (tab : List ℕ) (n classes v w : ℕ) (r : Bool) : Type 0 where
-  pub says : (ts : List Token) (G : List Class) → ClassTableHeld tab n ts G → length G ≡ classes → (s t : Ty) → Codes ts s v → Codes ts t w → r ≡ fits G s t
+  pub says : (ts : List Token) (G : List Class) → ClassTableHeld tab n ts G → length G ≡ classes → (s t : Ty) → Codes ts s v
+      → Codes ts t w → r ≡ fits G s t
 
 -- MEMBERS
 
@@ -48,7 +49,8 @@ abbrev pub SlotTyped : List Token → Option Slot → ℕ → Type 0
 SlotTyped ts o w = LookedUp ts (λ (s : Slot). s .type) o w
 
 pub record VariableTyped (tab : List ℕ) (n left row x : ℕ) (r : ℕ) : Type 0 where
-  pub says : (ts : List Token) → Lexemes tab n ts → (vs : List Variable) → rowVariables vs ≡ row → VariablesHeld tab ts vs → length vs ≤ left
+  pub says : (ts : List Token) → Lexemes tab n ts → (vs : List Variable) → rowVariables vs ≡ row → VariablesHeld tab ts vs
+      → length vs ≤ left
       → (text : List ℕ) → NameNumber ts text x → SlotTyped ts (variableNamed vs text) r
 
 abbrev pub rowMethod : Option Method → ℕ
@@ -56,17 +58,20 @@ rowMethod none = absent
 rowMethod (some m) = m .name .row
 
 pub record MethodRow (tab : List ℕ) (left row x : ℕ) (r : ℕ) : Type 0 where
-  pub says : (n : ℕ) (ts : List Token) → Lexemes tab n ts → (ms : List Method) → rowMethods ms ≡ row → MethodsHeld tab n ts ms → length ms ≤ left
+  pub says : (n : ℕ) (ts : List Token) → Lexemes tab n ts → (ms : List Method) → rowMethods ms ≡ row → MethodsHeld tab n ts ms
+      → length ms ≤ left
       → (text : List ℕ) → NameNumber ts text x → r ≡ rowMethod (methodNamed ms text)
 
 -- the members of a list have these names, one after the other; more may follow
 pub data Names (tab : List ℕ) (ts : List Token) : ℕ → List (List ℕ) → Type 0 where
   no-names : {row : ℕ} → Names tab ts row []
-  more-names : {row next number : ℕ} {x : List ℕ} {xs : List (List ℕ)} → row < absent → col tab 2 row ≡ number → NameNumber ts x number → col tab 6 row ≡ next
+  more-names : {row next number : ℕ} {x : List ℕ} {xs : List (List ℕ)} → row < absent → col tab 2 row ≡ number → NameNumber ts x number
+      → col tab 6 row ≡ next
       → Names tab ts next xs → Names tab ts row (x ∷ xs)
 
 pub record Repeated (tab : List ℕ) (count row x : ℕ) (r : Bool) : Type 0 where
-  pub says : (ts : List Token) (xs : List (List ℕ)) → Names tab ts row xs → length xs ≡ count → (text : List ℕ) → NameNumber ts text x → r ≡ occurs text xs
+  pub says : (ts : List Token) (xs : List (List ℕ)) → Names tab ts row xs → length xs ≡ count → (text : List ℕ) → NameNumber ts text x
+      → r ≡ occurs text xs
 
 -- a list of so many members
 pub data Many (tab : List ℕ) : ℕ → ℕ → Type 0 where
@@ -80,7 +85,8 @@ pub record Counts (tab : List ℕ) (left row : ℕ) (r : ℕ) : Type 0 where
 -- CHAINS
 
 pub record Above (tab : List ℕ) (class : ℕ) (r : ℕ) : Type 0 where
-  pub says : (n : ℕ) (ts : List Token) → Lexemes tab n ts → (k : Class) → k .name .row ≡ class → ClassHeld tab n ts k → MaybeNumber ts (parentName (k .parent)) r
+  pub says : (n : ℕ) (ts : List Token) → Lexemes tab n ts → (k : Class) → k .name .row ≡ class → ClassHeld tab n ts k
+      → MaybeNumber ts (parentName (k .parent)) r
 
 -- a class of this number is among these
 unfoldable pub amongNumbers : List Token → ℕ → List Class → Bool
@@ -88,7 +94,8 @@ amongNumbers ts d [] = false
 amongNumbers ts d (k ∷ ks) = eqb (firstNamed ts (k .name .text)) d || amongNumbers ts d ks
 
 pub record OnChain (tab : List ℕ) (left c d : ℕ) (r : Bool) : Type 0 where
-  pub says : (n : ℕ) (ts : List Token) (G : List Class) → ClassTableHeld tab n ts G → (name : Option (List ℕ)) → MaybeNumber ts name c → r ≡ amongNumbers ts d (chainFrom left G name)
+  pub says : (n : ℕ) (ts : List Token) (G : List Class) → ClassTableHeld tab n ts G → (name : Option (List ℕ)) → MaybeNumber ts name c
+      → r ≡ amongNumbers ts d (chainFrom left G name)
 
 -- how many classes the search for a method visits: up to and including the first that has it
 unfoldable pub visited : List Class → (method : List ℕ) → ℕ
@@ -105,5 +112,6 @@ rowFound none = absent
 rowFound (some F) = F .method .name .row
 
 pub record FindsMethod (tab : List ℕ) (n left c x : ℕ) (r : ℕ) : Type 0 where
-  pub says : (ts : List Token) (G : List Class) → ClassTableHeld tab n ts G → (name : Option (List ℕ)) → MaybeNumber ts name c → (text : List ℕ) → NameNumber ts text x
+  pub says : (ts : List Token) (G : List Class) → ClassTableHeld tab n ts G → (name : Option (List ℕ)) → MaybeNumber ts name c
+      → (text : List ℕ) → NameNumber ts text x
       → r ≡ rowFound (nearestMethod (chainFrom left G name) text)

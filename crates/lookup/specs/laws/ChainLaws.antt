@@ -40,12 +40,14 @@ chain-some (suc left) G (some c) {k} n e =
     rw (e, z) (ap (λ (ks : List Class). k ∷ ks) (up left G (k .parent)))
 
 -- every class of a chain stands in the table
-pub chain-stands : {tab : List ℕ} {n : ℕ} {ts : List Token} {G : List Class} → ClassTableHeld tab n ts G → (left : ℕ) (c : List ℕ) → All (ClassHeld tab n ts) (chainWithin left G c)
+pub chain-stands : {tab : List ℕ} {n : ℕ} {ts : List Token} {G : List Class} → ClassTableHeld tab n ts G → (left : ℕ) (c : List ℕ)
+    → All (ClassHeld tab n ts) (chainWithin left G c)
 unfolding chainWithin
 chain-stands w zero c = all-nil
 chain-stands {tab} {n} {ts} {G} w (suc left) c = here (chain-stands w left) (classNamed G c) refl
   where
-    above : ((d : List ℕ) → All (ClassHeld tab n ts) (chainWithin left G d)) → (p : Option Name) → All (ClassHeld tab n ts) (option p [] λ q. chainWithin left G (q .text))
+    above : ((d : List ℕ) → All (ClassHeld tab n ts) (chainWithin left G d)) → (p : Option Name)
+        → All (ClassHeld tab n ts) (option p [] λ q. chainWithin left G (q .text))
     above f none = all-nil
     above f (some q) = f (q .text)
 
@@ -56,7 +58,8 @@ chain-stands {tab} {n} {ts} {G} w (suc left) c = here (chain-stands w left) (cla
 
 -- METHODS
 
-nearest-stands : {tab : List ℕ} {n : ℕ} {ts : List Token} {ks : List Class} (x : List ℕ) {F : Found} → All (ClassHeld tab n ts) ks → nearestMethod ks x ≡ some F
+nearest-stands : {tab : List ℕ} {n : ℕ} {ts : List Token} {ks : List Class} (x : List ℕ) {F : Found} → All (ClassHeld tab n ts) ks
+    → nearestMethod ks x ≡ some F
     → MethodHeld tab n ts (F .method)
 unfolding nearestMethod
 nearest-stands x all-nil e = absurd (none-some refl e)
@@ -66,7 +69,8 @@ nearest-stands {tab} {n} {ts} x {F = F} (all-cons {x = k} s h) e =
     (λ m z q. let w : m ≡ F .method = cc in subst (MethodHeld tab n ts) w (all-methods x (methods-stand (s .methods)) z))
 
 -- a method that is found on a chain stands in the table
-pub found-stands : {tab : List ℕ} {n : ℕ} {ts : List Token} {G : List Class} → ClassTableHeld tab n ts G → (left : ℕ) (name : Option (List ℕ)) (x : List ℕ) {F : Found}
+pub found-stands : {tab : List ℕ} {n : ℕ} {ts : List Token} {G : List Class} → ClassTableHeld tab n ts G
+    → (left : ℕ) (name : Option (List ℕ)) (x : List ℕ) {F : Found}
     → nearestMethod (chainFrom left G name) x ≡ some F → MethodHeld tab n ts (F .method)
 unfolding nearestMethod
 found-stands w left none x e = absurd (none-some refl e)

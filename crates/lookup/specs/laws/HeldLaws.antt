@@ -30,7 +30,8 @@ use Rattle.parser.specs.contracts.Layout.{absent}
 use Rattle.lookup.specs.contracts.HeldClasses.{wordAt, Lexemes, NameNumber, MaybeNumber, no-name, a-name, elementCode, code, arrayMark, noType, ElementCodes, code-int, code-boolean, code-class, Codes, code-plain, code-array, MethodHeld, MethodsHeld, no-methods, more-methods, ClassHeld, ClassesHeld, no-classes, more-classes, rowClass, ClassTableHeld, classOf}
 
 -- a list that stands in a row, and not past the last, has a member
-pub none-left : {A : Type 0} (first : List A → ℕ) → first [] ≡ absent → (xs : List A) {row left : ℕ} → first xs ≡ row → length xs ≤ left → row < absent → left ≡ 0 → ⊥
+pub none-left : {A : Type 0} (first : List A → ℕ) → first [] ≡ absent → (xs : List A) {row left : ℕ} → first xs ≡ row → length xs ≤ left
+    → row < absent → left ≡ 0 → ⊥
 none-left first e [] at few near z = omega (arith, e, at)
 none-left first e (x ∷ xs) at few near z = omega arith
 
@@ -100,16 +101,19 @@ methods-stand no-methods = all-nil
 methods-stand (more-methods s e h) = all-cons s (methods-stand h)
 
 -- the number of a class's name
-pub spelt-class : {tab : List ℕ} {n : ℕ} {ts : List Token} → Lexemes tab n ts → (k : Class) → ClassHeld tab n ts k → NameNumber ts (k .name .text) (col tab 2 (k .name .row))
+pub spelt-class : {tab : List ℕ} {n : ℕ} {ts : List Token} → Lexemes tab n ts → (k : Class) → ClassHeld tab n ts k
+    → NameNumber ts (k .name .text) (col tab 2 (k .name .row))
 spelt-class lx k s = spelt lx (k .name .row) (s .named .token)
 
 -- what the index leads to from a name, or from none
 pub data ClassAt (tab : List ℕ) (n : ℕ) (ts : List Token) (G : List Class) (name : Option (List ℕ)) (c : ℕ) (row : ℕ) : Type 0 where
   no-class : classOf G name ≡ none → absent ≤ row → ClassAt tab n ts G name c row
-  a-class : (k : Class) → classOf G name ≡ some k → k .name .row ≡ row → row < absent → ClassHeld tab n ts k → NameNumber ts (k .name .text) c → ClassAt tab n ts G name c row
+  a-class : (k : Class) → classOf G name ≡ some k → k .name .row ≡ row → row < absent → ClassHeld tab n ts k
+      → NameNumber ts (k .name .text) c → ClassAt tab n ts G name c row
 
 module _ {tab : List ℕ} {n : ℕ} {ts : List Token} {G : List Class} (w : ClassTableHeld tab n ts G) where
-  found : (c : List ℕ) (number row : ℕ) (o : Option Class) → NameNumber ts c number → classNamed G c ≡ o → row ≡ rowClass o → ClassAt tab n ts G (some c) number row
+  found : (c : List ℕ) (number row : ℕ) (o : Option Class) → NameNumber ts c number → classNamed G c ≡ o → row ≡ rowClass o
+      → ClassAt tab n ts G (some c) number row
   found c number row none s e r = no-class e (omega (arith, r))
   found c number row (some k) s e r =
       let h = all-classes c (all-stand (w .classes)) e in

@@ -34,7 +34,8 @@ variable-left [] ws x e = absurd (none-some refl e)
 variable-left (v ∷ vs) ws x {s} e = go (same (v .name .text) x) (variableNamed vs x) (variableNamed (vs ++ ws) x) _ (λ t q. variable-left vs ws x q) e
   where
     go : (b : Bool) (o o′ : Option Slot) (a : Slot) → ((t : Slot) → o ≡ some t → o′ ≡ some t)
-        → (if b then (λ _. some a) else λ _. option o none λ s. some (moved 1 s)) ≡ some s → (if b then (λ _. some a) else λ _. option o′ none λ s. some (moved 1 s)) ≡ some s
+        → (if b then (λ _. some a) else λ _. option o none λ s. some (moved 1 s)) ≡ some s
+        → (if b then (λ _. some a) else λ _. option o′ none λ s. some (moved 1 s)) ≡ some s
     go true o o′ a f h = h
     go false none o′ a f h = absurd (none-some refl h)
     go false (some t) o′ a f h = rw (f t refl) h
@@ -44,18 +45,21 @@ pub typed-moved : {ts : List Token} (k : ℕ) {o : Option Slot} {r : ℕ} → Sl
 typed-moved k (untyped e) = untyped e
 typed-moved k (typed c) = typed c
 
-pub variable-right : {ts : List Token} (vs ws : List Variable) (x : List ℕ) {r : ℕ} → variableNamed vs x ≡ none → SlotTyped ts (variableNamed ws x) r → SlotTyped ts (variableNamed (vs ++ ws) x) r
+pub variable-right : {ts : List Token} (vs ws : List Variable) (x : List ℕ) {r : ℕ} → variableNamed vs x ≡ none
+    → SlotTyped ts (variableNamed ws x) r → SlotTyped ts (variableNamed (vs ++ ws) x) r
 unfolding variableNamed
 variable-right [] ws x e h = h
 variable-right {ts} (v ∷ vs) ws x {r} e h = go (same (v .name .text) x) (variableNamed vs x) (variableNamed (vs ++ ws) x) _ (λ q. variable-right vs ws x q h) e
   where
-    go : (b : Bool) (o o′ : Option Slot) (a : Slot) → (o ≡ none → SlotTyped ts o′ r) → (if b then (λ _. some a) else λ _. option o none λ s. some (moved 1 s)) ≡ none
+    go : (b : Bool) (o o′ : Option Slot) (a : Slot) → (o ≡ none → SlotTyped ts o′ r)
+        → (if b then (λ _. some a) else λ _. option o none λ s. some (moved 1 s)) ≡ none
         → SlotTyped ts (if b then (λ _. some a) else λ _. option o′ none λ s. some (moved 1 s)) r
     go true o o′ a f h = absurd (none-some h refl)
     go false none o′ a f h = typed-moved 1 (f refl)
     go false (some t) o′ a f h = absurd (none-some h refl)
 
 -- a list has as many members as the walk along it
-pub variables-many : {tab : List ℕ} {n : ℕ} {ts : List Token} → Lexemes tab n ts → {vs : List Variable} → VariablesHeld tab ts vs → Many tab (rowVariables vs) (length vs)
+pub variables-many : {tab : List ℕ} {n : ℕ} {ts : List Token} → Lexemes tab n ts → {vs : List Variable} → VariablesHeld tab ts vs
+    → Many tab (rowVariables vs) (length vs)
 variables-many lx no-variables = many-none {row = absent} (omega arith)
 variables-many lx (more-variables {v} m e₃ e₆ s) = many-more (row-there lx (v .name .row) (m .name .token .there)) e₆ (variables-many lx s)

@@ -26,7 +26,8 @@ may-sound : (us : List Class) (k : Class) → mayStand us k ≡ true → MayStan
 unfolding mayStand
 may-sound us k h = go (among (className k) us) (k .parent) refl refl h
   where
-    go : (b : Bool) (o : Option Name) → among (className k) us ≡ b → k .parent ≡ o → (not b && option o true λ p. among (p .text) us) ≡ true → MayStand us k
+    go : (b : Bool) (o : Option Name) → among (className k) us ≡ b → k .parent ≡ o
+        → (not b && option o true λ p. among (p .text) us) ≡ true → MayStand us k
     go true o e q h = apart (cc)
     go false none e q h = record { new = e; after = λ p f. absurd (none-some q f) }
     go false (some r) e q h = record { new = e; after = λ p f. let z : r ≡ p = cc in rw (← z) h }
@@ -55,7 +56,8 @@ earliest-sound us (j ∷ G) {k} e =
       others = all-cons (λ s. true≢false (sym (may-complete us j s) ∙ m)) (h .others);
     })
 
-earliest-there : (us xs : List Class) (k : Class) (ys : List Class) → All (λ (j : Class). mayStand us j ≡ false) xs → mayStand us k ≡ true → earliest us (xs ++ k ∷ ys) ≡ some k
+earliest-there : (us xs : List Class) (k : Class) (ys : List Class) → All (λ (j : Class). mayStand us j ≡ false) xs
+    → mayStand us k ≡ true → earliest us (xs ++ k ∷ ys) ≡ some k
 unfolding earliest
 earliest-there us [] k ys all-nil m = rw m
 earliest-there us (x ∷ xs) k ys (all-cons e h) m = rw e (earliest-there us xs k ys h m)
@@ -69,7 +71,8 @@ earliest-complete us G {k} h = rw (h .there) (earliest-there us (h .before) k (h
 -- PLACES
 
 -- in each place stands the earliest class that may stand there
-pub writing-places : (n : ℕ) (G w us : List Class) (k : Class) (vs : List Class) → writing n G w ≡ us ++ k ∷ vs → earliest (w ++ us) G ≡ some k
+pub writing-places : (n : ℕ) (G w us : List Class) (k : Class) (vs : List Class) → writing n G w ≡ us ++ k ∷ vs
+    → earliest (w ++ us) G ≡ some k
 unfolding writing
 writing-places zero G w [] k vs e = apart (cc)
 writing-places zero G w (x ∷ us) k vs e = apart (cc)
@@ -83,7 +86,8 @@ writing-places (suc n) G w (x ∷ us) k vs e =
     ap (λ (l : List Class). earliest l G) (ap (λ (i : Class). w ++ i ∷ us) z ∙ sym (append-assoc w (j ∷ []) us)) ∙ writing-places n G (w ++ j ∷ []) us k vs rest)
 
 -- and what has so in each place is that order
-pub places-writing : (G w o : List Class) → ((us : List Class) (k : Class) (vs : List Class) → o ≡ us ++ k ∷ vs → earliest (w ++ us) G ≡ some k) → o ≡ writing (length o) G w
+pub places-writing : (G w o : List Class)
+    → ((us : List Class) (k : Class) (vs : List Class) → o ≡ us ++ k ∷ vs → earliest (w ++ us) G ≡ some k) → o ≡ writing (length o) G w
 unfolding writing
 places-writing G w [] h = refl
 places-writing G w (k ∷ o) h =
@@ -125,7 +129,8 @@ unwritten-all [] = refl
 unwritten-all (k ∷ G) = ap (λ (l : List Class). k ∷ l) (unwritten-all G)
 
 -- the first of them
-unwritten-some : (w G : List Class) {u : Class} {us : List Class} → unwritten w G ≡ u ∷ us → (xs ys : List Class) × (G ≡ xs ++ u ∷ ys) × (among (className u) w ≡ false)
+unwritten-some : (w G : List Class) {u : Class} {us : List Class} → unwritten w G ≡ u ∷ us
+    → (xs ys : List Class) × (G ≡ xs ++ u ∷ ys) × (among (className u) w ≡ false)
 unfolding unwritten
 unwritten-some w [] e = apart (cc)
 unwritten-some w (k ∷ G) {u} {us} e =
@@ -188,7 +193,8 @@ all-there [] ys (all-cons p h) = p
 all-there (x ∷ xs) ys (all-cons p h) = all-there xs ys h
 
 -- where some class may stand there is an earliest one
-some-earliest : (us xs : List Class) (k : Class) (ys : List Class) → mayStand us k ≡ true → (j : Class) × (earliest us (xs ++ k ∷ ys) ≡ some j)
+some-earliest : (us xs : List Class) (k : Class) (ys : List Class) → mayStand us k ≡ true
+    → (j : Class) × (earliest us (xs ++ k ∷ ys) ≡ some j)
 unfolding earliest
 some-earliest us [] k ys m = (k, rw m)
 some-earliest us (x ∷ xs) k ys m =
@@ -223,7 +229,8 @@ module _ (G : List Class) (ds : Distinct (map className G)) (A : Acyclic G) wher
       go (x ∷ l) e = absurd (omega arith)
   writing-each (suc n) w e = go (unwritten w G) refl (λ v f. writing-each n v f)
     where
-      go : (l : List Class) → unwritten w G ≡ l → ((v : List Class) → length (unwritten v G) ≡ n → List·Permᴰ (writing n G v) (unwritten v G))
+      go : (l : List Class) → unwritten w G ≡ l
+          → ((v : List Class) → length (unwritten v G) ≡ n → List·Permᴰ (writing n G v) (unwritten v G))
           → List·Permᴰ (writing (suc n) G w) (unwritten w G)
       go [] q next = absurd (omega (arith, sym (ap (λ (l : List Class). length l) q) ∙ e))
       go (u ∷ us) q next =

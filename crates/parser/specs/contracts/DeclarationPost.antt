@@ -105,7 +105,8 @@ topOf classList n = 2049
 pub record DeclPost (d : Declaration) (n i : ℕ) (before : List ℕ) (r : Answer) (after : List ℕ) : Type 0 where
   pub kept : given after ≡ given before
   pub within : Within (lowOf d i) n (topOf d n) r
-  pub says : (ts : List Token) → TokensIn before n ts → (f : ℕ) → 16 * (n - i) + rankOf d < f → Met (declarationStored d) before after r (itemFrom d f ts i)
+  pub says : (ts : List Token) → TokensIn before n ts → (f : ℕ) → 16 * (n - i) + rankOf d < f
+      → Met (declarationStored d) before after r (itemFrom d f ts i)
 
 -- what was read ends with the token of its row
 abbrev pub EndsThere : Answer → Type 0
@@ -134,34 +135,42 @@ pub record LocalsPost (n name parameters j : ℕ) (before : List ℕ) (r : Answe
   pub within : Within (j + 1) n n r
   pub says : (head : Variable) (ps : List Variable) (base : List ℕ) → name ≡ head .name .row → parameters ≡ rowVariables ps
       → before ≡ storeVariables ps (storeVariable head base)
-      → (ts : List Token) → TokensIn before n ts → (f : ℕ) → 16 * (n - j) < f → Met (declarationStored aMethod) base after r (localsFrom f ts head ps j)
+      → (ts : List Token) → TokensIn before n ts → (f : ℕ) → 16 * (n - j) < f
+      → Met (declarationStored aMethod) base after r (localsFrom f ts head ps j)
 
 pub record BodyPost (n name parameters locals j : ℕ) (before : List ℕ) (r : Answer) (after : List ℕ) : Type 0 where
   pub kept : given after ≡ given before
   pub within : Within (j + 1) n n r
-  pub says : (head : Variable) (ps ls : List Variable) (base : List ℕ) → name ≡ head .name .row → parameters ≡ rowVariables ps → locals ≡ rowVariables ls
+  pub says : (head : Variable) (ps ls : List Variable) (base : List ℕ) → name ≡ head .name .row → parameters ≡ rowVariables ps
+      → locals ≡ rowVariables ls
       → before ≡ storeVariables ls (storeVariables ps (storeVariable head base))
-      → (ts : List Token) → TokensIn before n ts → (f : ℕ) → 16 * (n - j) + 1 < f → Met (declarationStored aMethod) base after r (bodyFrom f ts head ps ls j)
+      → (ts : List Token) → TokensIn before n ts → (f : ℕ) → 16 * (n - j) + 1 < f
+      → Met (declarationStored aMethod) base after r (bodyFrom f ts head ps ls j)
 
 pub record ReturnedPost (n name parameters locals body j : ℕ) (before : List ℕ) (r : Answer) (after : List ℕ) : Type 0 where
   pub kept : given after ≡ given before
   pub within : Within (j + 1) n n r
-  pub says : (head : Variable) (ps ls : List Variable) (ss : Part statements) (base : List ℕ) → name ≡ head .name .row → parameters ≡ rowVariables ps
+  pub says : (head : Variable) (ps ls : List Variable) (ss : Part statements) (base : List ℕ) → name ≡ head .name .row
+      → parameters ≡ rowVariables ps
       → locals ≡ rowVariables ls → body ≡ rowOf ss → before ≡ store ss (storeVariables ls (storeVariables ps (storeVariable head base)))
-      → (ts : List Token) → TokensIn before n ts → (f : ℕ) → 16 * (n - j) + 6 < f → Met (declarationStored aMethod) base after r (returnedFrom f ts head ps ls ss j)
+      → (ts : List Token) → TokensIn before n ts → (f : ℕ) → 16 * (n - j) + 6 < f
+      → Met (declarationStored aMethod) base after r (returnedFrom f ts head ps ls ss j)
 
 -- a class after its parent, and after its fields
 pub record MembersPost (n name parent j : ℕ) (before : List ℕ) (r : Answer) (after : List ℕ) : Type 0 where
   pub kept : given after ≡ given before
   pub within : Within (j + 1) n n r
   pub says : (p : Option Name) → parent ≡ rowParent p
-      → (ts : List Token) → TokensIn before n ts → (f : ℕ) → 16 * (n - j) < f → Met (declarationStored aClass) before after r (membersFrom f ts (nameAt ts name) p j)
+      → (ts : List Token) → TokensIn before n ts → (f : ℕ) → 16 * (n - j) < f
+      → Met (declarationStored aClass) before after r (membersFrom f ts (nameAt ts name) p j)
 
 pub record ClassMethodsPost (n name parent fields j : ℕ) (before : List ℕ) (r : Answer) (after : List ℕ) : Type 0 where
   pub kept : given after ≡ given before
   pub within : Within (j + 1) n n r
-  pub says : (p : Option Name) (fs : List Variable) (base : List ℕ) → parent ≡ rowParent p → fields ≡ rowVariables fs → before ≡ storeVariables fs base
-      → (ts : List Token) → TokensIn before n ts → (f : ℕ) → 16 * (n - j) + 3 < f → Met (declarationStored aClass) base after r (classMethodsFrom f ts (nameAt ts name) p fs j)
+  pub says : (p : Option Name) (fs : List Variable) (base : List ℕ) → parent ≡ rowParent p → fields ≡ rowVariables fs
+      → before ≡ storeVariables fs base
+      → (ts : List Token) → TokensIn before n ts → (f : ℕ) → 16 * (n - j) + 3 < f
+      → Met (declarationStored aClass) base after r (classMethodsFrom f ts (nameAt ts name) p fs j)
 
 -- the whole program
 abbrev pub wholeProgram : Stored Program

@@ -115,12 +115,14 @@ pub record RestPost (R : Rest) (n left i : ℕ) (before : List ℕ) (r : Answer)
   pub kept : given after ≡ given before
   pub within : Within i n n r
   pub says : (l : Expression) (base : List ℕ) → left ≡ rowOf l → before ≡ store l base
-      → (ts : List Token) → TokensIn before n ts → (f : ℕ) → 16 * (n - i) < f → Met (part expression) base after r (parseAs f ts (restMode R l) i)
+      → (ts : List Token) → TokensIn before n ts → (f : ℕ) → 16 * (n - i) < f
+      → Met (part expression) base after r (parseAs f ts (restMode R l) i)
 
 -- what the parser ensures that goes on with the operators of each level from `top` down to `level`: after an operand of `top`, which was written over `base`,
 -- the whole is an operation of `level`
 pub record LevelsPost (level top n first left i : ℕ) (before : List ℕ) (r : Answer) (after : List ℕ) : Type 0 where
-  pub says : (base : List ℕ) → ModePost (operand (levelAt top)) n n first base (At left i) before → ModePost (operation (levelAt level)) n n first base r after
+  pub says : (base : List ℕ) → ModePost (operand (levelAt top)) n n first base (At left i) before
+      → ModePost (operation (levelAt level)) n n first base r after
 
 -- STATEMENTS
 
@@ -133,11 +135,13 @@ matchedIn tab n i (q ∷ qs) = if accepts q (kindInTable tab n i) then (λ _. 1 
 pub record ListPost (n i : ℕ) (before : List ℕ) (r : Answer) (after : List ℕ) : Type 0 where
   pub kept : given after ≡ given before
   pub within : Within i n 2049 r
-  pub says : (ts : List Token) → TokensIn before n ts → (f : ℕ) → fuel statementList n i < f → Met (part statements) before after r (parseAs f ts statementList i)
+  pub says : (ts : List Token) → TokensIn before n ts → (f : ℕ) → fuel statementList n i < f
+      → Met (part statements) before after r (parseAs f ts statementList i)
 
 -- what ensures the parser that goes on after the test of an `if`, which was written over `base`
 pub record BranchesPost (n i test j : ℕ) (before : List ℕ) (r : Answer) (after : List ℕ) : Type 0 where
   pub kept : given after ≡ given before
   pub within : Within (j + 1) n n r
-  pub says : (e : Expression) (base : List ℕ) → test ≡ rowOf e → before ≡ store e base → (ts : List Token) → TokensIn before n ts → (f : ℕ) → 16 * (n - j) < f
+  pub says : (e : Expression) (base : List ℕ) → test ≡ rowOf e → before ≡ store e base → (ts : List Token) → TokensIn before n ts
+      → (f : ℕ) → 16 * (n - j) < f
       → Met (part statement) base after r (branchesFrom ts (λ s m j. parseAs f ts m j) i e j)

@@ -36,7 +36,8 @@ Fills (refused n p) a tab = a ≡ Refused n p
 
 -- of the stages after the lexer, whatever the source is whose tokens the table holds
 pub record GrowPost (n size : ℕ) (before : List ℕ) (a : Filled) (after : List ℕ) : Type 0 where
-  pub says : (s : List ℕ) (ts : List Token) → length s ≡ size → length s ≤ sourceMost → tokens s ≡ accepted ts → length ts ≡ n → Rows before ts
+  pub says : (s : List ℕ) (ts : List Token) → length s ≡ size → length s ≤ sourceMost → tokens s ≡ accepted ts → length ts ≡ n
+      → Rows before ts
       → Fills (reading s) a after
 
 -- of the last stage, whatever the tree is that the table holds

@@ -113,16 +113,19 @@ pub record Sound (tab : List ℕ) (ts : List Token) (low : ℕ) (chain : Bool) {
 
 -- the walk of what lies in a row, at depth d: whatever the part is that the table holds there
 pub record Walks (tab : List ℕ) (n : ℕ) (chain : Bool) (row d : ℕ) (w : Walked) : Type 0 where
-  pub says : (ts : List Token) → TokensIn tab n ts → {s : Sort} (t : Part s) (low : ℕ) → rowOf t ≡ row → Sound tab ts low chain t → WalkAnswers (deep d t) (nodes t) w
+  pub says : (ts : List Token) → TokensIn tab n ts → {s : Sort} (t : Part s) (low : ℕ) → rowOf t ≡ row → Sound tab ts low chain t
+      → WalkAnswers (deep d t) (nodes t) w
 
 -- DECLARATIONS
 
 pub record WalksMethods (tab : List ℕ) (n row : ℕ) (w : Walked) : Type 0 where
-  pub says : (ts : List Token) → TokensIn tab n ts → (ms : List Method) → rowMethods ms ≡ row → HoldsMethods tab ms → MethodsMatch ts ms → MethodsOrdered ms
+  pub says : (ts : List Token) → TokensIn tab n ts → (ms : List Method) → rowMethods ms ≡ row → HoldsMethods tab ms → MethodsMatch ts ms
+      → MethodsOrdered ms
       → WalkAnswers (methodsDeep ms) (methodsNodes ms) w
 
 pub record WalksClasses (tab : List ℕ) (n row : ℕ) (w : Walked) : Type 0 where
-  pub says : (ts : List Token) → TokensIn tab n ts → (ks : List Class) → rowClasses ks ≡ row → HoldsClasses tab ks → ClassesMatch ts ks → ClassesOrdered ks
+  pub says : (ts : List Token) → TokensIn tab n ts → (ks : List Class) → rowClasses ks ≡ row → HoldsClasses tab ks → ClassesMatch ts ks
+      → ClassesOrdered ks
       → WalkAnswers (classesDeep ks) (classesNodes ks) w
 
 -- main's statement stands in row 14, and no count is too large

@@ -37,7 +37,8 @@ pub record Lies (i j : ℕ) (E : Region) (f : List ℕ → List ℕ) (H : List �
   pub order : i ≤ j
   pub long : (tab : List ℕ) → length (f tab) ≡ length tab
   pub other : j ≤ rows → (tab : List ℕ) (k r : ℕ) → r < rows → (Inside i j k r → ⊥) → col (f tab) k r ≡ col tab k r
-  pub holds : j ≤ rows → (tab tab′ : List ℕ) → size ≤ length tab → ((k r : ℕ) → Inside i j k r → (E k r → ⊥) → col tab′ k r ≡ col (f tab) k r) → H tab′
+  pub holds : j ≤ rows → (tab tab′ : List ℕ) → size ≤ length tab
+      → ((k r : ℕ) → Inside i j k r → (E k r → ⊥) → col tab′ k r ≡ col (f tab) k r) → H tab′
 
 -- two parts [a, b) and [c, d) of [i, j) have no row in common, and the words of E in them are words of A and of B
 pub record Beside (i j : ℕ) (E : Region) (a b : ℕ) (A : Region) (c d : ℕ) (B : Region) : Type 0 where
@@ -66,7 +67,8 @@ module _ {f : List ℕ → List ℕ} {H : List ℕ → Type 0} where
       }
 
   -- one writing and then another
-  pub join : (i j : ℕ) (E : Region) {a b c d : ℕ} {A B : Region} {g : List ℕ → List ℕ} {G : List ℕ → Type 0} → Lies a b A f H → Lies c d B g G → Beside i j E a b A c d B
+  pub join : (i j : ℕ) (E : Region) {a b c d : ℕ} {A B : Region} {g : List ℕ → List ℕ} {G : List ℕ → Type 0} → Lies a b A f H
+      → Lies c d B g G → Beside i j E a b A c d B
       → Lies i j E (λ tab. g (f tab)) (λ tab. H tab × G tab)
   join i j E x y s =
       record {

@@ -269,14 +269,16 @@ module _ (ts : List Token) (few : length ts ≤ 2048) (rising : TokensRise ts) w
         value = order v (omega arith) (λ l. omega arith);
       }
 
-  methods-order : {i j : ℕ} {ms : List Method} → DerivesMethods ts i j ms → i ≤ length ts → (i ≤ j) × (i ≤ rowMethods ms) × (j ≤ length ts) × MethodsOrdered ms
+  methods-order : {i j : ℕ} {ms : List Method} → DerivesMethods ts i j ms → i ≤ length ts
+      → (i ≤ j) × (i ≤ rowMethods ms) × (j ≤ length ts) × MethodsOrdered ms
   unfolding MethodsOrdered
   methods-order no-method h = (omega arith, omega arith, h, tt)
   methods-order (more-methods m ms) h =
       let u = method-order m in let v = methods-order ms (u .end) in
       (omega (arith, u .low, u .high, v .0), u .low, v .2, (omega (arith, u .high, v .1), u .body, u .value, v .3))
 
-  class-order : {i j : ℕ} {k : Class} → DerivesClass ts i j k → (k .name .row ≡ i + 1) × (i + 1 < j) × (j ≤ length ts) × MethodsOrdered (k .methods)
+  class-order : {i j : ℕ} {k : Class} → DerivesClass ts i j k
+      → (k .name .row ≡ i + 1) × (i + 1 < j) × (j ≤ length ts) × MethodsOrdered (k .methods)
   class-order (a-class-declaration {i = i} {a = a} {b = b} {c = c} e₁ e₂ p e₃ fs ms e₄) =
       let n₁ = parent-forward p in
       let n₂ = there ts a e₃ (lit< tt) in

@@ -46,7 +46,8 @@ module _ (s : List ℕ) where
       unfolding reading
       not-shallow p j at q d = rw (le-ltb sourceMost (length s) short, e, q, d) refl
 
-      pub read-well : (p : Program) (j : ℕ) → parse ts ≡ ok p j → programDeep p ≡ none → reading s ≡ accepted (record { stream = ts; tree = p })
+      pub read-well : (p : Program) (j : ℕ) → parse ts ≡ ok p j → programDeep p ≡ none
+          → reading s ≡ accepted (record { stream = ts; tree = p })
       unfolding reading
       read-well p j q d = rw (le-ltb sourceMost (length s) short, e, q, d) refl
 
@@ -76,7 +77,8 @@ pub record ParsedTo (ts : List Token) (before after : List ℕ) (next : ℕ) : T
   pub stored : after ≡ storeProgram tree before
 
 module _ {before after : List ℕ} where
-  met-at : {ts : List Token} {res : Parsed Program} {x j : ℕ} → parse ts ≡ res → Met wholeProgram before after (At x j) res → ParsedTo ts before after j
+  met-at : {ts : List Token} {res : Parsed Program} {x j : ℕ} → parse ts ≡ res → Met wholeProgram before after (At x j) res
+      → ParsedTo ts before after j
   met-at e (met-ok {a = p} r w) = record { tree = p; parsed = e; stored = w }
 
   met-bad-at : {res : Parsed Program} {k : ℕ} → Met wholeProgram before after (Bad k) res → res ≡ bad k

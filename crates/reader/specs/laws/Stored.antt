@@ -34,7 +34,8 @@ use Rattle.reader.specs.laws.Framing.{Inside, Region, nowhere, wholeRow,
 use Rattle.reader.specs.laws.Framing.{join, another, link}
 
 -- a node's row, written after its parts, none of which has a word in it; E is what of it is still not read
-with-row : (p : Place) (left right : ℕ) {i j : ℕ} {f : List ℕ → List ℕ} {H : List ℕ → Type 0} (E : Region) → Lies i j (wholeRow (p .row)) f H → (i ≤ p .row) × (p .row < j)
+with-row : (p : Place) (left right : ℕ) {i j : ℕ} {f : List ℕ → List ℕ} {H : List ℕ → Type 0} (E : Region)
+    → Lies i j (wholeRow (p .row)) f H → (i ≤ p .row) × (p .row < j)
     → ((k r : ℕ) → Inside i j k r → E k r → (5 < k) × (r ≡ p .row))
     → Lies i j E (λ tab. node (f tab) (p .row) (p .start) left right) (λ tab. NodeRow tab p left right × H tab)
 unfolding node
@@ -46,7 +47,8 @@ with-row p left right {i} {j} E x w fewer =
 
 -- nodes without a part, with one and with two
 module _ (i j : ℕ) (p : Place) where
-  leaf : (i ≤ p .row) × (p .row < j) → Own i j (p .row) (λ tab. node tab (p .row) (p .start) absent absent) (λ tab. NodeRow tab p absent absent)
+  leaf : (i ≤ p .row) × (p .row < j)
+      → Own i j (p .row) (λ tab. node tab (p .row) (p .start) absent absent) (λ tab. NodeRow tab p absent absent)
   leaf w =
       let x = with-row p absent absent (nextOf (p .row)) (writes-nothing i j (wholeRow (p .row)) (omega arith)) w (omega arith) in
       (w .0, w .1, reshape i j (nextOf (p .row)) x (omega arith) (λ k r _ e. e) (λ tab h. h .0))
@@ -133,23 +135,27 @@ module _ {ts : List Token} where
       let x = another 3 j _ (writes-nothing i (j + 1) (wholeRow j) (omega arith)) (omega arith) (omega arith) (omega arith) in
       (h, omega arith, reshape i (j + 1) (nextOf j) x (omega arith) (omega arith) (λ tab h. h .1))
 
-  pub variables-lie : {i j : ℕ} {vs : List Variable} → DerivesVariables ts i j vs → Lies i j nowhere (λ tab. storeVariables vs tab) (λ tab. HoldsVariables tab vs)
+  pub variables-lie : {i j : ℕ} {vs : List Variable} → DerivesVariables ts i j vs
+      → Lies i j nowhere (λ tab. storeVariables vs tab) (λ tab. HoldsVariables tab vs)
   unfolding storeVariables HoldsVariables
   variables-lie (no-variable {i}) = writes-nothing i i nowhere (omega arith)
   variables-lie (more-variables d _ d′) = link _ (variable-lies d) (variables-lie d′) (omega arith)
 
-  parameters-lie : {i j : ℕ} {vs : List Variable} → DerivesParameters ts i j vs → Lies i j nowhere (λ tab. storeVariables vs tab) (λ tab. HoldsVariables tab vs)
+  parameters-lie : {i j : ℕ} {vs : List Variable} → DerivesParameters ts i j vs
+      → Lies i j nowhere (λ tab. storeVariables vs tab) (λ tab. HoldsVariables tab vs)
   unfolding storeVariables HoldsVariables
   parameters-lie (one-parameter {i} {j} d) = link _ (variable-lies d) (writes-nothing j j nowhere (omega arith)) (omega arith)
   parameters-lie (more-parameters d _ d′) = link _ (variable-lies d) (parameters-lie d′) (omega arith)
 
-  pub formals-lie : {i j : ℕ} {vs : List Variable} → DerivesFormals ts i j vs → Lies i j nowhere (λ tab. storeVariables vs tab) (λ tab. HoldsVariables tab vs)
+  pub formals-lie : {i j : ℕ} {vs : List Variable} → DerivesFormals ts i j vs
+      → Lies i j nowhere (λ tab. storeVariables vs tab) (λ tab. HoldsVariables tab vs)
   unfolding storeVariables HoldsVariables
   formals-lie (no-formal {i}) = writes-nothing i i nowhere (omega arith)
   formals-lie (some-formals d) = parameters-lie d
 
   -- a method's parts lie behind the row after its name, n + 1; its type is written before them, the other words of the two rows after them
-  method-lies : {i j : ℕ} {m : Method} → DerivesMethod ts i j m → Own i j (m .name .row) (λ tab. storeMethod m tab) (λ tab. HoldsMethod tab m)
+  method-lies : {i j : ℕ} {m : Method} → DerivesMethod ts i j m
+      → Own i j (m .name .row) (λ tab. storeMethod m tab) (λ tab. HoldsMethod tab m)
   unfolding storeMethod storeVariable methodRow
   method-lies (a-method {i} {a} {c = c} {d} {e} {head} _ hd _ ps _ _ ls ss _ v _ _) =
       let n = head .name .row in
@@ -182,7 +188,8 @@ module _ {ts : List Token} where
             },
       )
 
-  methods-lie : {i j : ℕ} {ms : List Method} → DerivesMethods ts i j ms → Lies i j nowhere (λ tab. storeMethods ms tab) (λ tab. HoldsMethods tab ms)
+  methods-lie : {i j : ℕ} {ms : List Method} → DerivesMethods ts i j ms
+      → Lies i j nowhere (λ tab. storeMethods ms tab) (λ tab. HoldsMethods tab ms)
   unfolding storeMethods HoldsMethods
   methods-lie (no-method {i}) = writes-nothing i i nowhere (omega arith)
   methods-lie (more-methods d d′) = link _ (method-lies d) (methods-lie d′) (omega arith)
@@ -205,13 +212,15 @@ module _ {ts : List Token} where
             record { parent = h .0 .start; first = h .0 .first; second = h .0 .second; fields = h .1; methods = h .2 },
       )
 
-  classes-lie : {i j : ℕ} {ks : List Class} → DerivesClasses ts i j ks → Lies i j nowhere (λ tab. storeClasses ks tab) (λ tab. HoldsClasses tab ks)
+  classes-lie : {i j : ℕ} {ks : List Class} → DerivesClasses ts i j ks
+      → Lies i j nowhere (λ tab. storeClasses ks tab) (λ tab. HoldsClasses tab ks)
   unfolding storeClasses HoldsClasses
   classes-lie (no-class {i}) = writes-nothing i i nowhere (omega arith)
   classes-lie (more-classes d d′) = link _ (class-lies d) (classes-lie d′) (omega arith)
 
   -- main's statement, the classes, and the way to the first class in row 0
-  pub program-lies : {p : Program} → DerivesProgram ts p → Lies 0 (length ts) nowhere (λ tab. storeProgram p tab) (λ tab. HoldsProgram tab p)
+  pub program-lies : {p : Program} → DerivesProgram ts p
+      → Lies 0 (length ts) nowhere (λ tab. storeProgram p tab) (λ tab. HoldsProgram tab p)
   unfolding storeProgram
   program-lies (a-program _ d _ _ cs) =
       let n = length ts in

@@ -33,7 +33,8 @@ Performs (refused n p) b heap output a output′ = (a ≡ refusal n p) × (outpu
 
 -- an accepted lesson that Check left in the table is run
 pub record Completes (tab : List ℕ) (s : Sizes) (b : Bounds) (heap output : List ℤ) (a : Run.RunAnswer) (output′ : List ℤ) : Type 0 where
-  pub says : (source : List ℕ) → Leaves source (checking source) (found (s .tokens) (s .classes)) tab → Performs (checking source) b heap output a output′
+  pub says : (source : List ℕ) → Leaves source (checking source) (found (s .tokens) (s .classes)) tab
+      → Performs (checking source) b heap output a output′
 
 -- the same in this room for its code, its joined code and its values, where that is enough; an instruction is four words
 pub record CompletesInRoom (tab code fast values : List ℕ) (s : Sizes) (b : Bounds) (heap output : List ℤ) (a : Run.RunAnswer) (output′ : List ℤ) : Type 0 where

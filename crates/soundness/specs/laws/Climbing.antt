@@ -24,7 +24,8 @@ abbrev Counts : List Class → Progress Core → Type 0
 Counts G (next c m) = CallsCounted G c m
 Counts G (stop e) = Unit {0}
 
-guard-counts : (G : List Class) (L : Limits) (m : Meters) (c : Core) (r : Request Core) → Pays G (loadOf c) (waitingOf c) r → CallsCounted G c m
+guard-counts : (G : List Class) (L : Limits) (m : Meters) (c : Core) (r : Request Core) → Pays G (loadOf c) (waitingOf c) r
+    → CallsCounted G c m
     → Counts G (guard L m r)
 unfolding guard
 guard-counts G L m c (charge p d) h i =
@@ -55,7 +56,8 @@ counted-few {G} {c} {m} i =
     let more : i .opened ≤ m .steps = omega (arith, i .begun) in
     omega (arith, i .few, mul-le-mul-right (length G) more)
 
-runs-climb : (f : ℕ) (G : List Class) (L : Limits) (c : Core) (m : Meters) → CallsCounted G c m → ClimbsFew G (runWith (plan G) sizeOf L f c m)
+runs-climb : (f : ℕ) (G : List Class) (L : Limits) (c : Core) (m : Meters) → CallsCounted G c m
+    → ClimbsFew G (runWith (plan G) sizeOf L f c m)
 unfolding runWith
 runs-climb zero G L c m i = counted-few i
 runs-climb (suc f) G L c m i =

@@ -33,7 +33,8 @@ module _ {Q : Request Core → Type 0} (q : Closed Q) where
   pop-by [] k f = q .at-stuck
   pop-by (v ∷ vs) k f = f v vs
 
-  pub popMany-by : (n : ℕ) (got vs : List Value) (k : List Value → List Value → Request Core) → ((xs ws : List Value) → Q (k xs ws)) → Q (popMany n got vs k)
+  pub popMany-by : (n : ℕ) (got vs : List Value) (k : List Value → List Value → Request Core) → ((xs ws : List Value) → Q (k xs ws))
+      → Q (popMany n got vs k)
   popMany-by zero got vs k f = f got vs
   popMany-by (suc n) got [] k f = q .at-stuck
   popMany-by (suc n) got (v ∷ vs) k f = popMany-by n (v ∷ got) vs k f
@@ -98,16 +99,19 @@ module _ {Q : Request Core → Type 0} (q : Closed Q) where
   pub in-bounds-by : (p : Place) (i n : ℕ) (r : Request Core) → Q r → Q (inBounds p i n r)
   in-bounds-by p i n r f = choice-by (ltb i n) _ _ f (q .at-fault indexOutOfRange (p .start))
 
-  read-meaning-by : (a : ℕ) (xs : List Value) (h : List Cell) (m : Meaning) (k : Value → Request Core) → ((v : Value) → Q (k v)) → Q (readMeaning a xs h m k)
+  read-meaning-by : (a : ℕ) (xs : List Value) (h : List Cell) (m : Meaning) (k : Value → Request Core) → ((v : Value) → Q (k v))
+      → Q (readMeaning a xs h m k)
   read-meaning-by a xs h (ofRow s) k f = need-by (getElem? xs (s .place)) k (λ v _. f v)
   read-meaning-by a xs h (ofObject s) k f = cell-by h a (s .place) k f
 
-  pub read-by : (G : List Class) (cs : List Call) (h : List Cell) (x : List ℕ) (k : Value → Request Core) → ((v : Value) → Q (k v)) → Q (readName G cs h x k)
+  pub read-by : (G : List Class) (cs : List Call) (h : List Cell) (x : List ℕ) (k : Value → Request Core) → ((v : Value) → Q (k v))
+      → Q (readName G cs h x k)
   unfolding readName
   read-by G cs h x k f = innermost-by cs _ (λ a Γ xs ds _. need-by (meaning G Γ x) _ (λ m _. read-meaning-by a xs h m k f))
 
   write-meaning-by : (a : ℕ) (Γ : Context) (xs : List Value) (cs : List Call) (h : List Cell) (m : Meaning) (v : Value) (k : List Call → List Cell → Request Core)
-      → ((ds : List Call) (g : List Cell) → length ds ≡ suc (length cs) → length g ≡ length h → Q (k ds g)) → Q (writeMeaning a Γ xs cs h m v k)
+      → ((ds : List Call) (g : List Cell) → length ds ≡ suc (length cs) → length g ≡ length h → Q (k ds g))
+      → Q (writeMeaning a Γ xs cs h m v k)
   write-meaning-by a Γ xs cs h (ofRow s) v k f = need-by (getElem? xs (s .place)) _ (λ _ _. f _ _ refl refl)
   write-meaning-by a Γ xs cs h (ofObject s) v k f = cell-by h a (s .place) _ (λ _. f _ _ refl (length-set h (a + 1 + s .place) (slot v)))
 
@@ -119,7 +123,8 @@ module _ {Q : Request Core → Type 0} (q : Closed Q) where
       (write-meaning-by a Γ xs ds h m v k (λ es g l n. f es g (rw e l) n))))
 
 -- what holds of a turn's outcome passes on to the report: of the run that goes on, or of the end
-pub after-by : (P : Progress Core → Type 0) (Q : Report → Type 0) (k : Core → Meters → Report) (c : Core) (m : Meters) → ((d : Core) (n : Meters) → P (next d n) → Q (k d n))
+pub after-by : (P : Progress Core → Type 0) (Q : Report → Type 0) (k : Core → Meters → Report) (c : Core) (m : Meters)
+    → ((d : Core) (n : Meters) → P (next d n) → Q (k d n))
     → ((e : Ending) → P (stop e) → Q (report e (sizeOf c) m)) → (o : Progress Core) → P o → Q (after sizeOf k c m o)
 after-by P Q k c m f g (next d n) h = f d n h
 after-by P Q k c m f g (stop e) h = g e h

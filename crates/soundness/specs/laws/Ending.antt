@@ -94,7 +94,8 @@ module _ (G : List Class) (w v : ℕ) where
   begin-pays (arrayLength p a) ts vs cs h l j = (omega arith, omega arith)
   begin-pays (call p e m es) ts vs cs h l j = (omega arith, omega arith)
 
-  begin-statement-pays : (s : Statement) (ts : List Task) (vs : List Value) (cs : List Call) (h : List Cell) → load ts ≤ w + 1 → waitingCalls ts ≤ v
+  begin-statement-pays : (s : Statement) (ts : List Task) (vs : List Value) (cs : List Call) (h : List Cell) → load ts ≤ w + 1
+      → waitingCalls ts ≤ v
       → Pays G w v (beginStatement G s ts vs cs h)
   unfolding beginStatement
   begin-statement-pays (block p ss) ts vs cs h l j = (omega arith, omega arith)
@@ -164,7 +165,8 @@ abbrev pub Less : Limits → ℕ → Progress Core → Type 0
 Less L n (next c m) = turnsLeft L c m < n
 Less L n (stop e) = Over e
 
-guard-less : (G : List Class) (L : Limits) (n : ℕ) (m : Meters) (c : Core) (r : Request Core) → Pays G (loadOf c) (waitingOf c) r → turnsLeft L c m ≤ n → Less L n (guard L m r)
+guard-less : (G : List Class) (L : Limits) (n : ℕ) (m : Meters) (c : Core) (r : Request Core) → Pays G (loadOf c) (waitingOf c) r
+    → turnsLeft L c m ≤ n → Less L n (guard L m r)
 unfolding guard
 guard-less G L n m c (charge p d) h l =
     by-test (Less L n) (ltb (m .steps) (L .budget)) _ _ (λ e. let q = ltb-true (m .steps) (L .budget) e in omega arith) (λ _. tt)
@@ -180,7 +182,8 @@ guard-less G L n m c stuck h l = tt
 pub turn-less : (G : List Class) (L : Limits) (n : ℕ) (c : Core) (m : Meters) → turnsLeft L c m ≤ n → Less L n (guard L m (plan G c))
 turn-less G L n c m h = guard-less G L n m c (plan G c) (plan-pays G c) h
 
-pub runs-end : (f : ℕ) (G : List Class) (L : Limits) (c : Core) (m : Meters) → turnsLeft L c m < f → Over (runWith (plan G) sizeOf L f c m .ending)
+pub runs-end : (f : ℕ) (G : List Class) (L : Limits) (c : Core) (m : Meters) → turnsLeft L c m < f
+    → Over (runWith (plan G) sizeOf L f c m .ending)
 unfolding runWith
 runs-end zero G L c m h = absurd (omega arith)
 runs-end (suc f) G L c m h =

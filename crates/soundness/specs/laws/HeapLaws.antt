@@ -83,7 +83,8 @@ array-slot e = let z : _≡_ {A = ℕ} 0 1 = cc in omega arith
 -- a first cell, x, and the slots that it asks for
 record Block (G : List Class) (x : CellType) (β : List CellType) : Type 0 where
   slots : (i : ℕ) {y : CellType} → getElem? β i ≡ some y → (t : Ty) × (y ≡ slotType t)
-  fields : (c : List ℕ) (i : ℕ) {v : Variable} → x ≡ objectType c → getElem? (fieldsOf G c) i ≡ some v → getElem? β i ≡ some (slotType (typeOf v))
+  fields : (c : List ℕ) (i : ℕ) {v : Variable} → x ≡ objectType c → getElem? (fieldsOf G c) i ≡ some v
+      → getElem? β i ≡ some (slotType (typeOf v))
   elements : (t : Element) (n i : ℕ) → x ≡ arrayType t n → i < n → getElem? β i ≡ some (slotType (plain t))
 
 at-block : (σ : List CellType) (x : CellType) (β : List CellType) (i : ℕ) → getElem? (σ ++ x ∷ β) (length σ + zero + 1 + i) ≡ getElem? β i
@@ -120,7 +121,8 @@ grown {σ} {x} {β} B H q =
     }
 
 -- its place is the heap's length so far
-pub new-place : {G : List Class} {σ : List CellType} {h : List Cell} (x : CellType) (β : List CellType) → HeapTyped G σ h → getElem? (σ ++ x ∷ β) (length h) ≡ some x
+pub new-place : {G : List Class} {σ : List CellType} {h : List Cell} (x : CellType) (β : List CellType) → HeapTyped G σ h
+    → getElem? (σ ++ x ∷ β) (length h) ≡ some x
 new-place {σ} {h} x β H =
     let e : length h ≡ length σ + zero = omega (arith, all2-length (H .cells)) in
     ap (getElem? (σ ++ x ∷ β)) e ∙ get-append-right σ (x ∷ β) zero

@@ -44,7 +44,8 @@ guard-grows L m (fault k p) = tt
 guard-grows L m done = tt
 guard-grows L m stuck = tt
 
-pub run-grows : (f : ℕ) (G : List Class) (L : Limits) (c : Core) (m : Meters) → Begins (m .printed) (runWith (plan G) sizeOf L f c m .printed)
+pub run-grows : (f : ℕ) (G : List Class) (L : Limits) (c : Core) (m : Meters)
+    → Begins (m .printed) (runWith (plan G) sizeOf L f c m .printed)
 unfolding runWith
 run-grows zero G L c m = begins-refl (m .printed)
 run-grows (suc f) G L c m =
@@ -58,7 +59,8 @@ data Alike : Progress Core → Progress Core → Type 0 where
   alike : {o : Progress Core} → Alike o o
   stopped : {k p : ℕ} {o : Progress Core} → ByLimit k → Alike (stop (ended k p)) o
 
-within-alike : (a b : Bool) {k : ℕ} (p : ℕ) (o : Unit {0} → Progress Core) → ByLimit k → (a ≡ true → b ≡ true) → Alike (within a k p o) (within b k p o)
+within-alike : (a b : Bool) {k : ℕ} (p : ℕ) (o : Unit {0} → Progress Core) → ByLimit k → (a ≡ true → b ≡ true)
+    → Alike (within a k p o) (within b k p o)
 within-alike true true p o l h = alike
 within-alike true false p o l h = absurd (let e = h refl in let z : _≡_ {A = ℕ} 0 1 = cc in omega arith)
 within-alike false b p o l h = stopped l
@@ -83,12 +85,14 @@ pub data Agree : Report → Report → Type 0 where
   cut : {k p : ℕ} {r s : Report} → ByLimit k → r .ending ≡ ended k p → Begins (r .printed) (s .printed) → Agree r s
 
 after-agree : (j k : Core → Meters → Report) (c : Core) (m : Meters) {o q : Progress Core} → Alike o q
-    → ((d : Core) (n : Meters) → Agree (j d n) (k d n)) → Begins (m .printed) (after sizeOf k c m q .printed) → Agree (after sizeOf j c m o) (after sizeOf k c m q)
+    → ((d : Core) (n : Meters) → Agree (j d n) (k d n)) → Begins (m .printed) (after sizeOf k c m q .printed)
+    → Agree (after sizeOf j c m o) (after sizeOf k c m q)
 after-agree j k c m (alike {o = next d n}) h b = h d n
 after-agree j k c m (alike {o = stop e}) h b = agree
 after-agree j k c m (stopped l) h b = cut l refl b
 
-pub runs-agree : (f : ℕ) (G : List Class) (L M : Limits) → L ⊑ M → (c : Core) (m : Meters) → Agree (runWith (plan G) sizeOf L f c m) (runWith (plan G) sizeOf M f c m)
+pub runs-agree : (f : ℕ) (G : List Class) (L M : Limits) → L ⊑ M → (c : Core) (m : Meters)
+    → Agree (runWith (plan G) sizeOf L f c m) (runWith (plan G) sizeOf M f c m)
 unfolding runWith
 runs-agree zero G L M h c m = agree
 runs-agree (suc f) G L M h c m =
@@ -98,12 +102,14 @@ runs-agree (suc f) G L M h c m =
 -- ---- more fuel, of any machine
 
 after-fuel : {C : Type 0} (size : C → ℕ) (j k : C → Meters → Report) (c : C) (m : Meters) (o : Progress C)
-    → ((d : C) (n : Meters) → Over (j d n .ending) → k d n ≡ j d n) → Over (after size j c m o .ending) → after size k c m o ≡ after size j c m o
+    → ((d : C) (n : Meters) → Over (j d n .ending) → k d n ≡ j d n) → Over (after size j c m o .ending)
+    → after size k c m o ≡ after size j c m o
 after-fuel size j k c m (next d n) h e = h d n e
 after-fuel size j k c m (stop x) h e = refl
 
 module _ {C : Type 0} (ask : C → Request C) (size : C → ℕ) (L : Limits) where
-  pub more-fuel : (f g : ℕ) → f ≤ g → (c : C) (m : Meters) → Over (runWith ask size L f c m .ending) → runWith ask size L g c m ≡ runWith ask size L f c m
+  pub more-fuel : (f g : ℕ) → f ≤ g → (c : C) (m : Meters) → Over (runWith ask size L f c m .ending)
+      → runWith ask size L g c m ≡ runWith ask size L f c m
   unfolding runWith
   more-fuel zero g h c m e = absurd e
   more-fuel (suc f) zero h c m e = absurd (not-suc-le-zero h)

@@ -52,7 +52,8 @@ unfolding search
 visits-few [] m e = absurd (none-some refl e)
 visits-few (k ∷ ks) m {s} e = own (methodNamed (k .methods) m) (λ u r. visits-few ks m r) e
   where
-    beyond : (o : Option (Climbed Found)) → ((u : Climbed Found) → o ≡ some u → u .visits ≤ length ks) → (option o none λ c. some (fromAbove c)) ≡ some s
+    beyond : (o : Option (Climbed Found)) → ((u : Climbed Found) → o ≡ some u → u .visits ≤ length ks)
+        → (option o none λ c. some (fromAbove c)) ≡ some s
         → s .visits ≤ suc (length ks)
     beyond none f q = absurd (none-some refl q)
     beyond (some c) f q = let z : 1 + c .visits ≡ s .visits = ap visitsOf (Option·some-injective (fromAbove c) s q) in omega (arith, f c refl)

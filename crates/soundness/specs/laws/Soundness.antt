@@ -50,7 +50,8 @@ kind-typed v-no-object = refl
 kind-typed (v-array e) = refl
 kind-typed (v-object e c) = refl
 
-kinds-typed : {G : List Class} {σ : List CellType} {given : List Value} (ps : List Variable) → All2 (ValueTyped G σ) given (map typeOf ps) → ofKinds ps given ≡ true
+kinds-typed : {G : List Class} {σ : List CellType} {given : List Value} (ps : List Variable)
+    → All2 (ValueTyped G σ) given (map typeOf ps) → ofKinds ps given ≡ true
 kinds-typed [] all2-nil = refl
 kinds-typed (p ∷ ps) (all2-cons v W) = rw (kind-typed v) (kinds-typed ps W)
 
@@ -83,7 +84,8 @@ module _ {G : List Class} (T : All (ClassTyped G) G) (L : All (λ k. All MethodF
       by-cell : {x : Cell} → CellTyped G σ x (arrayType t n) → Asks G (asArrayCell x k)
       by-cell (c-array l) = f l
 
-  object-cell-ok : {σ : List CellType} {h : List Cell} {a : ℕ} {c : List ℕ} (k : List ℕ → Request Core) → RelatedAt (CellTyped G σ) h a (objectType c) → Asks G (k c)
+  object-cell-ok : {σ : List CellType} {h : List Cell} {a : ℕ} {c : List ℕ} (k : List ℕ → Request Core)
+      → RelatedAt (CellTyped G σ) h a (objectType c) → Asks G (k c)
       → Asks G (need (getElem? h a) λ x. asObjectCell x k)
   object-cell-ok {σ} {c} k w f = need-ok (λ x. asObjectCell x k) (w .at) (by-cell (w .holds))
     where
@@ -107,20 +109,24 @@ module _ {G : List Class} (T : All (ClassTyped G) G) (L : All (λ k. All MethodF
 
   -- ---- names
 
-  owner-up : {σ : List CellType} {a : ℕ} {Γ : Context} {xs : List Value} {c : List ℕ} (F : FrameTyped G σ a Γ xs) → Γ .owner ≡ some c → Up G (F .made) c
+  owner-up : {σ : List CellType} {a : ℕ} {Γ : Context} {xs : List Value} {c : List ℕ} (F : FrameTyped G σ a Γ xs) → Γ .owner ≡ some c
+      → Up G (F .made) c
   owner-up F e = subst (Up G (F .made)) (Option·some-injective _ _ (sym (ap (λ (Δ : Context). Δ .owner) (F .context)) ∙ e)) (method-declares T (F .has) .above)
 
-  row-type : (Γ : Context) {s : Slot} {t : Ty} → StandsAt (Γ .variables) s → s .type ≡ t → getElem? (map typeOf (Γ .variables)) (s .place) ≡ some t
+  row-type : (Γ : Context) {s : Slot} {t : Ty} → StandsAt (Γ .variables) s → s .type ≡ t
+      → getElem? (map typeOf (Γ .variables)) (s .place) ≡ some t
   row-type Γ {s} w q = get-map typeOf (Γ .variables) (s .place) (w .at) ∙ ap some (w .has ∙ q)
 
-  field-type : {σ : List CellType} {h : List Cell} {a : ℕ} {Γ : Context} {xs : List Value} {c : List ℕ} {s : Slot} {t : Ty} → HeapTyped G σ h → FrameTyped G σ a Γ xs
+  field-type : {σ : List CellType} {h : List Cell} {a : ℕ} {Γ : Context} {xs : List Value} {c : List ℕ} {s : Slot} {t : Ty}
+      → HeapTyped G σ h → FrameTyped G σ a Γ xs
       → Γ .owner ≡ some c → StandsAt (fieldsOf G c) s → s .type ≡ t → getElem? σ (a + 1 + s .place) ≡ some (slotType t)
   field-type {a} {s} H F o w q =
       let v = stands-up (table-acyclic T) (owner-up F o) w in
       H .laid .objects a (F .made) (s .place) (v .item) (F .receiver) (v .at) ∙ ap (λ (u : Ty). some (slotType u)) (v .has ∙ q)
 
   read-ok : {σ : List CellType} {Γs : List Context} {cs : List Call} {h : List Cell} {x : List ℕ} {t : Ty} (k : Value → Request Core)
-      → HeapTyped G σ h → All2 (CallTyped G σ) cs Γs → HasName G (now Γs) x t → ((v : Value) → ValueTyped G σ v t → Asks G (k v)) → Asks G (readName G cs h x k)
+      → HeapTyped G σ h → All2 (CallTyped G σ) cs Γs → HasName G (now Γs) x t → ((v : Value) → ValueTyped G σ v t → Asks G (k v))
+      → Asks G (readName G cs h x k)
   unfolding readName
   read-ok k H all2-nil n f = absurd (no-name n)
   read-ok {σ} {h = h} {x = x} {t = t} k H (all2-cons (c-frame {a = a} {Γ = Γ} {xs = xs} F) C) n f = by-place (name-at (table-acyclic T) n)
@@ -131,7 +137,8 @@ module _ {G : List Class} (T : All (ClassTyped G) G) (L : All (λ k. All MethodF
 
   write-ok : {σ : List CellType} {Γs : List Context} {cs : List Call} {h : List Cell} {x : List ℕ} {t : Ty} {v : Value} (k : List Call → List Cell → Request Core)
       → HeapTyped G σ h → All2 (CallTyped G σ) cs Γs → HasName G (now Γs) x t → ValueTyped G σ v t
-      → ((ds : List Call) (g : List Cell) → HeapTyped G σ g → All2 (CallTyped G σ) ds Γs → Asks G (k ds g)) → Asks G (writeName G cs h x v k)
+      → ((ds : List Call) (g : List Cell) → HeapTyped G σ g → All2 (CallTyped G σ) ds Γs → Asks G (k ds g))
+      → Asks G (writeName G cs h x v k)
   unfolding writeName
   write-ok k H all2-nil n v f = absurd (no-name n)
   write-ok {σ} {h = h} {x = x} {t = t} {v = y} k H (all2-cons {xs = cs} (c-frame {a = a} {Γ = Γ} {xs = xs} F) C) n v f = by-place (name-at (table-acyclic T) n)
@@ -160,7 +167,8 @@ module _ {G : List Class} (T : All (ClassTyped G) G) (L : All (λ k. All MethodF
           (slot-ok (λ _. k (frame a Γ xs ∷ cs) (set h (a + 1 + s .place) (slot y))) (all2-at (a + 1 + s .place) (H .cells) i)
           (λ _ _. f _ _ (stored H (a + 1 + s .place) i v) (all2-cons (c-frame F) C))))
 
-  this-ok : {σ : List CellType} {Γs : List Context} {cs : List Call} {c : List ℕ} (k : ℕ → Request Core) → All2 (CallTyped G σ) cs Γs → now Γs .owner ≡ some c
+  this-ok : {σ : List CellType} {Γs : List Context} {cs : List Call} {c : List ℕ} (k : ℕ → Request Core) → All2 (CallTyped G σ) cs Γs
+      → now Γs .owner ≡ some c
       → ((a : ℕ) → ValueTyped G σ (objectAt a) (plain (class c)) → Asks G (k a)) → Asks G (innermost cs λ a Γ xs _. k a)
   this-ok k all2-nil o f = absurd (none-some refl o)
   this-ok k (all2-cons (c-frame {a = a} F) C) o f = f a (v-object (F .receiver) (owner-up F o))
@@ -177,7 +185,8 @@ module _ {G : List Class} (T : All (ClassTyped G) G) (L : All (λ k. All MethodF
     -- ---- beginning a node
 
     begins : {us : List Ty} {ts : List Task} {vs : List Value} {e : Expression} {s t : Ty}
-        → All2 (ValueTyped G σ) vs us → HasType G (now Γs) e s → WordLiterals e → Sub G s t → TasksTyped G Γs (t ∷ us) ts → Asks G (begin G e ts vs cs h)
+        → All2 (ValueTyped G σ) vs us → HasType G (now Γs) e s → WordLiterals e → Sub G s t → TasksTyped G Γs (t ∷ us) ts
+        → Asks G (begin G e ts vs cs h)
     unfolding begin
     begins W t-literal l b R = typed H C (all2-cons (value-sub b (v-number l)) W) R
     begins W t-truth l b R = typed H C (all2-cons (value-sub b v-flag) W) R
@@ -195,7 +204,8 @@ module _ {G : List Class} (T : All (ClassTyped G) G) (L : All (λ k. All MethodF
         typed H C W (r-evaluate x (l .0) sub-same (r-invoke [] f q (l .1) refl (sym (zero-add (arity es))) (subst (λ (u : Ty). Sub G u t) (sym r) b) R))
 
     begins-statement : {us : List Ty} {ts : List Task} {vs : List Value} {s : Statement}
-        → All2 (ValueTyped G σ) vs us → IsTyped G (now Γs) s → WordLiterals s → TasksTyped G Γs us ts → Asks G (beginStatement G s ts vs cs h)
+        → All2 (ValueTyped G σ) vs us → IsTyped G (now Γs) s → WordLiterals s → TasksTyped G Γs us ts
+        → Asks G (beginStatement G s ts vs cs h)
     unfolding beginStatement
     begins-statement W (t-block q) l R = typed H C W (r-continue q l R)
     begins-statement W (t-if x y z) l R = typed H C W (r-evaluate x (l .0) sub-same (r-branch y (l .1) z (l .2) R))
@@ -215,7 +225,8 @@ module _ {G : List Class} (T : All (ClassTyped G) G) (L : All (λ k. All MethodF
     and-ok (all2-cons (v-flag {b = false}) W) x l b R = typed H C (all2-cons (value-sub b v-flag) W) R
 
     second-ok : {us : List Ty} {ts : List Task} {vs : List Value} {o : Operator} {r : Expression} {s u t : Ty}
-        → Operates o s u → All2 (ValueTyped G σ) vs (s ∷ us) → HasType G (now Γs) r s → WordLiterals r → Sub G u t → TasksTyped G Γs (t ∷ us) ts
+        → Operates o s u → All2 (ValueTyped G σ) vs (s ∷ us) → HasType G (now Γs) r s → WordLiterals r → Sub G u t
+        → TasksTyped G Γs (t ∷ us) ts
         → Asks G (second G o r ts vs cs h)
     unfolding second
     second-ok conjoins W x l b R = and-ok W x l b R
@@ -238,7 +249,8 @@ module _ {G : List Class} (T : All (ClassTyped G) G) (L : All (λ k. All MethodF
         typed H C (all2-cons (value-sub b (v-number (mul-below x y))) W) R
 
     fetch-ok : {us : List Ty} {ts : List Task} {vs : List Value} {s : Element} {t : Ty} (p : Place)
-        → All2 (ValueTyped G σ) vs (plain int ∷ arrayOf s ∷ us) → Sub G (plain s) t → TasksTyped G Γs (t ∷ us) ts → Asks G (go G (fetch p) ts vs cs h)
+        → All2 (ValueTyped G σ) vs (plain int ∷ arrayOf s ∷ us) → Sub G (plain s) t → TasksTyped G Γs (t ∷ us) ts
+        → Asks G (go G (fetch p) ts vs cs h)
     unfolding go
     fetch-ok p (all2-cons (v-number i) (all2-cons v-no-array W)) b R = by-null
     fetch-ok p (all2-cons (v-number {n = i} l) (all2-cons (v-array {a = a} e) W)) b R =
@@ -246,7 +258,8 @@ module _ {G : List Class} (T : All (ClassTyped G) G) (L : All (λ k. All MethodF
         slot-ok _ (all2-at (a + 1 + i) (H .cells) q) (λ v y. typed H C (all2-cons (value-sub b y) W) R)))
 
     store-element-ok : {us : List Ty} {ts : List Task} {vs : List Value} {t : Element} (p : Place)
-        → All2 (ValueTyped G σ) vs (plain t ∷ plain int ∷ arrayOf t ∷ us) → TasksTyped G Γs us ts → Asks G (go G (storeElement p) ts vs cs h)
+        → All2 (ValueTyped G σ) vs (plain t ∷ plain int ∷ arrayOf t ∷ us) → TasksTyped G Γs us ts
+        → Asks G (go G (storeElement p) ts vs cs h)
     unfolding go
     store-element-ok p (all2-cons y (all2-cons (v-number i) (all2-cons v-no-array W))) R = by-null
     store-element-ok p (all2-cons y (all2-cons (v-number {n = i} l) (all2-cons (v-array {a = a} e) W))) R =
@@ -254,7 +267,8 @@ module _ {G : List Class} (T : All (ClassTyped G) G) (L : All (λ k. All MethodF
         slot-ok _ (all2-at (a + 1 + i) (H .cells) q) (λ _ _. typed (stored H (a + 1 + i) q y) C W R))))
 
     measure-ok : {us : List Ty} {ts : List Task} {vs : List Value} {s : Element} {t : Ty} (p : Place)
-        → All2 (ValueTyped G σ) vs (arrayOf s ∷ us) → Sub G (plain int) t → TasksTyped G Γs (t ∷ us) ts → Asks G (go G (measure p) ts vs cs h)
+        → All2 (ValueTyped G σ) vs (arrayOf s ∷ us) → Sub G (plain int) t → TasksTyped G Γs (t ∷ us) ts
+        → Asks G (go G (measure p) ts vs cs h)
     unfolding go
     measure-ok p (all2-cons v-no-array W) b R = by-null
     measure-ok p (all2-cons (v-array {a = a} {n = n} e) W) b R =
@@ -273,7 +287,8 @@ module _ {G : List Class} (T : All (ClassTyped G) G) (L : All (λ k. All MethodF
         (λ q. by-size)
 
     make-object-ok : {us : List Ty} {ts : List Task} {vs : List Value} {t : Ty} {k : Class} (p : Place) (c : List ℕ)
-        → All2 (ValueTyped G σ) vs us → classNamed G c ≡ some k → Sub G (plain (class c)) t → TasksTyped G Γs (t ∷ us) ts → Asks G (go G (makeObject p c) ts vs cs h)
+        → All2 (ValueTyped G σ) vs us → classNamed G c ≡ some k → Sub G (plain (class c)) t → TasksTyped G Γs (t ∷ us) ts
+        → Asks G (go G (makeObject p c) ts vs cs h)
     unfolding go newObjectOf
     make-object-ok p c W e b R =
         let K : CellsKept σ (σ ++ objectType c ∷ fieldTypes G c) = kept-append σ (objectType c ∷ fieldTypes G c) in
@@ -287,7 +302,8 @@ module _ {G : List Class} (T : All (ClassTyped G) G) (L : All (λ k. All MethodF
     enter-ok : {us : List Ty} {ts : List Task} {given vs : List Value} {t : Ty} (p : Place) (a : ℕ) {d m : List ℕ} {N : Method} (K : Found)
         → getElem? σ a ≡ some (objectType d) → All2 (ValueTyped G σ) given (map typeOf (N .parameters)) → All2 (ValueTyped G σ) vs us
         → HasMethod G d m K → Redeclares G (K .method) N → Sub G (N .result .type) t → TasksTyped G Γs (t ∷ us) ts
-        → (visits : ℕ) → Asks G (require (ofKinds (K .method .parameters) given) λ _. enter (p .start) (length cs + 1) visits (opened K a given ts vs cs h))
+        → (visits : ℕ)
+        → Asks G (require (ofKinds (K .method .parameters) given) λ _. enter (p .start) (length cs + 1) visits (opened K a given ts vs cs h))
     enter-ok {given = given} p a {d} {m} K e X W k r b R visits =
         let D = method-declares T k .typed in
         let M = every-method L k in
@@ -300,7 +316,8 @@ module _ {G : List Class} (T : All (ClassTyped G) G) (L : All (λ k. All MethodF
         W (r-perform (D .body) (M .body) (D .value) (M .value) (D .fits) (sub-trans (r .result) b) R))
 
     call-ok : {us : List Ty} {ts : List Task} {given vs : List Value} {x : Value} {t : Ty} (p : Place) {c m : List ℕ} {F : Found}
-        → All2 (ValueTyped G σ) given (map typeOf (F .method .parameters)) → ValueTyped G σ x (plain (class c)) → All2 (ValueTyped G σ) vs us
+        → All2 (ValueTyped G σ) given (map typeOf (F .method .parameters)) → ValueTyped G σ x (plain (class c))
+        → All2 (ValueTyped G σ) vs us
         → HasMethod G c m F → Sub G (F .method .result .type) t → TasksTyped G Γs (t ∷ us) ts → Asks G (callMethod G p m given x ts vs cs h)
     unfolding callMethod
     call-ok p X v-no-object W f b R = by-null
@@ -312,12 +329,14 @@ module _ {G : List Class} (T : All (ClassTyped G) G) (L : All (λ k. All MethodF
 
     receive-ok : {us : List Ty} {ts : List Task} {given vs : List Value} {t : Ty} (p : Place) {c m : List ℕ} {F : Found}
         → All2 (ValueTyped G σ) given (map typeOf (F .method .parameters)) → All2 (ValueTyped G σ) vs (plain (class c) ∷ us)
-        → HasMethod G c m F → Sub G (F .method .result .type) t → TasksTyped G Γs (t ∷ us) ts → Asks G (pop vs λ x vs. callMethod G p m given x ts vs cs h)
+        → HasMethod G c m F → Sub G (F .method .result .type) t → TasksTyped G Γs (t ∷ us) ts
+        → Asks G (pop vs λ x vs. callMethod G p m given x ts vs cs h)
     receive-ok p X (all2-cons x W) f b R = call-ok p X x W f b R
 
     invoke-ok : {us : List Ty} {ts : List Task} {vs : List Value} {es : Part arguments} {ws : List Variable} {t : Ty} (p : Place) {c m : List ℕ} {F : Found} (n : ℕ)
         (qs : List Ty) → All2 (ValueTyped G σ) vs (qs ++ plain (class c) ∷ us) → HasMethod G c m F → HaveTypes G (now Γs) es ws → WordLiterals es
-        → reverseAux qs (map typeOf ws) ≡ map typeOf (F .method .parameters) → n ≡ length qs + arity es → Sub G (F .method .result .type) t → TasksTyped G Γs (t ∷ us) ts
+        → reverseAux qs (map typeOf ws) ≡ map typeOf (F .method .parameters) → n ≡ length qs + arity es
+        → Sub G (F .method .result .type) t → TasksTyped G Γs (t ∷ us) ts
         → Asks G (nextArgument G p m n es ts vs cs h)
     unfolding nextArgument arity
     invoke-ok {ts = ts} {vs = vs} p {m = m} n qs W f t-none l q e b R =
@@ -328,7 +347,8 @@ module _ {G : List Class} (T : All (ClassTyped G) G) (L : All (λ k. All MethodF
         begins W x (l .0) s (r-invoke (typeOf v ∷ qs) f r (l .1) q i b R)
 
   leaves : {σ : List CellType} {Γ : Context} {Γs : List Context} {us : List Ty} {ts : List Task} {v : Value} {vs : List Value} {c : Call} {cs : List Call} {h : List Cell} {r t : Ty}
-      → HeapTyped G σ h → CallTyped G σ c Γ → All2 (CallTyped G σ) cs Γs → ValueTyped G σ v r → All2 (ValueTyped G σ) vs us → Sub G r t → TasksTyped G Γs (t ∷ us) ts
+      → HeapTyped G σ h → CallTyped G σ c Γ → All2 (CallTyped G σ) cs Γs → ValueTyped G σ v r → All2 (ValueTyped G σ) vs us → Sub G r t
+      → TasksTyped G Γs (t ∷ us) ts
       → Asks G (go G (leave r) ts (v ∷ vs) (c ∷ cs) h)
   unfolding go
   leaves H (c-frame F) C x W b R = require-ok _ (kind-typed x) (typed H C (all2-cons (value-sub b x) W) R)
@@ -336,7 +356,8 @@ module _ {G : List Class} (T : All (ClassTyped G) G) (L : All (λ k. All MethodF
   -- ---- progress and preservation in one
 
   goes : {σ : List CellType} {Γs : List Context} {us : List Ty} {k : Task} {ts : List Task} {vs : List Value} {cs : List Call} {h : List Cell}
-      → HeapTyped G σ h → All2 (CallTyped G σ) cs Γs → All2 (ValueTyped G σ) vs us → TasksTyped G Γs us (k ∷ ts) → Asks G (go G k ts vs cs h)
+      → HeapTyped G σ h → All2 (CallTyped G σ) cs Γs → All2 (ValueTyped G σ) vs us → TasksTyped G Γs us (k ∷ ts)
+      → Asks G (go G k ts vs cs h)
   unfolding go nextStatement nextOfBody
   goes H C W (r-evaluate x l b R) = begins H C W x l b R
   goes H C W (r-execute x l R) = begins-statement H C W x l R

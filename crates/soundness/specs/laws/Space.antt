@@ -85,7 +85,8 @@ inner-both d p a b e =
     (h .0, g .0, g .1)
 
 -- a node with one part, and with two
-one-below : (d : ℕ) (p : Place) (n : ℕ) {o : Option ℕ} → least (deepHere d p) o ≡ none → (o ≡ none → d + 1 + n ≤ depthMost) → d + (1 + n) ≤ depthMost
+one-below : (d : ℕ) (p : Place) (n : ℕ) {o : Option ℕ} → least (deepHere d p) o ≡ none → (o ≡ none → d + 1 + n ≤ depthMost)
+    → d + (1 + n) ≤ depthMost
 one-below d p n {o} e f = omega (arith, f (inner d p o e .1))
 
 two-below : (d : ℕ) (p : Place) (m n : ℕ) {a b : Option ℕ} → least (deepHere d p) (least a b) ≡ none → (a ≡ none → d + 1 + m ≤ depthMost)
@@ -218,7 +219,8 @@ module _ (n w : ℕ) (G : List Class) where
   closed : Closed (FitsR n w)
   closed = record { at-stuck = tt; at-fault = λ k p. tt }
 
-  begin-fits : (e : Expression) (ts : List Task) (vs : List Value) (cs : List Call) (h : List Cell) → below e + length ts < depthMost * suc (length cs)
+  begin-fits : (e : Expression) (ts : List Task) (vs : List Value) (cs : List Call) (h : List Cell)
+      → below e + length ts < depthMost * suc (length cs)
       → length cs ≤ n → length h ≤ w → Fits (length cs) ts → FitsR n w (begin G e ts vs cs h)
   unfolding begin
   begin-fits (literal p k) ts vs cs h l c d f = (c, d, f)
@@ -233,7 +235,8 @@ module _ (n w : ℕ) (G : List Class) where
   begin-fits (arrayLength p a) ts vs cs h l c d f = (c, d, (omega arith, (omega arith, f)))
   begin-fits (call p e m es) ts vs cs h l c d f = (c, d, (omega arith, (omega arith, f)))
 
-  begin-statement-fits : (s : Statement) (ts : List Task) (vs : List Value) (cs : List Call) (h : List Cell) → below s + length ts < depthMost * suc (length cs)
+  begin-statement-fits : (s : Statement) (ts : List Task) (vs : List Value) (cs : List Call) (h : List Cell)
+      → below s + length ts < depthMost * suc (length cs)
       → length cs ≤ n → length h ≤ w → Fits (length cs) ts → FitsR n w (beginStatement G s ts vs cs h)
   unfolding beginStatement
   begin-statement-fits (block p ss) ts vs cs h l c d f = (c, d, (omega arith, f))
@@ -308,7 +311,8 @@ fits-length n (t ∷ ts) f = omega (arith, f .0)
 -- ---- values
 
 -- every task owns at most 32 of the values
-values-fit : {G : List Class} {Γs : List Context} {us : List Ty} {ts : List Task} → All (ClassTyped G) G → TasksTyped G Γs us ts → length us ≤ variablesMost * length ts
+values-fit : {G : List Class} {Γs : List Context} {us : List Ty} {ts : List Task} → All (ClassTyped G) G → TasksTyped G Γs us ts
+    → length us ≤ variablesMost * length ts
 values-fit T r-end = omega arith
 values-fit T (r-evaluate x l b R) = omega (arith, values-fit T R)
 values-fit T (r-execute x l R) = omega (arith, values-fit T R)
@@ -368,7 +372,8 @@ abbrev FitsO : Limits → Progress Core → Type 0
 FitsO L (next c m) = FitsM L c m
 FitsO L (stop e) = Unit {0}
 
-guard-fits : (L : Limits) (m : Meters) (r : Request Core) → m .steps ≤ L .budget → length (m .printed) ≤ L .printed → FitsR (L .calls) (L .heap) r → FitsO L (guard L m r)
+guard-fits : (L : Limits) (m : Meters) (r : Request Core) → m .steps ≤ L .budget → length (m .printed) ≤ L .printed
+    → FitsR (L .calls) (L .heap) r → FitsO L (guard L m r)
 unfolding guard
 guard-fits L m (charge p (core ts vs cs h)) i j f =
     by-test (FitsO L) (ltb (m .steps) (L .budget)) _ _ (λ e. (f, omega (arith, ltb-true (m .steps) (L .budget) e), j)) (λ _. tt)

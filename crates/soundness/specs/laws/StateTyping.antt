@@ -119,7 +119,8 @@ pub data TasksTyped (G : List Class) : List Context → List Ty → List Task �
   r-execute : {Γs : List Context} {us : List Ty} {ts : List Task} {s : Statement}
       → IsTyped G (now Γs) s → WordLiterals s → TasksTyped G Γs us ts → TasksTyped G Γs us (execute s ∷ ts)
   r-operand : {Γs : List Context} {us : List Ty} {ts : List Task} {o : Operator} {r : Expression} {s u t : Ty}
-      → Operates o s u → HasType G (now Γs) r s → WordLiterals r → Sub G u t → TasksTyped G Γs (t ∷ us) ts → TasksTyped G Γs (s ∷ us) (operand o r ∷ ts)
+      → Operates o s u → HasType G (now Γs) r s → WordLiterals r → Sub G u t → TasksTyped G Γs (t ∷ us) ts
+      → TasksTyped G Γs (s ∷ us) (operand o r ∷ ts)
   r-operate : {Γs : List Context} {us : List Ty} {ts : List Task} {o : Operator} {s u t : Ty}
       → Operates o s u → isAnd o ≡ false → Sub G u t → TasksTyped G Γs (t ∷ us) ts → TasksTyped G Γs (s ∷ s ∷ us) (operate o ∷ ts)
   r-confirm : {Γs : List Context} {us : List Ty} {ts : List Task} {t : Ty}
@@ -140,16 +141,19 @@ pub data TasksTyped (G : List Class) : List Context → List Ty → List Task �
   -- qs: the types of the arguments that are done, last first
   r-invoke : {Γs : List Context} {us : List Ty} {ts : List Task} {p : Place} {m : List ℕ} {n : ℕ} {es : Part arguments} {c : List ℕ} {F : Found} {vs : List Variable} {t : Ty}
       (qs : List Ty) → HasMethod G c m F → HaveTypes G (now Γs) es vs → WordLiterals es → reverseAux qs (map typeOf vs) ≡ map typeOf (F .method .parameters)
-      → n ≡ length qs + arity es → Sub G (F .method .result .type) t → TasksTyped G Γs (t ∷ us) ts → TasksTyped G Γs (qs ++ plain (class c) ∷ us) (invoke p m n es ∷ ts)
+      → n ≡ length qs + arity es → Sub G (F .method .result .type) t → TasksTyped G Γs (t ∷ us) ts
+      → TasksTyped G Γs (qs ++ plain (class c) ∷ us) (invoke p m n es ∷ ts)
   r-branch : {Γs : List Context} {us : List Ty} {ts : List Task} {s t : Statement}
-      → IsTyped G (now Γs) s → WordLiterals s → IsTyped G (now Γs) t → WordLiterals t → TasksTyped G Γs us ts → TasksTyped G Γs (plain boolean ∷ us) (branch s t ∷ ts)
+      → IsTyped G (now Γs) s → WordLiterals s → IsTyped G (now Γs) t → WordLiterals t → TasksTyped G Γs us ts
+      → TasksTyped G Γs (plain boolean ∷ us) (branch s t ∷ ts)
   r-decide : {Γs : List Context} {us : List Ty} {ts : List Task} {e : Expression} {s : Statement}
       → HasType G (now Γs) e (plain boolean) → WordLiterals e → IsTyped G (now Γs) s → WordLiterals s → TasksTyped G Γs us ts
       → TasksTyped G Γs (plain boolean ∷ us) (decide e s ∷ ts)
   r-again : {Γs : List Context} {us : List Ty} {ts : List Task} {e : Expression} {s : Statement}
       → HasType G (now Γs) e (plain boolean) → WordLiterals e → IsTyped G (now Γs) s → WordLiterals s → TasksTyped G Γs us ts
       → TasksTyped G Γs us (again e s ∷ ts)
-  r-show : {Γs : List Context} {us : List Ty} {ts : List Task} {p : Place} → TasksTyped G Γs us ts → TasksTyped G Γs (plain int ∷ us) (show p ∷ ts)
+  r-show : {Γs : List Context} {us : List Ty} {ts : List Task} {p : Place} → TasksTyped G Γs us ts
+      → TasksTyped G Γs (plain int ∷ us) (show p ∷ ts)
   r-store : {Γs : List Context} {us : List Ty} {ts : List Task} {x : List ℕ} {t : Ty}
       → HasName G (now Γs) x t → TasksTyped G Γs us ts → TasksTyped G Γs (t ∷ us) (store x ∷ ts)
   r-new-element : {Γs : List Context} {us : List Ty} {ts : List Task} {p : Place} {e : Expression} {s : Ty} {t : Element}
@@ -161,8 +165,10 @@ pub data TasksTyped (G : List Class) : List Context → List Ty → List Task �
       → AreTyped G (now Γs) ss → WordLiterals ss → TasksTyped G Γs us ts → TasksTyped G Γs us (continue ss ∷ ts)
   -- r: the type of the method's result
   r-perform : {Γ : Context} {Γs : List Context} {us : List Ty} {ts : List Task} {ss : Part statements} {e : Expression} {s r t : Ty}
-      → AreTyped G Γ ss → WordLiterals ss → HasType G Γ e s → WordLiterals e → Sub G s r → Sub G r t → TasksTyped G Γs (t ∷ us) ts → TasksTyped G (Γ ∷ Γs) us (perform ss e r ∷ ts)
-  r-leave : {Γ : Context} {Γs : List Context} {us : List Ty} {ts : List Task} {r t : Ty} → Sub G r t → TasksTyped G Γs (t ∷ us) ts → TasksTyped G (Γ ∷ Γs) (r ∷ us) (leave r ∷ ts)
+      → AreTyped G Γ ss → WordLiterals ss → HasType G Γ e s → WordLiterals e → Sub G s r → Sub G r t → TasksTyped G Γs (t ∷ us) ts
+      → TasksTyped G (Γ ∷ Γs) us (perform ss e r ∷ ts)
+  r-leave : {Γ : Context} {Γs : List Context} {us : List Ty} {ts : List Task} {r t : Ty} → Sub G r t → TasksTyped G Γs (t ∷ us) ts
+      → TasksTyped G (Γ ∷ Γs) (r ∷ us) (leave r ∷ ts)
 
 -- ---- states and requests
 

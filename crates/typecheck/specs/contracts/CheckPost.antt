@@ -51,7 +51,8 @@ ProgramDecided ts (refused n q) r tab = r ≡ declined n q
 pub record Checked (s : List ℕ) (p : Program) (r : Finding) (tab : List ℕ) : Type 0 where
   pub stream : List Token
   pub lexed : tokens s ≡ accepted stream
-  pub names : (i : ℕ) (t : Token) → getElem? stream i ≡ some t → isName (t .kind) ≡ true → t .text ≡ longestRun isNamePart (drop (t .start) s)
+  pub names : (i : ℕ) (t : Token) → getElem? stream i ≡ some t → isName (t .kind) ≡ true
+      → t .text ≡ longestRun isNamePart (drop (t .start) s)
   pub answer : r ≡ found (length stream) (length (p .classes))
   pub ready : Ready tab (length stream) stream p
   pub derived : DerivesProgram stream p
@@ -82,10 +83,12 @@ abbrev pub parentsOn : Program → Outcome Program
 parentsOn p = knownParents (p .classes) (p .classes) >>= λ _. chainsOn p >>= λ _. accepted p
 
 pub record ContentsJudged (tab : List ℕ) (n classes first : ℕ) (r : Judged) : Type 0 where
-  pub says : (ts : List Token) (p : Program) → Ready tab n ts p → length (p .classes) ≡ classes → rowClasses (p .classes) ≡ first → r ≡ asJudged (contentsOf p)
+  pub says : (ts : List Token) (p : Program) → Ready tab n ts p → length (p .classes) ≡ classes → rowClasses (p .classes) ≡ first
+      → r ≡ asJudged (contentsOf p)
 
 pub record ChainedJudged (tab : List ℕ) (n classes first : ℕ) (r : Judged) : Type 0 where
-  pub says : (ts : List Token) (p : Program) → Ready tab n ts p → length (p .classes) ≡ classes → rowClasses (p .classes) ≡ first → r ≡ asJudged (chainsOn p)
+  pub says : (ts : List Token) (p : Program) → Ready tab n ts p → length (p .classes) ≡ classes → rowClasses (p .classes) ≡ first
+      → r ≡ asJudged (chainsOn p)
 
 pub record IndexedJudged (tab : List ℕ) (n : ℕ) (r : Finding) : Type 0 where
   pub says : (ts : List Token) (p : Program) → Ready tab n ts p → DerivesProgram ts p → ProgramDecided ts (parentsOn p) r tab

@@ -20,25 +20,30 @@ use Rattle.bodies.specs.contracts.Scoping.{InScope}
 
 -- statements and return expression
 pub record CarriedJudged (tab : List ℕ) (s : Scope) (row : ℕ) (r : Judged) : Type 0 where
-  pub says : (ts : List Token) (G : List Class) (Γ : Context) → InScope tab ts G Γ s → (m : Method) → m .name .row ≡ row → MethodHeld tab (s .tokens) ts m
+  pub says : (ts : List Token) (G : List Class) (Γ : Context) → InScope tab ts G Γ s → (m : Method) → m .name .row ≡ row
+      → MethodHeld tab (s .tokens) ts m
       → r ≡ asJudged (judge G Γ (m .body) >>= λ _. judge G Γ (m .value) >>= λ t. must G (m .value) (m .result .type) t)
 
 -- a body, in the class whose name has the number `owner`
 pub record BodyJudged (tab : List ℕ) (n classes owner row : ℕ) (r : Judged) : Type 0 where
-  pub says : (ts : List Token) (G : List Class) → ClassTableHeld tab n ts G → length G ≡ classes → (c : List ℕ) → NameNumber ts c owner → (m : Method) → m .name .row ≡ row
+  pub says : (ts : List Token) (G : List Class) → ClassTableHeld tab n ts G → length G ≡ classes → (c : List ℕ) → NameNumber ts c owner
+      → (m : Method) → m .name .row ≡ row
       → MethodHeld tab n ts m → r ≡ asJudged (body G c m)
 
 pub record MethodsJudged (tab : List ℕ) (n classes left owner row : ℕ) (r : Judged) : Type 0 where
-  pub says : (ts : List Token) (G : List Class) → ClassTableHeld tab n ts G → length G ≡ classes → (c : List ℕ) → NameNumber ts c owner → (ms : List Method) → rowMethods ms ≡ row
+  pub says : (ts : List Token) (G : List Class) → ClassTableHeld tab n ts G → length G ≡ classes → (c : List ℕ) → NameNumber ts c owner
+      → (ms : List Method) → rowMethods ms ≡ row
       → MethodsHeld tab n ts ms → length ms ≤ left → r ≡ asJudged (bodies G c ms)
 
 -- the bodies of the class in a row
 pub record ClassJudged (tab : List ℕ) (n classes row : ℕ) (r : Judged) : Type 0 where
-  pub says : (ts : List Token) (G : List Class) → ClassTableHeld tab n ts G → length G ≡ classes → (k : Class) → k .name .row ≡ row → ClassHeld tab n ts k
+  pub says : (ts : List Token) (G : List Class) → ClassTableHeld tab n ts G → length G ≡ classes → (k : Class) → k .name .row ≡ row
+      → ClassHeld tab n ts k
       → r ≡ asJudged (bodies G (k .name .text) (k .methods))
 
 pub record ClassesJudged (tab : List ℕ) (n classes left row : ℕ) (r : Judged) : Type 0 where
-  pub says : (ts : List Token) (G : List Class) → ClassTableHeld tab n ts G → length G ≡ classes → (ks : List Class) → ClassesAt tab n ts ks left row → r ≡ asJudged (classBodies G ks)
+  pub says : (ts : List Token) (G : List Class) → ClassTableHeld tab n ts G → length G ≡ classes → (ks : List Class)
+      → ClassesAt tab n ts ks left row → r ≡ asJudged (classBodies G ks)
 
 pub record BodiesJudged (tab : List ℕ) (n classes : ℕ) (r : Judged) : Type 0 where
   pub says : (ts : List Token) (p : Program) → Ready tab n ts p → length (p .classes) ≡ classes → r ≡ asJudged (allBodies p)

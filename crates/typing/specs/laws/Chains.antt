@@ -173,7 +173,8 @@ chain-is {G} A c = go (classNamed G c) refl
     go (some k) e = let t = tall (A .ends c e) in climb (t .1) (length G) (short (t .0) G (t .1))
 
 -- a chain begins with its class, and goes on with the parent's chain
-pub chain-head : {G : List Class} {c : List ℕ} {k : Class} {ks : List Class} → Chain G c ks → classNamed G c ≡ some k → (ls : List Class) × (ks ≡ k ∷ ls)
+pub chain-head : {G : List Class} {c : List ℕ} {k : Class} {ks : List Class} → Chain G c ks → classNamed G c ≡ some k
+    → (ls : List Class) × (ks ≡ k ∷ ls)
 chain-head (chain-none e) a = absurd (none-some e a)
 chain-head (chain-top e p) a = ([], cc)
 chain-head (chain-more {ks = ks} e x h) a = (ks, cc)

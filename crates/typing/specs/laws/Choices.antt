@@ -16,16 +16,19 @@ use Rattle.base.specs.laws.Tests.{same-equal}
 -- CHOICES
 
 -- what holds of the branch that a choice takes holds of the choice
-pub by-test : {B : Type 0} (P : B → Type 0) (b : Bool) (x y : Unit {0} → B) → (b ≡ true → P (x tt)) → (b ≡ false → P (y tt)) → P (if b then x else y)
+pub by-test : {B : Type 0} (P : B → Type 0) (b : Bool) (x y : Unit {0} → B) → (b ≡ true → P (x tt)) → (b ≡ false → P (y tt))
+    → P (if b then x else y)
 by-test P true x y f g = f refl
 by-test P false x y f g = g refl
 
 -- which branch a choice took
-pub taken : {B R : Type 0} (b : Bool) (x y : Unit {0} → B) {z : B} → (if b then x else y) ≡ z → (b ≡ true → x tt ≡ z → R) → (b ≡ false → y tt ≡ z → R) → R
+pub taken : {B R : Type 0} (b : Bool) (x y : Unit {0} → B) {z : B} → (if b then x else y) ≡ z → (b ≡ true → x tt ≡ z → R)
+    → (b ≡ false → y tt ≡ z → R) → R
 taken {R = R} b x y {z = z} e f g = by-test (λ v. v ≡ z → R) b x y f g e
 
 -- what an option held
-pub held : {A B R : Type 0} (o : Option A) {x : B} {y : A → B} {z : B} → option o x y ≡ z → (o ≡ none → x ≡ z → R) → ((a : A) → o ≡ some a → y a ≡ z → R) → R
+pub held : {A B R : Type 0} (o : Option A) {x : B} {y : A → B} {z : B} → option o x y ≡ z → (o ≡ none → x ≡ z → R)
+    → ((a : A) → o ≡ some a → y a ≡ z → R) → R
 held none e f g = f refl e
 held (some a) e f g = g a refl e
 
@@ -42,24 +45,29 @@ pub refused-accepted : {A : Type 0} {n p : ℕ} {a : A} → refused n p ≡ acce
 refused-accepted e = subst IsAccepted (sym e) tt
 
 -- an accepted chain of two stages: both accepted
-pub bound : {A B : Type 0} (x : Outcome A) (k : A → Outcome B) {b : B} → (x >>= k) ≡ accepted b → (a : A) × (x ≡ accepted a) × (k a ≡ accepted b)
+pub bound : {A B : Type 0} (x : Outcome A) (k : A → Outcome B) {b : B} → (x >>= k) ≡ accepted b
+    → (a : A) × (x ≡ accepted a) × (k a ≡ accepted b)
 bound (accepted a) k e = (a, refl, e)
 bound (refused n p) k e = absurd (refused-accepted e)
 
 -- a test that refuses where it fails
-pub passed : {A : Type 0} (b : Bool) (x : Unit {0} → Outcome A) (n p : ℕ) {a : A} → (if b then x else λ _. refused n p) ≡ accepted a → (b ≡ true) × (x tt ≡ accepted a)
+pub passed : {A : Type 0} (b : Bool) (x : Unit {0} → Outcome A) (n p : ℕ) {a : A} → (if b then x else λ _. refused n p) ≡ accepted a
+    → (b ≡ true) × (x tt ≡ accepted a)
 passed b x n p e = taken b x _ e (λ t q. (t, q)) (λ t q. absurd (refused-accepted q))
 
 -- a look-up that refuses where it finds nothing
-pub present : {A B : Type 0} (o : Option A) (n p : ℕ) (k : A → Outcome B) {b : B} → option o (refused n p) k ≡ accepted b → (a : A) × (o ≡ some a) × (k a ≡ accepted b)
+pub present : {A B : Type 0} (o : Option A) (n p : ℕ) (k : A → Outcome B) {b : B} → option o (refused n p) k ≡ accepted b
+    → (a : A) × (o ≡ some a) × (k a ≡ accepted b)
 present o n p k e = held o e (λ t q. absurd (refused-accepted q)) (λ a t q. (a, t, q))
 
 -- a test that refuses where it succeeds
-pub failed : {A : Type 0} (b : Bool) (n p : ℕ) (x : Unit {0} → Outcome A) {a : A} → (if b then (λ _. refused n p) else x) ≡ accepted a → (b ≡ false) × (x tt ≡ accepted a)
+pub failed : {A : Type 0} (b : Bool) (n p : ℕ) (x : Unit {0} → Outcome A) {a : A} → (if b then (λ _. refused n p) else x) ≡ accepted a
+    → (b ≡ false) × (x tt ≡ accepted a)
 failed b n p x e = taken b _ x e (λ t q. absurd (refused-accepted q)) (λ t q. (t, q))
 
 -- a look-up that may find nothing
-pub if-present : {A : Type 0} (o : Option A) (k : A → Outcome (Unit {0})) → ((a : A) → o ≡ some a → k a ≡ accepted tt) → option o (accepted tt) k ≡ accepted tt
+pub if-present : {A : Type 0} (o : Option A) (k : A → Outcome (Unit {0})) → ((a : A) → o ≡ some a → k a ≡ accepted tt)
+    → option o (accepted tt) k ≡ accepted tt
 if-present none k f = refl
 if-present (some a) k f = f a refl
 
@@ -68,7 +76,8 @@ bind-assoc (accepted a) y z = refl
 bind-assoc (refused n p) y z = refl
 
 -- a stage, a test of what it gives, and a stage after the test
-pub tested : {A B : Type 0} (x : Outcome A) (y : A → Outcome (Unit {0})) (k : Unit {0} → Outcome B) {b : B} → (x >>= λ a. y a >>= k) ≡ accepted b
+pub tested : {A B : Type 0} (x : Outcome A) (y : A → Outcome (Unit {0})) (k : Unit {0} → Outcome B) {b : B}
+    → (x >>= λ a. y a >>= k) ≡ accepted b
     → ((x >>= y) ≡ accepted tt) × (k tt ≡ accepted b)
 tested x y k e = let w = bound (x >>= y) k (sym (bind-assoc x y k) ∙ e) in (w .1, w .2)
 

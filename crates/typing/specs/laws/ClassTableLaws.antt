@@ -73,7 +73,8 @@ module _ {G : List Class} (A : Acyclic G) where
 -- METHODS
 
 -- what holds of every method of the table holds of one that a class has
-pub every-method : {G : List Class} {P : Method → Type 0} {c m : List ℕ} {F : Found} → All (λ k. All P (k .methods)) G → HasMethod G c m F → P (F .method)
+pub every-method : {G : List Class} {P : Method → Type 0} {c m : List ℕ} {F : Found} → All (λ k. All P (k .methods)) G
+    → HasMethod G c m F → P (F .method)
 every-method {c = c} {m = m} h (own-method e f) = all-methods m (all-classes c h e) f
 every-method h (inherited-method e f x y) = every-method h y
 

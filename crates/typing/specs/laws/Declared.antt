@@ -40,7 +40,8 @@ module _ (G : List Class) where
       let o = failed (occurs (textOf v) earlier) _ _ x (k .2) in
       (passed (known G (underlying (v .type .type))) _ _ _ (k .1) .0, o .0, o .1)
 
-  pub fields-sound : (earlier : List (List ℕ)) (vs : List Variable) → fields G earlier vs ≡ accepted tt → All (Known G) vs × Fresh earlier (map textOf vs)
+  pub fields-sound : (earlier : List (List ℕ)) (vs : List Variable) → fields G earlier vs ≡ accepted tt
+      → All (Known G) vs × Fresh earlier (map textOf vs)
   unfolding fields
   fields-sound earlier [] h = (all-nil, fresh-none)
   fields-sound earlier (v ∷ vs) h =
@@ -48,12 +49,14 @@ module _ (G : List Class) where
       let w = fields-sound (textOf v ∷ earlier) vs (o .2) in
       (all-cons (o .0) (w .0), fresh-more (o .1) (w .1))
 
-  pub fields-complete : {earlier : List (List ℕ)} {vs : List Variable} → All (Known G) vs → Fresh earlier (map textOf vs) → fields G earlier vs ≡ accepted tt
+  pub fields-complete : {earlier : List (List ℕ)} {vs : List Variable} → All (Known G) vs → Fresh earlier (map textOf vs)
+      → fields G earlier vs ≡ accepted tt
   unfolding fields
   fields-complete all-nil f = refl
   fields-complete (all-cons k ks) (fresh-more o f) = rw (k, o) (fields-complete ks f)
 
-  pub variables-sound : (earlier : List (List ℕ)) (vs : List Variable) → length earlier ≤ variablesMost → variables G earlier vs ≡ accepted tt
+  pub variables-sound : (earlier : List (List ℕ)) (vs : List Variable) → length earlier ≤ variablesMost
+      → variables G earlier vs ≡ accepted tt
       → All (Known G) vs × Fresh earlier (map textOf vs) × (length earlier + length vs ≤ variablesMost)
   unfolding variables
   variables-sound earlier [] l h = (all-nil, fresh-none, omega arith)
@@ -128,7 +131,8 @@ module _ {G : List Class} (A : Acyclic G) where
       redeclares-sound m (F .method) (passed (redeclares G m (F .method)) _ _ _ (rw (above-nearest (chain-is A (className k)) x y) at h) .0)
 
   redeclaration-complete : (k : Class) (m : Method)
-      → ((d : List ℕ) (F : Found) → Extends G (className k) d → HasMethod G d (methodName m) F → Redeclares G m (F .method)) → redeclaration G k m ≡ accepted tt
+      → ((d : List ℕ) (F : Found) → Extends G (className k) d → HasMethod G d (methodName m) F → Redeclares G m (F .method))
+      → redeclaration G k m ≡ accepted tt
   redeclaration-complete k m f = if-present (nearestMethod (drop 1 (chain G (className k))) (methodName m)) _ λ F e.
       let w = above-found (methodName m) (chain-is A (className k)) e in
       rw (redeclares-complete m (F .method) (f (w .0) F (w .1) (w .2)))
@@ -156,7 +160,8 @@ module _ {G : List Class} (A : Acyclic G) where
         fresh-more (failed (occurs (methodName m) earlier) _ _ _ (b .1) .0) (w .1),
       )
 
-  pub heads-complete : (k : Class) {earlier : List (List ℕ)} {ms : List Method} → All (HeadTyped G (className k)) ms → Fresh earlier (map methodName ms)
+  pub heads-complete : (k : Class) {earlier : List (List ℕ)} {ms : List Method} → All (HeadTyped G (className k)) ms
+      → Fresh earlier (map methodName ms)
       → heads G k earlier ms ≡ accepted tt
   unfolding heads
   heads-complete k all-nil f = refl

@@ -51,11 +51,13 @@ not-occurs all-nil = refl
 not-occurs (all-cons p h) = rw (p, not-occurs h)
 
 -- one more earlier name
-unused-cons : (x : List ℕ) (earlier : List (List ℕ)) {xs : List (List ℕ)} → occurs x xs ≡ false → Unused earlier xs → Unused (x ∷ earlier) xs
+unused-cons : (x : List ℕ) (earlier : List (List ℕ)) {xs : List (List ℕ)} → occurs x xs ≡ false → Unused earlier xs
+    → Unused (x ∷ earlier) xs
 unfolding occurs
 unused-cons x earlier {xs} o h = all-weaken (λ y p. rw (same-sym y x (p .0), p .1)) (all-zip (occurs-not x xs o) h)
 
-cons-unused : (x : List ℕ) (earlier : List (List ℕ)) {xs : List (List ℕ)} → Unused (x ∷ earlier) xs → (occurs x xs ≡ false) × Unused earlier xs
+cons-unused : (x : List ℕ) (earlier : List (List ℕ)) {xs : List (List ℕ)} → Unused (x ∷ earlier) xs
+    → (occurs x xs ≡ false) × Unused earlier xs
 unfolding occurs
 cons-unused x earlier h =
     let w = all-split (all-weaken (λ y p. or-neither (same x y) (occurs y earlier) p) h) in

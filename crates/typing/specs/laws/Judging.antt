@@ -33,7 +33,8 @@ operand-exact subtracts = tt
 operand-exact multiplies = tt
 
 -- an accepted receiver is of a class
-receiver-class : (e : Expression) (s : Ty) (k : List ℕ → Outcome Ty) {t : Ty} → receiver e s k ≡ accepted t → (c : List ℕ) × (s ≡ plain (class c)) × (k c ≡ accepted t)
+receiver-class : (e : Expression) (s : Ty) (k : List ℕ → Outcome Ty) {t : Ty} → receiver e s k ≡ accepted t
+    → (c : List ℕ) × (s ≡ plain (class c)) × (k c ≡ accepted t)
 receiver-class e (plain int) k h = absurd (refused-accepted h)
 receiver-class e (plain boolean) k h = absurd (refused-accepted h)
 receiver-class e (plain (class c)) k h = (c, refl, h)
@@ -56,7 +57,8 @@ invoked m count k (some F) h =
 
 module _ {G : List Class} (A : Acyclic G) where
   -- a part that is judged, and must fit
-  pub fitted : (x : Outcome Ty) (e : Expression) {want : Ty} → (x >>= λ t. must G e want t) ≡ accepted tt → (t : Ty) × (x ≡ accepted t) × Sub G t want
+  pub fitted : (x : Outcome Ty) (e : Expression) {want : Ty} → (x >>= λ t. must G e want t) ≡ accepted tt
+      → (t : Ty) × (x ≡ accepted t) × Sub G t want
   fitted x e {want} h =
       let b = bound x _ h in
       (b .0, b .1, fits-sub A (b .0) want (passed (fits G (b .0) want) _ _ _ (b .2) .0))
@@ -74,7 +76,8 @@ module _ {G : List Class} (A : Acyclic G) where
     typed {e} {s} {t} h q = let z : s ≡ t = cc in subst (HasType G Γ e) z h
 
     -- a part that must have a type that is no class, as the last one
-    last : (e : Expression) (want : Ty) → Exact want → Sound expression e → (judge G Γ e >>= λ t. must G e want t) ≡ accepted tt → HasType G Γ e want
+    last : (e : Expression) (want : Ty) → Exact want → Sound expression e → (judge G Γ e >>= λ t. must G e want t) ≡ accepted tt
+        → HasType G Γ e want
     last e want p f h = let w = fitted (judge G Γ e) e h in subst (HasType G Γ e) (sub-exact p (w .2)) (f (w .0) (w .1))
 
     -- and before a next one

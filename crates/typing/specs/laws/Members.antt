@@ -125,13 +125,15 @@ method-either {G} {c} {k} {F} m above e f h =
     held (methodNamed (k .methods) m) h f
     (λ x q r. let z : record { owner = k .name .text; method = x } ≡ F = cc in subst (HasMethod G c m) z (own-method e q))
 
-pub method-found : {G : List Class} {c : List ℕ} {ks : List Class} (m : List ℕ) {F : Found} → Chain G c ks → nearestMethod ks m ≡ some F → HasMethod G c m F
+pub method-found : {G : List Class} {c : List ℕ} {ks : List Class} (m : List ℕ) {F : Found} → Chain G c ks → nearestMethod ks m ≡ some F
+    → HasMethod G c m F
 unfolding nearestMethod
 method-found m (chain-none e) h = absurd (none-some refl h)
 method-found m (chain-top e p) h = method-either m none e (λ q r. absurd (none-some refl r)) h
 method-found m (chain-more {ks = ks} e x t) h = method-either m (nearestMethod ks m) e (λ q r. inherited-method e q x (method-found m t r)) h
 
-pub method-nearest : {G : List Class} {c m : List ℕ} {ks : List Class} {F : Found} → Chain G c ks → HasMethod G c m F → nearestMethod ks m ≡ some F
+pub method-nearest : {G : List Class} {c m : List ℕ} {ks : List Class} {F : Found} → Chain G c ks → HasMethod G c m F
+    → nearestMethod ks m ≡ some F
 unfolding nearestMethod
 method-nearest t (own-method e x) = let l = chain-head t e in rw (l .1, x)
 method-nearest t (inherited-method e x y h) = let l = chain-tail t e y in rw (l .1, x) (method-nearest (l .2) h)
@@ -186,7 +188,8 @@ field-either : {G : List Class} {c x : List ℕ} {k : Class} {s : Slot} (n : ℕ
 field-either {x = x} {k = k} {s = s} n above e f h =
     held (variableNamed (k .fields) x) h f (λ r q z. let y : moved n r ≡ s = cc in own-field e q (ap (λ (s : Slot). s .type) y))
 
-pub field-found : {G : List Class} {c : List ℕ} {ks : List Class} (x : List ℕ) {s : Slot} → Chain G c ks → nearestField ks x ≡ some s → HasField G c x (s .type)
+pub field-found : {G : List Class} {c : List ℕ} {ks : List Class} (x : List ℕ) {s : Slot} → Chain G c ks → nearestField ks x ≡ some s
+    → HasField G c x (s .type)
 unfolding nearestField
 field-found x (chain-none e) h = absurd (none-some refl h)
 field-found x (chain-top e p) h = field-either _ none e (λ q r. absurd (none-some refl r)) h
@@ -203,7 +206,8 @@ field-nearest l (inherited-field {x = z} e x y h) =
 
 -- NAMES
 
-pub meaning-has : {G : List Class} → Acyclic G → (Γ : Context) (x : List ℕ) {m : Meaning} → meaning G Γ x ≡ some m → HasName G Γ x (meaningType m)
+pub meaning-has : {G : List Class} → Acyclic G → (Γ : Context) (x : List ℕ) {m : Meaning} → meaning G Γ x ≡ some m
+    → HasName G Γ x (meaningType m)
 unfolding meaning
 meaning-has {G} A Γ x {m} h =
     held (variableNamed (Γ .variables) x) h
@@ -216,7 +220,8 @@ meaning-has {G} A Γ x {m} h =
 -- where the value of a name is kept: at a place among the variables, or among the fields of the declaring class
 pub data NameAt (G : List Class) (Γ : Context) (x : List ℕ) (t : Ty) : Type 0 where
   in-row : (s : Slot) → meaning G Γ x ≡ some (ofRow s) → StandsAt (Γ .variables) s → s .type ≡ t → NameAt G Γ x t
-  in-object : (c : List ℕ) (s : Slot) → Γ .owner ≡ some c → meaning G Γ x ≡ some (ofObject s) → StandsAt (fieldsOf G c) s → s .type ≡ t → NameAt G Γ x t
+  in-object : (c : List ℕ) (s : Slot) → Γ .owner ≡ some c → meaning G Γ x ≡ some (ofObject s) → StandsAt (fieldsOf G c) s → s .type ≡ t
+      → NameAt G Γ x t
 
 pub name-at : {G : List Class} {Γ : Context} {x : List ℕ} {t : Ty} → Acyclic G → HasName G Γ x t → NameAt G Γ x t
 unfolding meaning fieldsOf
@@ -225,7 +230,8 @@ name-at {G} {x = x} A (of-field {c = c} e o h) =
     let f = field-nearest (chain-is A c) h in
     in-object c (f .0) o (rw (e, o, f .1)) (field-stands (chain G c) x (f .1)) (f .2)
 
-pub has-meaning : {G : List Class} {Γ : Context} {x : List ℕ} {t : Ty} → Acyclic G → HasName G Γ x t → (m : Meaning) × (meaning G Γ x ≡ some m) × (meaningType m ≡ t)
+pub has-meaning : {G : List Class} {Γ : Context} {x : List ℕ} {t : Ty} → Acyclic G → HasName G Γ x t
+    → (m : Meaning) × (meaning G Γ x ≡ some m) × (meaningType m ≡ t)
 has-meaning {G} {Γ} {x} {t} A h = go (name-at A h)
   where
     go : NameAt G Γ x t → (m : Meaning) × (meaning G Γ x ≡ some m) × (meaningType m ≡ t)

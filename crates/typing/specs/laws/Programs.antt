@@ -173,7 +173,8 @@ module _ {G : List Class} (A : Acyclic G) where
   unfolding bodies
   bodies-complete {c} h = each-complete (bodies G c) (body G c) refl (λ m l. refl) (all-weaken (λ m t. method-body A t) h)
 
-  classBodies-sound : (ks : List Class) → classBodies G ks ≡ accepted tt → All (λ (k : Class). bodies G (className k) (k .methods) ≡ accepted tt) ks
+  classBodies-sound : (ks : List Class) → classBodies G ks ≡ accepted tt
+      → All (λ (k : Class). bodies G (className k) (k .methods) ≡ accepted tt) ks
   unfolding classBodies
   classBodies-sound ks h = each-sound (classBodies G) (λ k. bodies G (className k) (k .methods)) refl (λ k l. refl) ks h
 
@@ -181,7 +182,8 @@ module _ {G : List Class} (A : Acyclic G) where
   unfolding classBodies
   classBodies-complete h = each-complete (classBodies G) (λ k. bodies G (className k) (k .methods)) refl (λ k l. refl) (all-weaken (λ k t. bodies-complete (t .methods)) h)
 
-  class-typed : (k : Class) → (ParentKnown G k × Ends G (className k)) × (Declared G k × (bodies G (className k) (k .methods) ≡ accepted tt)) → ClassTyped G k
+  class-typed : (k : Class)
+      → (ParentKnown G k × Ends G (className k)) × (Declared G k × (bodies G (className k) (k .methods) ≡ accepted tt)) → ClassTyped G k
   class-typed k w = record {
     parent-known = w .0 .0;
     ends = w .0 .1;

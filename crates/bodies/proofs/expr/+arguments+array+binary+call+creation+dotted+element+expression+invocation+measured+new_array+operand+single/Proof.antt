@@ -121,7 +121,8 @@ operand-below t = and 2 operand-kinds.ps (falls 2 operand-kinds.ps _<_ μ-operan
 abbrev single-below : ℕ → In 2 single-kinds.ps
 single-below t = and 2 single-kinds.ps (falls 2 single-kinds.ps _<_ μ-single t) single.Pre
 
-pub +arguments+array+binary+call+creation+dotted+element+expression+invocation+measured+new-array+operand+single-spec : {M : Type 1} → statement M
+pub +arguments+array+binary+call+creation+dotted+element+expression+invocation+measured+new-array+operand+single-spec : {M : Type 1}
+    → statement M
 +arguments+array+binary+call+creation+dotted+element+expression+invocation+measured+new-array+operand+single-spec =
     close μ-arguments μ-array μ-binary μ-call μ-creation μ-dotted μ-element μ-expression μ-invocation μ-measured μ-new-array μ-operand
     μ-single

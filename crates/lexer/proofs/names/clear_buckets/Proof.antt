@@ -3,7 +3,7 @@ use borrow.Author.Needs.{needs}
 use Prim.Native.Nat.{_-_, _≤_}
 use native.Mathlib.Omega.{arith}
 use mathlib.Core.Path.{_≡_, refl}
-use lib.ListN.{length, length-set}
+use lib.ListN.{length}
 use Rattle.lexer.specs.contracts.Chains.{NoNames}
 use Rattle.lexer.proofs.Chains.{no-names-first, no-names-next, no-names-last}
 use Rattle.lexer.proofs.names.clear_buckets.Statement.{statement}

@@ -10,7 +10,7 @@ use Rattle.parser.proofs.parts.linked.Reads as linked-reads
 use Rattle.parser.proofs.table.kind.Reads as kind-reads
 use Rattle.parser.proofs.decl.+methods.{statement}
 use Rattle.parser.proofs.decl.+methods.Tie.{close}
-use Prim.Native.Nat.{_*_, _-_}
+use Prim.Native.Nat.{_-_}
 use Rattle.parser.proofs.Cycles.{given, asked}
 use borrow.Author.Needs.{needs}
 use native.Mathlib.Omega.{arith}

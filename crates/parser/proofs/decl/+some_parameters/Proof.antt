@@ -11,7 +11,7 @@ use Rattle.parser.proofs.table.kind.Reads as kind-reads
 use Rattle.parser.proofs.table.link.Reads as link-reads
 use Rattle.parser.proofs.decl.+some_parameters.{statement}
 use Rattle.parser.proofs.decl.+some_parameters.Tie.{close}
-use Prim.Native.Nat.{_*_, _-_}
+use Prim.Native.Nat.{_-_}
 use Rattle.parser.proofs.Cycles.{given, asked}
 use borrow.Author.Needs.{needs}
 use native.Mathlib.Omega.{arith}

@@ -11,7 +11,7 @@ use Rattle.parser.proofs.parts.followed.Reads as followed-reads
 use Rattle.parser.proofs.parts.linked.Reads as linked-reads
 use Rattle.parser.proofs.decl.+variables.{statement}
 use Rattle.parser.proofs.decl.+variables.Tie.{close}
-use Prim.Native.Nat.{_*_, _-_}
+use Prim.Native.Nat.{_-_}
 use Rattle.parser.proofs.Cycles.{given, asked}
 use borrow.Author.Needs.{needs}
 use native.Mathlib.Omega.{arith}
