@@ -10,13 +10,13 @@ use lib.Seq.{drop-drop, getD-drop}
 use lib.Dec.{leb}
 use Rattle.device.specs.Device.{Device}
 use Rattle.device.specs.laws.Samples.{samples, withTape, samples-past, samples-seen, samples-end}
-use Rattle.device.specs.contracts.Holding.{deviceOf, CaughtUp, Least}
+use Rattle.device.specs.contracts.Holding.{deviceOf, CaughtUp, LesserOf}
 use Rattle.device.specs.declared.state.Held.{Held}
 
-pub least-first : {a b : ℕ} → a < b → Least a b a
+pub least-first : {a b : ℕ} → a < b → LesserOf a b a
 least-first h = record { below = omega arith; within = omega (arith, h); one = inl refl }
 
-pub least-second : {a b : ℕ} → b ≤ a → Least a b b
+pub least-second : {a b : ℕ} → b ≤ a → LesserOf a b b
 least-second h = record { below = h; within = omega arith; one = inr refl }
 
 -- as the code makes it where no sample was on the tape
@@ -27,7 +27,7 @@ unread d due = record { arrived = d .arrived; lost = d .lost; mask = d .mask; re
 abbrev pub read : Held → (due : ℕ) (lost : Bool) (reading : ℕ) → Held
 read d due l b = record { arrived = true; lost = l; mask = d .mask; reading = b; others = d .others; taken = due }
 
-module _ (t : List ℕ) (d : Held) (due last : ℕ) (h : d .taken ≤ due) (w : Least due (length t) last) where
+module _ (t : List ℕ) (d : Held) (due last : ℕ) (h : d .taken ≤ due) (w : LesserOf due (length t) last) where
   -- the device with other tape bytes to come, after so many samples
   abbrev after : ℕ → List ℕ → Device
   after k r = samples k (withTape r (deviceOf t d))

@@ -7,7 +7,7 @@ ghost use mathlib.Core.List.{[]};
 ghost use lib.ListN.{getD};
 ghost use Rattle.base.specs.Choice.{if_then_else_};
 ghost use Rattle.device.specs.Device as Device;
-ghost use Rattle.device.specs.contracts.Holding.{deviceOf, registersOf, Becomes, CaughtUp, Least};
+ghost use Rattle.device.specs.contracts.Holding.{deviceOf, registersOf, Rests, Becomes, CaughtUp, LesserOf};
 
 // Flag bits 0 and 1 of register 0, registers 1 and 2, registers 3 to 15, and how many samples were due so far.
 pub struct Held {
@@ -17,6 +17,21 @@ pub struct Held {
     pub reading: u8,
     pub others: [u8; 13],
     pub taken: usize,
+}
+
+// The device as a run begins.
+pub fn reset() -> Held
+    ensures { λ r. ⌜ Rests r ⌝ }
+{
+    let others = [0u8; 13];
+    Held {
+        arrived: false,
+        lost: false,
+        mask: 0,
+        reading: 0,
+        others,
+        taken: 0,
+    }
 }
 
 // Whether a flag is set and a bit of the mask also.
@@ -185,7 +200,7 @@ fn with_reading(d: Held, due: usize, lost: bool, reading: u8) -> Held
 
 // The lesser of two numbers.
 fn least(a: usize, b: usize) -> usize
-    ensures { λ r. ⌜ Least a b r ⌝ }
+    ensures { λ r. ⌜ LesserOf a b r ⌝ }
 {
     if a < b {
         return a;

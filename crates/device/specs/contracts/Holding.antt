@@ -4,7 +4,7 @@ use mathlib.Core.List.{List, []}
 use mathlib.Core.Path.{_≡_}
 use mathlib.Core.Logic.{_⊎_}
 use lib.ListN.{drop}
-use Rattle.device.specs.Device.{Device, registers, got, afterGet, afterPut}
+use Rattle.device.specs.Device.{Device, reset, registers}
 use Rattle.device.specs.laws.Samples.{samples}
 use Rattle.device.specs.declared.state.Held.{Held}
 
@@ -17,6 +17,11 @@ deviceOf t h =
 abbrev pub registersOf : Held → List ℕ
 registersOf h = registers (deviceOf [] h)
 
+-- as a run begins
+pub record Rests (h : Held) : Type 0 where
+  pub taken : h .taken ≡ 0
+  pub is : (tape : List ℕ) → deviceOf tape h ≡ reset tape
+
 -- after a function that does not look at the tape
 pub record Becomes (f : Device → Device) (before after : Held) : Type 0 where
   pub same : after .taken ≡ before .taken
@@ -28,7 +33,7 @@ pub record CaughtUp (tape : List ℕ) (due : ℕ) (before after : Held) : Type 0
   pub is : deviceOf tape after ≡ samples (due - before .taken) (deviceOf tape before)
 
 -- the lesser of two numbers
-pub record Least (a b r : ℕ) : Type 0 where
+pub record LesserOf (a b r : ℕ) : Type 0 where
   pub below : r ≤ a
   pub within : r ≤ b
   pub one : (r ≡ a) ⊎ (r ≡ b)
