@@ -548,7 +548,8 @@ module _ (tab : List ℕ) (s : Scope) (end row c x f : ℕ) {ts : List Token} {G
         (F .method .parameters) taken-at
 
     result-code : {t r : ℕ} → t ≡ wordAt tab 3 f → TypeOf tab (s .tokens) t r → Codes ts (F .method .result .type) r
-    result-code e₃ type = type .says ts (i .world .tokens) (F .method .result .row) (column 3 (st .result) e₃) (F .method .result .type) (st .head .type)
+    result-code e₃ type =
+        type .says ts (i .world .tokens) (F .method .result .row) (column 3 (st .result) e₃) (F .method .result .type) (st .head .type)
 
 module _ {tab : List ℕ} {s : Scope} {end row c x f : ℕ} (e₂ : x ≡ wordAt tab 2 (row + 1))
     (finds : FindsMethod tab (s .tokens) (s .classes) c x f) where

@@ -69,7 +69,8 @@ module _ {tab : List ℕ} {s : Scope} {x t : ℕ} (first : VariableTyped tab (s 
     module _ (far : noType ≤ u) where
       -- a number of no name means nothing
       pub name-past : 2048 ≤ x → NameTyped tab s x noType
-      name-past high′ = record { says = λ ts G Γ i text sp. absurd (omega (arith, sp .there, i .world .tokens .count, i .world .tokens .few)) }
+      name-past high′ =
+          record { says = λ ts G Γ i text sp. absurd (omega (arith, sp .there, i .world .tokens .count, i .world .tokens .few)) }
 
       pub name-field : {fields : List ℕ} → FieldsHeld tab (s .tokens) (s .classes) (s .owner) fields → NameTyped tab s x (getD fields x 0)
       name-field {fields} h =

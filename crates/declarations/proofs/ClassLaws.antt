@@ -37,7 +37,8 @@ use Rattle.declarations.proofs.MarkLaws.{below-more, none-marked}
 class-word : {tab : List ℕ} {n : ℕ} {ts : List Token} → Lexemes tab n ts → (k : Class) {row : ℕ} → k .name .row ≡ row
     → ClassHeld tab n ts k → (j : ℕ) {w v : ℕ}
     → w ≡ wordAt tab j row → col tab j (k .name .row) ≡ v → w ≡ v
-class-word {tab} lx k at s j e c = e ∙ ap (wordAt tab j) (sym at) ∙ word-in tab j (k .name .row) (row-there lx (k .name .row) (s .named .token .there)) c
+class-word {tab} lx k at s j e c =
+    e ∙ ap (wordAt tab j) (sym at) ∙ word-in tab j (k .name .row) (row-there lx (k .name .row) (s .named .token .there)) c
 
 -- the first of the classes of a row, and the others
 pub record FirstClass (tab : List ℕ) (n : ℕ) (ts : List Token) (k : Class) (ks : List Class) (left row : ℕ) : Type 0 where

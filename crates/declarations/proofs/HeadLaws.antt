@@ -175,7 +175,8 @@ module _ {tab : List ℕ} {n classes parent row : ℕ} where
         go : (ts : List Token) (G : List Class) → ClassTableHeld tab n ts G → (m : Method) (o : Option Found) → u ≡ rowFound o
             → ((F : Found) → o ≡ some F → MethodHeld tab n ts (F .method)) → compared G m o ≡ accepted tt
         go ts G w m none e f = refl
-        go ts G w m (some F) e f = absurd (omega (arith, e, row-there (w .tokens) (F .method .name .row) (f F refl .head .name .token .there)))
+        go ts G w m (some F) e f =
+            absurd (omega (arith, e, row-there (w .tokens) (F .method .name .row) (f F refl .head .name .token .there)))
 
     pub compatible-is : u < absent → {r : Bool} → RedeclaresAt tab n classes row u r → CompatibleAt tab n classes parent row r
     compatible-is near {r} h′ = record { says = λ ts G w l k p m at s. found-above w l k p m at s r (go ts G w l m at s) }
@@ -250,7 +251,8 @@ module _ {tab : List ℕ} {n row first : ℕ} {v : Judged} (e₄ : first ≡ wor
         goes-on (variables G [] (m .parameters)) (λ _. redeclaration G k m) (own-parameters w m at s) is ∙ c .says ts G w l k p m at s
 
     pub rest-fine : b ≡ true → RestJudged tab n classes parent row (Fine 0)
-    rest-fine well = record { says = λ ts G w l k p m at s. ap asJudged (sym (closed-by w l k p m at s ∙ ap (λ (a : Bool). redeclared a m) well)) }
+    rest-fine well =
+        record { says = λ ts G w l k p m at s. ap asJudged (sym (closed-by w l k p m at s ∙ ap (λ (a : Bool). redeclared a m) well)) }
 
     pub rest-bad : b ≡ false → {p : ℕ} → p ≡ wordAt tab 1 row → RestJudged tab n classes parent row (Refused badRedeclaration p)
     rest-bad ill e₁ = record {

@@ -91,7 +91,8 @@ module _ {tab : List ℕ} {c class : ℕ} (index : class ≡ wordAt tab 7 c) whe
         go : (n : ℕ) (ts : List Token) (G : List Class) → ClassTableHeld tab n ts G → (name : List ℕ)
             → ClassAt tab n ts G (some name) c class → (left : ℕ) → endsWithin (suc left) G name ≡ true
         go n ts G w name (no-class e f) left = absurd (omega arith)
-        go n ts G w name (a-class k e at near s sp) left = ends-some left G name e ∙ top w left (k .parent) (a .says n ts (w .tokens) k at s)
+        go n ts G w name (a-class k e at near s sp) left =
+            ends-some left G name e ∙ top w left (k .parent) (a .says n ts (w .tokens) k at s)
 
     module _ (low : p < absent) where
       parent : (n : ℕ) (ts : List Token) (G : List Class) → ClassTableHeld tab n ts G → (name : List ℕ) → NameNumber ts name c
@@ -175,7 +176,8 @@ class-place {tab} lx k at s e₁ = e₁ ∙ ap (wordAt tab 1) (sym at) ∙ start
 class-number : {tab : List ℕ} {n : ℕ} {ts : List Token} → Lexemes tab n ts → (k : Class) {row x : ℕ} → k .name .row ≡ row
     → ClassHeld tab n ts k → x ≡ wordAt tab 2 row
     → NameNumber ts (k .name .text) x
-class-number {tab} {ts = ts} lx k at s e₂ = subst (NameNumber ts (k .name .text)) (ap (wordAt tab 2) at ∙ sym e₂) (name-word lx (k .name .row) (s .named .token))
+class-number {tab} {ts = ts} lx k at s e₂ =
+    subst (NameNumber ts (k .name .text)) (ap (wordAt tab 2) at ∙ sym e₂) (name-word lx (k .name .row) (s .named .token))
 
 module _ {tab : List ℕ} {classes left row : ℕ} where
   pub chains-none-left : row < absent → left ≡ 0 → {number p : ℕ} → ChainsJudged tab classes left row (Refused number p)

@@ -56,7 +56,8 @@ kept-same : {ts : List Token} {tab : List ℕ} → ColumnsKept ts tab tab
 kept-same = record { columns = λ k h i hi. refl; thirds = λ i hi e. refl }
 
 kept-then : {ts : List Token} {a b c : List ℕ} → ColumnsKept ts a b → ColumnsKept ts b c → ColumnsKept ts a c
-kept-then p q = record { columns = λ k h i hi. q .columns k h i hi ∙ p .columns k h i hi; thirds = λ i hi e. q .thirds i hi e ∙ p .thirds i hi e }
+kept-then p q =
+    record { columns = λ k h i hi. q .columns k h i hi ∙ p .columns k h i hi; thirds = λ i hi e. q .thirds i hi e ∙ p .thirds i hi e }
 
 kept-put : (ts : List Token) (tab : List ℕ) (j v : ℕ) → j < rows → (kindAt ts j ≡ kIf → ⊥) → ColumnsKept ts tab (put tab 7 j v)
 kept-put ts tab j v hj n =
@@ -114,7 +115,8 @@ wipe-row tab row h = rw (ne-eqb (col tab 0 row) 10 (λ z. h (sym (kind-read tab 
 
 length-wiped : (tab : List ℕ) (i : ℕ) → length (wiped tab i) ≡ length tab
 unfolding wiped
-length-wiped tab i = by-test (λ (t : List ℕ). length t ≡ length tab) (eqb (col tab 0 i) kIf) _ _ (λ _. refl) (λ _. length-put tab 7 i absent)
+length-wiped tab i =
+    by-test (λ (t : List ℕ). length t ≡ length tab) (eqb (col tab 0 i) kIf) _ _ (λ _. refl) (λ _. length-put tab 7 i absent)
 
 -- after i turns the first i rows are cleared
 pub record Clearing (before : List ℕ) (n : ℕ) (tab : List ℕ) (i : ℕ) : Type 0 where
@@ -271,7 +273,8 @@ module _ {tab : List ℕ} {main left row : ℕ} where
 class-spells : {tab : List ℕ} {n : ℕ} {ts : List Token} → Lexemes tab n ts → (k : Class) {row x : ℕ} → k .name .row ≡ row
     → NameMatches ts (k .name) → x ≡ wordAt tab 2 row
     → NameNumber ts (className k) x
-class-spells {tab} {ts = ts} lx k at m e₂ = subst (NameNumber ts (className k)) (ap (wordAt tab 2) at ∙ sym e₂) (name-word lx (k .name .row) (m .token))
+class-spells {tab} {ts = ts} lx k at m e₂ =
+    subst (NameNumber ts (className k)) (ap (wordAt tab 2) at ∙ sym e₂) (name-word lx (k .name .row) (m .token))
 
 class-start : {tab : List ℕ} {n : ℕ} {ts : List Token} → Lexemes tab n ts → (k : Class) {row p : ℕ} → k .name .row ≡ row
     → NameMatches ts (k .name) → p ≡ wordAt tab 1 row → p ≡ k .name .start

@@ -57,7 +57,8 @@ fields-rest lx a e₆ m =
 
 module _ {tab : List ℕ} {n left stamp row : ℕ} {before : List ℕ} where
   pub fields-none-left : row < absent → left ≡ 0 → {number p : ℕ} → FieldsJudged tab n left stamp row before before (Refused number p)
-  fields-none-left near e = record { below = λ bound high b. b; says = λ ts G w earlier vs a. absurd (none-left rowVariables refl vs (a .here) (a .few) near e) }
+  fields-none-left near e =
+      record { below = λ bound high b. b; says = λ ts G w earlier vs a. absurd (none-left rowVariables refl vs (a .here) (a .few) near e) }
 
   pub fields-absent : absent ≤ row → FieldsJudged tab n left stamp row before before (Fine 0)
   unfolding fields
@@ -210,7 +211,8 @@ module _ {tab : List ℕ} {n others before first index row t : ℕ} (e₃ : t �
 
 -- the tests of a name, and what comes after them
 abbrev tests : (again few : Bool) (place : ℕ) (next : Outcome (Unit {0})) → Outcome (Unit {0})
-tests again few place next = if again then (λ _. refused variableRepeated place) else λ _. if few then (λ _. next) else λ _. refused tooManyVariables place
+tests again few place next =
+    if again then (λ _. refused variableRepeated place) else λ _. if few then (λ _. next) else λ _. refused tooManyVariables place
 
 tests-then : (o : Outcome (Unit {0})) (again few : Bool) (place : ℕ) (next : Outcome (Unit {0}))
     → (o >>= λ _. tests again few place next) ≡ ((o >>= λ _. tests again few place (accepted tt)) >>= λ _. next)

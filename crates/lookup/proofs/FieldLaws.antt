@@ -27,7 +27,8 @@ use Rattle.lookup.specs.contracts.Fields.{ObjectSize, Tells, no-field, a
 first-field : {tab : List ℕ} {n : ℕ} {ts : List Token} → Lexemes tab n ts → (k : Class) → ClassHeld tab n ts k → {class first : ℕ}
     → k .name .row ≡ class
     → first ≡ wordAt tab 4 class → rowVariables (k .fields) ≡ first
-first-field {tab} lx k s at e₄ = sym (word-in tab 4 (k .name .row) (row-there lx (k .name .row) (s .named .token .there)) (s .first)) ∙ ap (wordAt tab 4) at ∙ sym e₄
+first-field {tab} lx k s at e₄ =
+    sym (word-in tab 4 (k .name .row) (row-there lx (k .name .row) (s .named .token .there)) (s .first)) ∙ ap (wordAt tab 4) at ∙ sym e₄
 
 module _ {tab : List ℕ} {n left c : ℕ} where
   pub size-none-left : left ≡ 0 → ObjectSize tab n left c 0
@@ -104,7 +105,8 @@ tells-next at (some s) upper {p = p} (a-field c e) = let z : p ≡ 32 + (at + (1
 own-name : {tab : List ℕ} {n row w : ℕ} → w ≡ wordAt tab 2 row → {ts : List Token} → Lexemes tab n ts
     → {v : Variable} {vs : List Variable} → v .name .row ≡ row
     → VariablesHeld tab ts (v ∷ vs) → NameNumber ts (v .name .text) w
-own-name {tab} word {ts} lx {v} d (more-variables m c₃ c₆ s) = subst (NameNumber ts (v .name .text)) (ap (wordAt tab 2) d ∙ sym word) (name-word lx (v .name .row) (m .name .token))
+own-name {tab} word {ts} lx {v} d (more-variables m c₃ c₆ s) =
+    subst (NameNumber ts (v .name .text)) (ap (wordAt tab 2) d ∙ sym word) (name-word lx (v .name .row) (m .name .token))
 
 module _ {tab : List ℕ} {n left row at : ℕ} {before : List ℕ} where
   pub own-none-left : left ≡ 0 → OwnHeld tab n left row at before before
@@ -125,7 +127,8 @@ module _ {tab : List ℕ} {n left row at : ℕ} {before : List ℕ} where
           → (text : List ℕ) (x : ℕ) (upper : Option Slot)
           → TellsAt ts before x upper → TellsAt ts before x (option (variableNamed vs text) upper λ s. some (moved at s))
       go ts lx [] d s text x upper h = h
-      go ts lx (v ∷ vs) d (more-variables m e₃ e₆ s) text x upper h = absurd (omega (arith, d, row-there lx (v .name .row) (m .name .token .there)))
+      go ts lx (v ∷ vs) d (more-variables m e₃ e₆ s) text x upper h =
+          absurd (omega (arith, d, row-there lx (v .name .row) (m .name .token .there)))
 
   module _ (near : row < absent) {next : ℕ} (e₆ : next ≡ wordAt tab 6 row) {mid : List ℕ} (h : OwnHeld tab n (left - 1) next (at + 1) before mid) {w : ℕ} (word : w ≡ wordAt tab 2 row) where
     pub own-written : w < absent → 4096 ≤ length before → length mid ≡ length before → {u t : ℕ} → u ≡ wordAt tab 3 row → TypeOf tab n u t
@@ -141,7 +144,8 @@ module _ {tab : List ℕ} {n left row at : ℕ} {before : List ℕ} where
         slot-here = ap (λ (l : List ℕ). getD l (2048 + w) 0) written ∙ getD-set-same (set mid w t) (2048 + w) (32 + at) 0 (omega (arith, long, length-set mid w t))
 
         other-word : (j : ℕ) → (j ≡ w → ⊥) → (j ≡ 2048 + w → ⊥) → getD after j 0 ≡ getD mid j 0
-        other-word j a b = ap (λ (l : List ℕ). getD l j 0) written ∙ getD-set-other (set mid w t) (2048 + w) j (32 + at) 0 b ∙ getD-set-other mid w j t 0 a
+        other-word j a b =
+            ap (λ (l : List ℕ). getD l j 0) written ∙ getD-set-other (set mid w t) (2048 + w) j (32 + at) 0 b ∙ getD-set-other mid w j t 0 a
 
         go : (ts : List Token) → Lexemes tab n ts → (vs : List Variable) → rowVariables vs ≡ row → VariablesHeld tab ts vs
             → length vs ≤ left

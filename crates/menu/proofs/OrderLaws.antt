@@ -340,7 +340,8 @@ first-class {tab} {n} {ts} lx {k} {ks} {left} {row} a = go (a .stand)
       here = a .here;
       stands = s;
       rest = λ e more. record {
-        here = sym (e ∙ ap (wordAt tab 6) (sym (a .here)) ∙ word-in tab 6 (nameRow k) (row-there lx (nameRow k) (s .named .token .there)) c₆);
+        here =
+            sym (e ∙ ap (wordAt tab 6) (sym (a .here)) ∙ word-in tab 6 (nameRow k) (row-there lx (nameRow k) (s .named .token .there)) c₆);
         stand = h;
         few = omega (arith, a .few);
       };
@@ -382,7 +383,8 @@ link-row {row = row} {next = next} p q e s h = record { is-parent = p; is-row = 
 linked-kept : {next : List ℕ} (i v : ℕ) {row : ℕ} {rows : List ℕ} → All (λ (r : ℕ). r ≡ i → ⊥) rows → RowsLinked next row rows
     → RowsLinked (set next i v) row rows
 linked-kept i v h (linked-end far) = linked-end far
-linked-kept {next} i v (all-cons other h) (linked-more {row = row} near e l) = linked-more near (getD-set-other next i row v 0 other ∙ e) (linked-kept i v h l)
+linked-kept {next} i v (all-cons other h) (linked-more {row = row} near e l) =
+    linked-more near (getD-set-other next i row v 0 other ∙ e) (linked-kept i v h l)
 
 -- the rows of later classes are other rows
 child-later : (c : List ℕ) (row : ℕ) (ks : List Class) → All (λ (j : Class). row < nameRow j) ks

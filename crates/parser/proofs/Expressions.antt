@@ -141,7 +141,8 @@ refused-below : {n i z : ℕ} {T T₁ : List ℕ} (d level top : ℕ) → top �
     → ModePost (operation (levelAt top)) n n i T (Bad z) T₁
     → ModePost (operation (levelAt level)) n n i T (Bad z) T₁
 refused-below zero level top e h few p = at-level (omega arith) p
-refused-below (suc d) level top e h few p = operation-bad few (operand-next level (omega arith) (refused-below d (level + 1) top (omega arith) h few p)) refl
+refused-below (suc d) level top e h few p =
+    operation-bad few (operand-next level (omega arith) (refused-below d (level + 1) top (omega arith) h few p)) refl
 
 module _ {n first left i : ℕ} {T T₁ : List ℕ} {r₁ : Answer} (level top : ℕ) (few : n ≤ 2048) (high : top ≤ 3)
     (q : RestPost (moreOperations (levelAt top) first) n left i T r₁ T₁) where
@@ -153,7 +154,8 @@ module _ {n first left i : ℕ} {T T₁ : List ℕ} {r₁ : Answer} (level top :
   levels-last e le ge = record { says = λ base o. at-level (omega arith) (at-answer e (operation-ok few o refl q)) }
 
   pub levels-bad : {z : ℕ} → r₁ ≡ Bad z → level ≤ top → LevelsPost level top n first left i T (Bad z) T₁
-  levels-bad e le = record { says = λ base o. refused-below (top - level) level top (omega arith) high few (at-answer e (operation-ok few o refl q)) }
+  levels-bad e le =
+      record { says = λ base o. refused-below (top - level) level top (omega arith) high few (at-answer e (operation-ok few o refl q)) }
 
 module _ {n i : ℕ} {T T₁ : List ℕ} {r₁ : Answer} (level : ℕ) (p : ModePost unary n n i T r₁ T₁) where
   pub levels-ok : {x j : ℕ} {T₂ : List ℕ} {r : Answer} → r₁ ≡ At x j → LevelsPost level 3 n i x j T₁ r T₂
@@ -161,7 +163,8 @@ module _ {n i : ℕ} {T T₁ : List ℕ} {r₁ : Answer} (level : ℕ) (p : Mode
   levels-ok e q = q .says T (operand-last 3 (omega arith) (omega arith) (at-answer e p))
 
   pub unary-bad : {z : ℕ} → n ≤ 2048 → r₁ ≡ Bad z → level ≤ 3 → ModePost (operation (levelAt level)) n n i T (Bad z) T₁
-  unary-bad few e le = refused-below (3 - level) level 3 (omega arith) (omega arith) few (operation-bad few (operand-last 3 (omega arith) (omega arith) p) e)
+  unary-bad few e le =
+      refused-below (3 - level) level 3 (omega arith) (omega arith) few (operation-bad few (operand-last 3 (omega arith) (omega arith) p) e)
 
 -- what is no `new T[e]` is a primary and its suffixes
 not-array : (T : List ℕ) (n i : ℕ) → startsArray T n i ≡ false → (ts : List Token) → TokensIn T n ts
@@ -172,11 +175,13 @@ not-array T n i t ts h P = rw (makes-array T n i h ∙ t) refl
 
 pub postfix-ok : {n i x j : ℕ} {b : Bool} {T T₁ T₂ : List ℕ} {r₁ r : Answer} → n ≤ 2048 → b ≡ startsArray T n i → b ≡ false
     → ModePost primary n n i T r₁ T₁ → r₁ ≡ At x j → RestPost (moreSuffixes true i) n x j T₁ r T₂ → ModePost postfix n n i T r T₂
-postfix-ok {n} {i} {T = T} few eb t p e q = whole-ok postfix primary (moreSuffixes true i) (not-array T n i (sym eb ∙ t)) (omega arith) few p e q
+postfix-ok {n} {i} {T = T} few eb t p e q =
+    whole-ok postfix primary (moreSuffixes true i) (not-array T n i (sym eb ∙ t)) (omega arith) few p e q
 
 pub postfix-bad : {n i k : ℕ} {b : Bool} {T T₁ : List ℕ} {r₁ : Answer} → n ≤ 2048 → b ≡ startsArray T n i → b ≡ false
     → ModePost primary n n i T r₁ T₁ → r₁ ≡ Bad k → ModePost postfix n n i T (Bad k) T₁
-postfix-bad {n} {i} {T = T} few eb t p e = whole-bad postfix primary (moreSuffixes true i) (not-array T n i (sym eb ∙ t)) (omega arith) few p e
+postfix-bad {n} {i} {T = T} few eb t p e =
+    whole-bad postfix primary (moreSuffixes true i) (not-array T n i (sym eb ∙ t)) (omega arith) few p e
 
 -- WHAT FOLLOWS AN OPERAND
 is-binary : (p : Place) (o : Operator) (l r : Expression) (t : List ℕ)

@@ -232,7 +232,8 @@ module _ {n i k : ℕ} {T : List ℕ} (ek : k ≡ kindInTable T n i) where
 module _ {n i k : ℕ} {T : List ℕ} (ek : k ≡ kindInTable T n i) where
   pub parent-none : i ≤ n → k ≢ 8 → DeclPost aParent n i T (At 2048 i) T
   unfolding parentFrom
-  parent-none le z = record { kept = refl; within = (omega arith, le, omega arith); says = λ ts h f enough. rw (is-not h i ek z) (met-ok refl refl) }
+  parent-none le z =
+      record { kept = refl; within = (omega arith, le, omega arith); says = λ ts h f enough. rw (is-not h i ek z) (met-ok refl refl) }
 
   module _ {k₁ : ℕ} {b : Bool} (z : k ≡ 8) (ek₁ : k₁ ≡ kindInTable T n (i + 1)) (eb : b ≡ isName k₁) where
     pub parent-some : n ≤ 2048 → b ≡ true → DeclPost aParent n i T (At (i + 1) (i + 2)) T
@@ -247,7 +248,8 @@ module _ {n i k : ℕ} {T : List ℕ} (ek : k ≡ kindInTable T n i) where
 
     pub parent-name : b ≡ false → DeclPost aParent n i T (Bad (i + 1)) T
     unfolding parentFrom
-    parent-name t = record { kept = refl; within = tt; says = λ ts h f enough. rw (is h i ek z, passes h isName (i + 1) ek₁ (sym eb ∙ t)) met-bad }
+    parent-name t =
+        record { kept = refl; within = tt; says = λ ts h f enough. rw (is h i ek z, passes h isName (i + 1) ek₁ (sym eb ∙ t)) met-bad }
 
 module _ {n name above first j : ℕ} {T T₁ : List ℕ} {r₁ r₂ : Answer} (few : n ≤ 2048) (p : DeclPost methodList n j T r₁ T₁) (s : Follows T₁ n 39 r₁ r₂) where
   pub class-methods-bad : {y : ℕ} → r₂ ≡ Bad y → ClassMethodsPost n name above first j T (Bad y) T₁
@@ -303,7 +305,8 @@ module _ {n i k : ℕ} {T : List ℕ} (ek : k ≡ kindInTable T n i) where
   module _ {k₁ : ℕ} {b : Bool} (z : k ≡ 6) (ek₁ : k₁ ≡ kindInTable T n (i + 1)) (eb : b ≡ isName k₁) where
     pub class-name : b ≡ false → DeclPost aClass n i T (Bad (i + 1)) T
     unfolding classFrom
-    class-name t = record { kept = refl; within = tt; says = λ ts h f enough. rw (is h i ek z, passes h isName (i + 1) ek₁ (sym eb ∙ t)) met-bad }
+    class-name t =
+        record { kept = refl; within = tt; says = λ ts h f enough. rw (is h i ek z, passes h isName (i + 1) ek₁ (sym eb ∙ t)) met-bad }
 
     module _ {r₁ : Answer} (t : b ≡ true) (p : DeclPost aParent n (i + 2) T r₁ T) where
       pub class-parent : {y : ℕ} → r₁ ≡ Bad y → DeclPost aClass n i T (Bad y) T

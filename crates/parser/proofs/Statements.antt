@@ -273,7 +273,8 @@ module _ {n i k : ℕ} {T : List ℕ} (t : isName (kindInTable T n i) ≡ true) 
 
 -- `x[e] = e;`
 abbrev assigning : (i f : ℕ) → List Token → Expression → ℕ → Parsed Statement
-assigning i f ts a j = bind (parseAs f ts anExpression j) λ e j. expect ts 33 j λ j. ok (assignElement (placeAt ts i i) (tokenAt ts i .text) a e) j
+assigning i f ts a j =
+    bind (parseAs f ts anExpression j) λ e j. expect ts 33 j λ j. ok (assignElement (placeAt ts i i) (tokenAt ts i .text) a e) j
 
 abbrev indexPart : (i f : ℕ) → List Token → Parsed Expression
 indexPart i f ts = andToken ts 30 (andToken ts 37 (parseAs f ts anExpression (i + 2)))

@@ -44,7 +44,8 @@ use Rattle.reader.specs.contracts.WalkPost.{FoundPlace, WalksProgram, no
 -- the token columns are kept
 same-col : (T T′ : List ℕ) (k i : ℕ) → given T′ ≡ given T → cell k i < 6144 → col T′ k i ≡ col T k i
 unfolding given col
-same-col T T′ k i e h = sym (getD-take 6144 T′ (cell k i) 0 h) ∙ ap (λ (l : List ℕ). getD l (cell k i) 0) e ∙ getD-take 6144 T (cell k i) 0 h
+same-col T T′ k i e h =
+    sym (getD-take 6144 T′ (cell k i) 0 h) ∙ ap (λ (l : List ℕ). getD l (cell k i) 0) e ∙ getD-take 6144 T (cell k i) 0 h
 
 rows-kept : (T T′ : List ℕ) (ts : List Token) → length ts ≤ 2048 → given T′ ≡ given T → Rows T ts → Rows T′ ts
 rows-kept T T′ ts few e h i t g =

@@ -186,7 +186,8 @@ part-step {tab} {n} {row} {d} {rest = rest} true near f e g j = elim (decLt row 
   | yes up ↦ part-more near f j (subst (λ (i : ℕ). Walks tab n true i d rest) (e ∙ follower-up tab row up) g)
   | no wrong ↦ part-wrong near (omega arith)
 ]
-part-step {tab} {n} {row} {d} {rest = rest} false near f e g j = part-only near f j (subst (λ (i : ℕ). Walks tab n false i d rest) (e ∙ follower-none tab row) g)
+part-step {tab} {n} {row} {d} {rest = rest} false near f e g j =
+    part-only near f j (subst (λ (i : ℕ). Walks tab n false i d rest) (e ∙ follower-none tab row) g)
 
 -- NODES
 

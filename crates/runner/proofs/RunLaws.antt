@@ -164,7 +164,8 @@ pub checked : {s : List ℕ} {z y : Sizes} {b : Bounds} (table table₁ table₂
     → Performed s y b table₁ heap output a table₂ heap₁ output′ → length table₂ ≡ length table → length heap₁ ≡ length heap
     → table₃ ≡ replicate (length table₂) 0 → heap₂ ≡ replicate (length heap₁) (pos 0)
     → Performed s z b table heap output a table₃ heap₂ output′
-checked table table₁ table₂ {heap} {heap₁} h lt lh et eh = record { performs = h .performs; clears = λ _. cleared table table₂ heap heap₁ lt lh et eh }
+checked table table₁ table₂ {heap} {heap₁} h lt lh et eh =
+    record { performs = h .performs; clears = λ _. cleared table table₂ heap heap₁ lt lh et eh }
 
 -- what Check found is known of the lesson
 pub now-known : (s tab : List ℕ) {tokens classes : ℕ} {f : Finding} → Leaves s (checking s) f tab → f ≡ found tokens classes

@@ -126,7 +126,8 @@ module _ {tab : List ℕ} {n classes owner row parameters locals before : ℕ} (
               given = m .parameters;
               own = m .locals;
               seen = refl;
-              given-listed = record { at = given-at row parameters e₄ ts (w .tokens) m at st; stand = st .parameters; few = st .few-parameters };
+              given-listed =
+                  record { at = given-at row parameters e₄ ts (w .tokens) m at st; stand = st .parameters; few = st .few-parameters };
               own-listed = record { at = own-at row locals e₅ ts (w .tokens) m at st; stand = st .locals; few = st .few-locals };
             })
             m at st);
@@ -145,7 +146,8 @@ module _ {tab : List ℕ} {n classes left owner row : ℕ} where
       go : (ts : List Token) (G : List Class) → ClassTableHeld tab n ts G → (c : List ℕ) (ms : List Method) → rowMethods ms ≡ row
           → MethodsHeld tab n ts ms → Fine 0 ≡ asJudged (bodies G c ms)
       go ts G w c [] at st = refl
-      go ts G w c (m ∷ ms) at (more-methods s c₆ st) = absurd (omega (arith, at, row-there (w .tokens) (m .name .row) (s .head .name .token .there)))
+      go ts G w c (m ∷ ms) at (more-methods s c₆ st) =
+          absurd (omega (arith, at, row-there (w .tokens) (m .name .row) (s .head .name .token .there)))
 
   module _ (near : row < absent) {v : Judged} (f : BodyJudged tab n classes owner row v) where
     pub methods-refused : {k p : ℕ} → v ≡ Refused k p → MethodsJudged tab n classes left owner row (Refused k p)
@@ -201,7 +203,8 @@ module _ {tab : List ℕ} {n classes left row : ℕ} where
       go : (ts : List Token) (G : List Class) → ClassTableHeld tab n ts G → (ks : List Class) → rowClasses ks ≡ row
           → ClassesHeld tab n ts ks → Fine 0 ≡ asJudged (classBodies G ks)
       go ts G w [] at st = refl
-      go ts G w (k ∷ ks) at (more-classes s c₆ st) = absurd (omega (arith, at, row-there (w .tokens) (k .name .row) (s .named .token .there)))
+      go ts G w (k ∷ ks) at (more-classes s c₆ st) =
+          absurd (omega (arith, at, row-there (w .tokens) (k .name .row) (s .named .token .there)))
 
   module _ (near : row < absent) {v : Judged} (f : ClassJudged tab n classes row v) where
     pub classes-refused : {k p : ℕ} → v ≡ Refused k p → ClassesJudged tab n classes left row (Refused k p)

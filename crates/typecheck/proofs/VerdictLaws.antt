@@ -245,7 +245,8 @@ module _ (s table : List ℕ) where
   pub check-short : {r : CheckAnswer} → length table < 16384 → r .number ≡ 1 → r .position ≡ 0 → r .classes ≡ 0
       → Checks s table (checkAnswerOf r) table
   unfolding check tableAfter
-  check-short h e₁ e₂ e₃ = record { answer = rw (lt-ltb (length table) tableLeast h, e₁, e₂, e₃); table = rw (lt-ltb (length table) tableLeast h) }
+  check-short h e₁ e₂ e₃ =
+      record { answer = rw (lt-ltb (length table) tableLeast h, e₁, e₂, e₃); table = rw (lt-ltb (length table) tableLeast h) }
 
   pub check-done : (r : CheckAnswer) (middle : List ℕ) {after : List ℕ} → 16384 ≤ length table → length middle ≡ length table
       → after ≡ replicate (length middle) 0

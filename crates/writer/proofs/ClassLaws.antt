@@ -45,7 +45,8 @@ module _ {tab : List ℕ} {n classes row at first : ℕ} {names c E : List ℕ} 
           → MethodsHeld tab n ts M
           → Wrote (firstNamed ts) (emitMethods G d M at) (endMethods M at) at c c at × (E ≡ entered M at E)
       go ts G w d [] is h = (record { ends = refl; code = no-code }, refl)
-      go ts G w d (F ∷ M) is (more-methods h e hs) = absurd (omega (arith, is, row-there (w .tokens) (F .name .row) (h .head .name .token .there)))
+      go ts G w d (F ∷ M) is (more-methods h e hs) =
+          absurd (omega (arith, is, row-there (w .tokens) (F .name .row) (h .head .name .token .there)))
 
   pub class-wrote : {x : ℕ} → x ≡ wordAt tab 2 row → {names′ : List ℕ} → FieldsFilled tab n classes x names names′
       → {c′ E′ : List ℕ} {r : ℕ}

@@ -113,7 +113,8 @@ module _ {tab names : List ℕ} {s : Scope} {x : ℕ} where
   module _ (few : s .tokens ≤ 2048) {i : ℕ} (h : PlacePost tab (s .tokens) (s .parameters) x 0 i) (high : absent ≤ i) where
     not-given : {ts : List Token} {G : List Class} {Γ : Context} (w : CodeScope tab names ts G Γ s) (text : List ℕ) → NameNumber ts text x
         → variableNamed (w .given) text ≡ none
-    not-given w text sp = missing i (w .given) text high (omega (arith, w .given-listed .few)) (place-in (w .world) (w .given-listed) h text sp)
+    not-given w text sp =
+        missing i (w .given) text high (omega (arith, w .given-listed .few)) (place-in (w .world) (w .given-listed) h text sp)
 
     pub slot-local : {j : ℕ} → PlacePost tab (s .tokens) (s .locals) x 0 j → j < absent → {n : ℕ} → Counts tab (s .tokens) (s .parameters) n
         → SlotPost tab names s x (n + j)

@@ -61,7 +61,8 @@ module _ {tab : List ℕ} {n classes left row : ℕ} {before : List ℕ} where
           → ClassesHeld tab n ts ks → (c : List ℕ) (x : ℕ)
           → getD before (4096 + x) 0 ≡ counted (getD before (4096 + x) 0) (length (fieldsOf G c)) (classNamed ks c)
       go ts G w [] is h c x = refl
-      go ts G w (k ∷ ks) is (more-classes s e h) c x = absurd (omega (arith, is, row-there (w .tokens) (k .name .row) (s .named .token .there)))
+      go ts G w (k ∷ ks) is (more-classes s e h) c x =
+          absurd (omega (arith, is, row-there (w .tokens) (k .name .row) (s .named .token .there)))
 
   pub sizes-more : row < absent → {x : ℕ} → x ≡ wordAt tab 2 row → {mid : List ℕ} → SizePost tab n classes x before mid → {next : ℕ}
       → next ≡ wordAt tab 6 row

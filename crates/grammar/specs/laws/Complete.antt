@@ -238,7 +238,8 @@ module _ (ts : List Token) where
       unroll Mode.primary i λ f. rw (kinds-apart isName k kLiteral e refl, kinds-apart isName k kTrue e refl, kinds-apart isName k kFalse e refl, e) given
   found (a-this {i = i} e) = unroll Mode.primary i λ f. rw e given
   found (make-object {i = i} e e₁ e₂ e₃) = unroll Mode.primary i λ f. rw (e, e₁) (simp towards-numerals (rw (e₂, e₃) given))
-  found (parentheses {i = i} {j = j} {e = x} e d e₁) = unroll Mode.primary i λ f. rw e (after _ (found-whole (i + 1) j x (found d) e₁ refl f) (rw e₁ given))
+  found (parentheses {i = i} {j = j} {e = x} e d e₁) =
+      unroll Mode.primary i λ f. rw e (after _ (found-whole (i + 1) j x (found d) e₁ refl f) (rw e₁ given))
   found (none-given {i = i}) = λ e. unroll Mode.argumentList i λ f. rw e given
   found (some-given {i = i} d) = λ e. unroll Mode.argumentList i λ f. rw (kinds-apart startsUnary (kindAt ts i) kClose (first d) refl) (found d e f)
   found (one-argument {i = i} {j = j} {e = x} d) = λ e. unroll Mode.someArguments i λ f. after _ (found-whole i j x (found d) e refl f) (rw e given)

@@ -184,7 +184,8 @@ keeps afterMark k f h =
 keeps formals k f h = kept-if (eqb k _) (kept-push (refl ▹ h)) (kept-push (refl ▹ h))
 keeps someFormals k f h = kept-push (refl ▹ refl ▹ refl ▹ h)
 keeps moreFormals k f h = kept-if (eqb k _) (kept-push (refl ▹ h)) (kept-push (refl ▹ refl ▹ h))
-keeps methods k f h = kept-if (eqb k _) (kept-push (refl ▹ refl ▹ refl ▹ refl ▹ refl ▹ refl ▹ refl ▹ refl ▹ refl ▹ refl ▹ refl ▹ f ▹ h)) (kept-push h)
+keeps methods k f h =
+    kept-if (eqb k _) (kept-push (refl ▹ refl ▹ refl ▹ refl ▹ refl ▹ refl ▹ refl ▹ refl ▹ refl ▹ refl ▹ refl ▹ f ▹ h)) (kept-push h)
 keeps parent k f h = kept-if (eqb k _) (kept-push (refl ▹ refl ▹ h)) (kept-push h)
 keeps classes k f h = kept-if (eqb k _) (kept-push h) (kept-push (refl ▹ refl ▹ refl ▹ refl ▹ refl ▹ refl ▹ refl ▹ f ▹ h))
 
@@ -287,7 +288,8 @@ module _ (us : List Token) where
 
   fill-suffixes : (b : Bool) → Filled (suffixes b)
   unfolding rule
-  fill-suffixes b = by-rule (suffixes b) all-nil (λ S. refl) λ S f. closes-cases (λ k. rule (suffixes b) k ≡ push []) (first (words S)) f refl refl refl
+  fill-suffixes b =
+      by-rule (suffixes b) all-nil (λ S. refl) λ S f. closes-cases (λ k. rule (suffixes b) k ≡ push []) (first (words S)) f refl refl refl
 
   fill-primary : Filled primary
   unfolding rule isName
@@ -334,7 +336,8 @@ module _ (us : List Token) where
 
   fill-statementList : Filled statementList
   unfolding rule beginsStatement isName
-  fill-statementList = by-rule statementList all-nil (λ S. refl) λ S f. ends-cases (λ k. rule statementList k ≡ push []) (first (words S)) f refl refl
+  fill-statementList =
+      by-rule statementList all-nil (λ S. refl) λ S f. ends-cases (λ k. rule statementList k ≡ push []) (first (words S)) f refl refl
 
   fill-locals : Filled locals
   unfolding rule isName
@@ -374,7 +377,8 @@ module _ (us : List Token) where
   fill (suffixes b) = fill-suffixes b
   fill afterDot = by-rule afterDot (all-cons (fill-one kLength) (all-cons (fill-suffixes true) all-nil)) (λ S. refl) λ S f. refl
   fill argumentList = closed argumentList refl refl
-  fill someArguments = by-rule someArguments (all-cons fill-expression (all-cons (closed moreArguments refl refl) all-nil)) (λ S. refl) λ S f. refl
+  fill someArguments =
+      by-rule someArguments (all-cons fill-expression (all-cons (closed moreArguments refl refl) all-nil)) (λ S. refl) λ S f. refl
   fill moreArguments = closed moreArguments refl refl
   fill aStatement = by-rule aStatement (all-cons (fill-one kOpenBrace) (all-cons fill-statementList (all-cons (fill-one kCloseBrace) all-nil))) (λ S. refl) λ S f. refl
   fill afterName = fill-afterName
@@ -501,7 +505,8 @@ module _ (ts : List Token) where
   completes g le (refuses {x = x} {S = S} {i = i} r) = (words (x ∷ S), at-once i g le)
 
 start-fits : Fits startStack
-start-fits = refl ▹ refl ▹ refl ▹ refl ▹ refl ▹ refl ▹ refl ▹ refl ▹ refl ▹ refl ▹ refl ▹ refl ▹ refl ▹ refl ▹ refl ▹ refl ▹ refl ▹ refl ▹ empty
+start-fits =
+    refl ▹ refl ▹ refl ▹ refl ▹ refl ▹ refl ▹ refl ▹ refl ▹ refl ▹ refl ▹ refl ▹ refl ▹ refl ▹ refl ▹ refl ▹ refl ▹ refl ▹ refl ▹ empty
 
 -- a run over a list ends within it
 pub within : (ts : List Token) {e : Halt} → RunsTo ts startStack 0 e → indexOf e ≤ length ts

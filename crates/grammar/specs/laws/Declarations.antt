@@ -81,7 +81,8 @@ module _ (ts : List Token) where
   module _ (f : ℕ) (next : (i : ℕ) → 16 * (length ts - i) < f → Passes ts (locals ∷ []) (locals ∷ []) i (Locals i) (variablesFrom f false ts i)) where
     after-local : (i : ℕ) → 16 * (length ts - i) < suc f → i < length ts → (v : Variable) (j : ℕ) → i ≤ j → DerivesVariable ts i j v
         → Passes ts (one kSemicolon ∷ locals ∷ []) (locals ∷ []) j (Locals i) (expect ts kSemicolon j λ j. bind (variablesFrom f false ts j) λ vs j. ok (v ∷ vs) j)
-    after-local i h here v j le d = expects kSemicolon j _ λ e. binds-again _ (next (j + 1) (omega arith)) λ vs n le₂ ds. accept (more-variables d e (ds .0), ds .1)
+    after-local i h here v j le d =
+        expects kSemicolon j _ λ e. binds-again _ (next (j + 1) (omega arith)) λ vs n le₂ ds. accept (more-variables d e (ds .0), ds .1)
 
     typed-local : (i : ℕ) → 16 * (length ts - i) < suc f → beginsVariable false ts i ≡ true → isName (kindAt ts i) ≡ false
         → Passes ts (locals ∷ []) (locals ∷ []) i (Locals i) (variablesFrom (suc f) false ts i)

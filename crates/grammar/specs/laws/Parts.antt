@@ -56,7 +56,8 @@ Before ts false first i l = Derives ts expression Kind.postfix first i l
 -- what the answer t, up to token j, of a mode's parser from token i on means. That of an argument list has the `)`.
 abbrev pub Meant : (ts : List Token) → {s : Sort} → Mode s → ℕ → Part s → ℕ → Type 0
 Meant ts (Mode.operation L) i t j = Derives ts expression (Kind.operation L) i j t
-Meant ts (Mode.operations L first l) i t j = Derives ts expression (Kind.operation L) first i l → Derives ts expression (Kind.operation L) first j t
+Meant ts (Mode.operations L first l) i t j =
+    Derives ts expression (Kind.operation L) first i l → Derives ts expression (Kind.operation L) first j t
 Meant ts Mode.unary i t j = Derives ts expression Kind.unary i j t
 Meant ts Mode.postfix i t j = Derives ts expression Kind.postfix i j t
 Meant ts Mode.primary i t j = Derives ts expression Kind.primary i j t
@@ -72,7 +73,8 @@ record Below (ts : List Token) (f : ℕ) : Type 0 where
       → PassesOver ts (symbolOf m ∷ []) i (Meant ts m i) (parseAs f ts m i)
 
 abbrev Step : List Token → (f : ℕ) → {s : Sort} → Mode s → ℕ → Type 0
-Step ts f m i = 16 * (length ts - i) + rank m < suc f → PassesOver ts (symbolOf m ∷ []) i (Meant ts m i) (step ts (λ s m j. parseAs f ts m j) m i)
+Step ts f m i =
+    16 * (length ts - i) + rank m < suc f → PassesOver ts (symbolOf m ∷ []) i (Meant ts m i) (step ts (λ s m j. parseAs f ts m j) m i)
 
 postfix-of : {ts : List Token} (b : Bool) {first i : ℕ} {l : Expression} → Before ts b first i l
     → Derives ts expression Kind.postfix first i l

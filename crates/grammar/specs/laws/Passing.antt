@@ -138,7 +138,8 @@ module _ {ts : List Token} {A : Type 0} {Q : A → ℕ → Type 0} {ys : List Sy
   bound zs ws xs {i = i} g (passes-ok {a = b} {j = j} le go p) h = after (h b j le p)
     where
       after : {r : Parsed A} → Passes ts (ws ++ xs) ys j Q r → Passes ts (zs ++ xs) ys i Q r
-      after (passes-ok {j = n} le₂ go₂ q) = passes-ok {j = n} (omega arith) (λ S d t. rw append-assoc (go (xs ++ S) d (rw append-assoc at (go₂ S d t)))) q
+      after (passes-ok {j = n} le₂ go₂ q) =
+          passes-ok {j = n} (omega arith) (λ S d t. rw append-assoc (go (xs ++ S) d (rw append-assoc at (go₂ S d t)))) q
       after (passes-bad {k = k} go₂) = passes-bad {k = k} (λ S. rw append-assoc (go (xs ++ S) (stopped k) (rw append-assoc at (go₂ S))))
   bound zs ws xs g (passes-bad {k = k} go) h = passes-bad {k = k} (λ S. rw append-assoc (go (xs ++ S)))
 
@@ -202,7 +203,8 @@ module _ {ts : List Token} {A : Type 0} {Q : A → ℕ → Type 0} {ys : List Sy
   pub tests-again : (q : ℕ) (c : Bool) (i : ℕ) (m n : Unit {0} → Move) (r s t : Unit {0} → Parsed A)
       → (kindAt ts i ≡ q → Moves ts ys i Q (m tt) (if c then r else s)) → (eqb (kindAt ts i) q ≡ false → Moves ts ys i Q (n tt) (t tt))
       → Moves ts ys i Q (if eqb (kindAt ts i) q then m else n) (if eqb (kindAt ts i) q && c then r else λ _. if eqb (kindAt ts i) q then s else t)
-  tests-again q c i m n r s t f g = tests-next q c i m n r (λ _. if eqb (kindAt ts i) q then s else t) (λ e. rw (eq-eqb (kindAt ts i) q e) (f e)) λ e. rw e (g e)
+  tests-again q c i m n r s t f g =
+      tests-next q c i m n r (λ _. if eqb (kindAt ts i) q then s else t) (λ e. rw (eq-eqb (kindAt ts i) q e) (f e)) λ e. rw e (g e)
 
   -- a token of a kind that is known
   pub takes : {xs : List Symbol} {i : ℕ} (q : ℕ) {r : Parsed A} → kindAt ts i ≡ q → Passes ts xs ys (i + 1) Q r

@@ -58,7 +58,8 @@ accepted us h = go (parse us) refl
 -- WHICH BEGINNINGS ARE VIABLE
 
 alike : (ts us : List Token) (n : ℕ) → take n us ≡ take n ts → (p : ℕ) → p < n → kindAt us p ≡ kindAt ts p
-alike ts us n e p lt = ap (λ (t : Token). t .kind) (sym (getD-take n us p noMore lt) ∙ ap (λ (l : List Token). getD l p noMore) e ∙ getD-take n ts p noMore lt)
+alike ts us n e p lt =
+    ap (λ (t : Token). t .kind) (sym (getD-take n us p noMore lt) ∙ ap (λ (l : List Token). getD l p noMore) e ∙ getD-take n ts p noMore lt)
 
 pub viable : (ts : List Token) {k : ℕ} → RunsTo ts startStack 0 (stopped k) → Viable ts k
 viable ts h = let c = completed ts h in (c .0, accepted (c .0) (c .1), c .2)

@@ -29,7 +29,8 @@ Holds tab (call p e m es) = NodeRow tab p (rowOf e) (rowOf es) × Holds tab e ×
 Holds tab noArguments = Unit {0}
 Holds tab (argument e es) = Holds tab e × (col tab 6 (rowOf e) ≡ rowOf es) × Holds tab es
 Holds tab (block p ss) = NodeRow tab p (rowOf ss) absent × Holds tab ss
-Holds tab (conditional p e s t) = NodeRow tab p (rowOf e) (rowOf s) × (col tab 7 (p .row) ≡ rowOf t) × Holds tab e × Holds tab s × Holds tab t
+Holds tab (conditional p e s t) =
+    NodeRow tab p (rowOf e) (rowOf s) × (col tab 7 (p .row) ≡ rowOf t) × Holds tab e × Holds tab s × Holds tab t
 Holds tab (loop p e s) = NodeRow tab p (rowOf e) (rowOf s) × Holds tab e × Holds tab s
 Holds tab (print p e) = NodeRow tab p (rowOf e) absent × Holds tab e
 Holds tab (assign p x e) = NodeRow tab p (rowOf e) absent × Holds tab e
@@ -40,7 +41,8 @@ Holds tab (sequence s ss) = Holds tab s × (col tab 6 (rowOf s) ≡ rowOf ss) ×
 -- lists of declarations: each member's row, and the way to the next
 unfoldable pub HoldsVariables : List ℕ → List Variable → Type 0
 HoldsVariables tab [] = Unit {0}
-HoldsVariables tab (v ∷ vs) = (col tab 3 (v .name .row) ≡ v .type .row) × (col tab 6 (v .name .row) ≡ rowVariables vs) × HoldsVariables tab vs
+HoldsVariables tab (v ∷ vs) =
+    (col tab 3 (v .name .row) ≡ v .type .row) × (col tab 6 (v .name .row) ≡ rowVariables vs) × HoldsVariables tab vs
 
 pub record HoldsMethod (tab : List ℕ) (m : Method) : Type 0 where
   pub result : col tab 3 (m .name .row) ≡ m .result .row

@@ -75,7 +75,8 @@ module _ {ts : List Token} {tab tab′ : List ℕ} (short : length ts ≤ rows) 
   tree-kept (arrayLength p a) m h = (row p (m .0 .there) (h .0), tree-kept a (m .2) (h .1))
   tree-kept (call p e n es) m h = (row p (m .0 .there) (h .0), tree-kept e (m .3) (h .1), tree-kept es (m .4) (h .2))
   tree-kept noArguments m h = tt
-  tree-kept (argument e es) m h = (tree-kept e (m .0) (h .0), next (rowOf e) (expression-there ts e (m .0)) (h .1), tree-kept es (m .1) (h .2))
+  tree-kept (argument e es) m h =
+      (tree-kept e (m .0) (h .0), next (rowOf e) (expression-there ts e (m .0)) (h .1), tree-kept es (m .1) (h .2))
   tree-kept (block p ss) m h = (row p (m .0 .there) (h .0), tree-kept ss (m .1) (h .1))
   tree-kept (conditional p e s t) m h =
       let there = m .0 .there in (
@@ -90,7 +91,8 @@ module _ {ts : List Token} {tab tab′ : List ℕ} (short : length ts ≤ rows) 
   tree-kept (assign p x e) m h = (row p (m .0 .there) (h .0), tree-kept e (m .2) (h .1))
   tree-kept (assignElement p x i e) m h = (row p (m .0 .there) (h .0), tree-kept i (m .2) (h .1), tree-kept e (m .3) (h .2))
   tree-kept noStatements m h = tt
-  tree-kept (sequence s ss) m h = (tree-kept s (m .0) (h .0), next (rowOf s) (statement-there ts s (m .0)) (h .1), tree-kept ss (m .1) (h .2))
+  tree-kept (sequence s ss) m h =
+      (tree-kept s (m .0) (h .0), next (rowOf s) (statement-there ts s (m .0)) (h .1), tree-kept ss (m .1) (h .2))
 
   variables-kept : (vs : List Variable) → VariablesMatch ts vs → HoldsVariables tab vs → HoldsVariables tab′ vs
   unfolding VariablesMatch HoldsVariables
@@ -140,7 +142,8 @@ module _ {ts : List Token} {tab tab′ : List ℕ} (short : length ts ≤ rows) 
   classes-kept : (ks : List Class) → ClassesMatch ts ks → HoldsClasses tab ks → HoldsClasses tab′ ks
   unfolding ClassesMatch HoldsClasses
   classes-kept [] m h = tt
-  classes-kept (d ∷ ds) m h = (class-kept d (m .0) (h .0), next (d .name .row) (m .0 .name .token .there) (h .1), classes-kept ds (m .1) (h .2))
+  classes-kept (d ∷ ds) m h =
+      (class-kept d (m .0) (h .0), next (d .name .row) (m .0 .name .token .there) (h .1), classes-kept ds (m .1) (h .2))
 
   pub program-kept : (p : Program) → ProgramMatches ts p → HoldsProgram tab p → HoldsProgram tab′ p
   program-kept p m h =

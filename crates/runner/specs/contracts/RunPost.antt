@@ -19,7 +19,8 @@ use Rattle.runner.specs.declared.run.RunAnswer.{RunAnswer}
 
 -- the code's answer as document 01 counts it
 abbrev pub runAnswerOf : RunAnswer → Run.RunAnswer
-runAnswerOf a = record { number = a .number; position = a .position; steps = a .steps; climbs = a .climbs; words = a .words; printed = a .printed }
+runAnswerOf a =
+    record { number = a .number; position = a .position; steps = a .steps; climbs = a .climbs; words = a .words; printed = a .printed }
 
 abbrev pub strips : (table : List ℕ) (heap output : List ℤ) → Strips
 strips t h o = record { table = t; heap = h; output = o }

@@ -149,7 +149,8 @@ module _ (G : List Class) (w v : ℕ) where
   task-pays (continue (sequence s ss)) ts vs cs h l j = begin-statement-pays s (continue ss ∷ ts) vs cs h (omega arith) (omega arith)
   task-pays (perform noStatements e t) ts vs cs h l j = begin-pays e (leave t ∷ ts) vs cs h l j
   task-pays (perform (sequence s ss) e t) ts vs cs h l j = begin-statement-pays s (perform ss e t ∷ ts) vs cs h (omega arith) (omega arith)
-  task-pays (leave t) ts vs cs h l j = pop-by closed vs _ (λ v _. require-by closed (ofKind t v) _ (innermost-by closed cs _ (λ a Γ xs ds _. (omega arith, omega arith))))
+  task-pays (leave t) ts vs cs h l j =
+      pop-by closed vs _ (λ v _. require-by closed (ofKind t v) _ (innermost-by closed cs _ (λ a Γ xs ds _. (omega arith, omega arith))))
 
 pub plan-pays : (G : List Class) (c : Core) → Pays G (loadOf c) (waitingOf c) (plan G c)
 unfolding plan

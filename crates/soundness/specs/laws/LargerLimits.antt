@@ -38,7 +38,8 @@ unfolding guard
 guard-grows L m (charge p c) = by-test (Grows m) (ltb (m .steps) (L .budget)) _ _ (λ _. begins-refl (m .printed)) (λ _. tt)
 guard-grows L m (allocate p n c) = by-test (Grows m) (leb n (L .heap)) _ _ (λ _. begins-refl (m .printed)) (λ _. tt)
 guard-grows L m (enter p n k c) = by-test (Grows m) (leb n (L .calls)) _ _ (λ _. begins-refl (m .printed)) (λ _. tt)
-guard-grows L m (output p z c) = by-test (Grows m) (ltb (length (m .printed)) (L .printed)) _ _ (λ _. record { rest = z ∷ []; is = refl }) (λ _. tt)
+guard-grows L m (output p z c) =
+    by-test (Grows m) (ltb (length (m .printed)) (L .printed)) _ _ (λ _. record { rest = z ∷ []; is = refl }) (λ _. tt)
 guard-grows L m (move c) = begins-refl (m .printed)
 guard-grows L m (fault k p) = tt
 guard-grows L m done = tt
@@ -69,8 +70,10 @@ guard-alike : (L M : Limits) → L ⊑ M → (m : Meters) (r : Request Core) →
 unfolding guard
 guard-alike L M h m (charge p c) =
     within-alike _ _ p _ by-budget (λ e. lt-ltb (m .steps) (M .budget) (omega (arith, h .budget, ltb-true (m .steps) (L .budget) e)))
-guard-alike L M h m (allocate p n c) = within-alike _ _ p _ by-heap (λ e. le-leb n (M .heap) (omega (arith, h .heap, leb-true n (L .heap) e)))
-guard-alike L M h m (enter p n k c) = within-alike _ _ p _ by-calls (λ e. le-leb n (M .calls) (omega (arith, h .calls, leb-true n (L .calls) e)))
+guard-alike L M h m (allocate p n c) =
+    within-alike _ _ p _ by-heap (λ e. le-leb n (M .heap) (omega (arith, h .heap, leb-true n (L .heap) e)))
+guard-alike L M h m (enter p n k c) =
+    within-alike _ _ p _ by-calls (λ e. le-leb n (M .calls) (omega (arith, h .calls, leb-true n (L .calls) e)))
 guard-alike L M h m (output p z c) =
     within-alike _ _ p _ by-output (λ e. lt-ltb (length (m .printed)) (M .printed) (omega (arith, h .printed, ltb-true (length (m .printed)) (L .printed) e)))
 guard-alike L M h m (move c) = alike

@@ -15,4 +15,5 @@ pub data Reach (p : Program) (L : Limits) : Core → Meters → Type 0 where
 pub reach-typed : {p : Program} {L : Limits} {c : Core} {m : Meters} → ProgramTyped p → LiteralsFit p → Reach p L c m
     → StateTyped (p .classes) c
 reach-typed {p} P F reach-start = start-typed p P F
-reach-typed {p} {L} P F (reach-next {c = c} {m = m} r e) = subst (Safe (p .classes)) e (turn-safe (P .classes) (F .classes) L c m (reach-typed P F r))
+reach-typed {p} {L} P F (reach-next {c = c} {m = m} r e) =
+    subst (Safe (p .classes)) e (turn-safe (P .classes) (F .classes) L c m (reach-typed P F r))

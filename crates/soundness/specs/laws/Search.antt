@@ -43,7 +43,8 @@ module _ (G : List Class) (c m : List ℕ) where
     where
       go : (o : Option (Climbed Found)) → foundIn o ≡ some F → (n : ℕ) × (o ≡ some (record { found = F; visits = n }))
       go none q = absurd (none-some refl q)
-      go (some s) q = (s .visits, let z : s .found ≡ F = Option·some-injective (s .found) F q in λ i. some (record { found = z i; visits = s .visits }))
+      go (some s) q =
+          (s .visits, let z : s .found ≡ F = Option·some-injective (s .found) F q in λ i. some (record { found = z i; visits = s .visits }))
 
 -- HOW MANY CLASSES
 

@@ -132,7 +132,8 @@ module _ {G : List Class} (T : All (ClassTyped G) G) (L : All (λ k. All MethodF
   read-ok {σ} {h = h} {x = x} {t = t} k H (all2-cons (c-frame {a = a} {Γ = Γ} {xs = xs} F) C) n f = by-place (name-at (table-acyclic T) n)
     where
       by-place : NameAt G Γ x t → Asks G (need (meaning G Γ x) λ m. readMeaning a xs h m k)
-      by-place (in-row s e w q) = need-ok _ e (let y = all2-at (s .place) (F .row) (row-type Γ w q) in need-ok k (y .at) (f (y .item) (y .holds)))
+      by-place (in-row s e w q) =
+          need-ok _ e (let y = all2-at (s .place) (F .row) (row-type Γ w q) in need-ok k (y .at) (f (y .item) (y .holds)))
       by-place (in-object c s o e w q) = need-ok _ e (slot-ok k (all2-at (a + 1 + s .place) (H .cells) (field-type H F o w q)) f)
 
   write-ok : {σ : List CellType} {Γs : List Context} {cs : List Call} {h : List Cell} {x : List ℕ} {t : Ty} {v : Value} (k : List Call → List Cell → Request Core)
@@ -240,7 +241,8 @@ module _ {G : List Class} (T : All (ClassTyped G) G) (L : All (λ k. All MethodF
         → Asks G (go G (operate o) ts vs cs h)
     unfolding go
     operate-ok conjoins n W b R = absurd (true≢false n)
-    operate-ok compares n (all2-cons (v-number {n = y} _) (all2-cons (v-number {n = x} _) W)) b R = typed H C (all2-cons (value-sub b v-flag) W) R
+    operate-ok compares n (all2-cons (v-number {n = y} _) (all2-cons (v-number {n = x} _) W)) b R =
+        typed H C (all2-cons (value-sub b v-flag) W) R
     operate-ok adds n (all2-cons (v-number {n = y} _) (all2-cons (v-number {n = x} _) W)) b R =
         typed H C (all2-cons (value-sub b (v-number (add-below x y))) W) R
     operate-ok subtracts n (all2-cons (v-number {n = y} _) (all2-cons (v-number {n = x} _) W)) b R =

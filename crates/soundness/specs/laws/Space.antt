@@ -73,7 +73,8 @@ least-none (some a) none e = absurd (let z : _≡_ {A = ℕ} 0 1 = cc in omega a
 least-none (some a) (some b) e = absurd (let z : _≡_ {A = ℕ} 0 1 = cc in omega arith)
 
 here-none : (d : ℕ) (p : Place) → deepHere d p ≡ none → d ≤ depthMost
-here-none d p e = taken (ltb depthMost d) _ _ e (λ q h. absurd (let z : _≡_ {A = ℕ} 0 1 = cc in omega arith)) (λ q h. ltb-false depthMost d q)
+here-none d p e =
+    taken (ltb depthMost d) _ _ e (λ q h. absurd (let z : _≡_ {A = ℕ} 0 1 = cc in omega arith)) (λ q h. ltb-false depthMost d q)
 
 inner : (d : ℕ) (p : Place) (o : Option ℕ) → least (deepHere d p) o ≡ none → (d ≤ depthMost) × (o ≡ none)
 inner d p o e = let h = least-none (deepHere d p) o e in (here-none d p (h .0), h .1)
@@ -274,7 +275,8 @@ module _ (n w : ℕ) (G : List Class) where
       popMany-by closed k [] vs _ (λ given vs. pop-by closed vs _ (λ x vs. object-by closed p x _ (λ a. need-by closed (getElem? h a) _ (λ o _.
       object-cell-by closed o _ (λ b. need-by closed (search (chain G b) m) _ (λ s e. let S = B b m (s .found) (search-found G b m e) in
       require-by closed (ofKinds (s .found .method .parameters) given) _ (omega arith, d, (omega (arith, S .body, S .value), f))))))))
-  task-fits B (invoke p m k (argument e es)) ts vs cs h l c d f = begin-fits e (invoke p m k es ∷ ts) vs cs h (omega arith) c d (omega arith, f)
+  task-fits B (invoke p m k (argument e es)) ts vs cs h l c d f =
+      begin-fits e (invoke p m k es ∷ ts) vs cs h (omega arith) c d (omega arith, f)
   task-fits B (branch s t) ts vs cs h l c d f =
       pop-by closed vs _ (λ x vs. flag-by closed x _ (λ b.
       choice-by closed b _ _ (begin-statement-fits s ts vs cs h (omega arith) c d f) (begin-statement-fits t ts vs cs h (omega arith) c d f)))
@@ -291,9 +293,11 @@ module _ (n w : ℕ) (G : List Class) where
       array-by closed p x _ (λ a. array-at-by closed h a _ (λ t n. require-by closed (ofKind (plain t) v) _
       (in-bounds-by closed p i n _ (cell-by closed h a i _ (λ _. (c, simp length-set (omega arith), f))))))))))
   task-fits B (continue noStatements) ts vs cs h l c d f = (c, d, f)
-  task-fits B (continue (sequence s ss)) ts vs cs h l c d f = begin-statement-fits s (continue ss ∷ ts) vs cs h (omega arith) c d (omega arith, f)
+  task-fits B (continue (sequence s ss)) ts vs cs h l c d f =
+      begin-statement-fits s (continue ss ∷ ts) vs cs h (omega arith) c d (omega arith, f)
   task-fits B (perform noStatements e t) ts vs cs h l c d f = begin-fits e (leave t ∷ ts) vs cs h (omega arith) c d (omega arith, f)
-  task-fits B (perform (sequence s ss) e t) ts vs cs h l c d f = begin-statement-fits s (perform ss e t ∷ ts) vs cs h (omega arith) c d (omega arith, f)
+  task-fits B (perform (sequence s ss) e t) ts vs cs h l c d f =
+      begin-statement-fits s (perform ss e t ∷ ts) vs cs h (omega arith) c d (omega arith, f)
   task-fits B (leave t) ts vs cs h l c d f =
       pop-by closed vs _ (λ v _. require-by closed (ofKind t v) _ (innermost-by closed cs _ (λ a Γ xs ds e.
       let i = ap length e in (omega arith, d, subst (λ (k : ℕ). Fits k ts) (ap pred i) f))))

@@ -130,7 +130,8 @@ pub method-found : {G : List Class} {c : List ℕ} {ks : List Class} (m : List �
 unfolding nearestMethod
 method-found m (chain-none e) h = absurd (none-some refl h)
 method-found m (chain-top e p) h = method-either m none e (λ q r. absurd (none-some refl r)) h
-method-found m (chain-more {ks = ks} e x t) h = method-either m (nearestMethod ks m) e (λ q r. inherited-method e q x (method-found m t r)) h
+method-found m (chain-more {ks = ks} e x t) h =
+    method-either m (nearestMethod ks m) e (λ q r. inherited-method e q x (method-found m t r)) h
 
 pub method-nearest : {G : List Class} {c m : List ℕ} {ks : List Class} {F : Found} → Chain G c ks → HasMethod G c m F
     → nearestMethod ks m ≡ some F

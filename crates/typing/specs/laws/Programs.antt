@@ -72,7 +72,8 @@ module _ (G : List Class) where
 
   pub parents-sound : (ks : List Class) → knownParents G ks ≡ accepted tt → All (ParentKnown G) ks
   unfolding knownParents
-  parents-sound ks h = all-weaken (λ k e. parent-sound (k .parent) e) (each-sound (knownParents G) (λ k. knownParent G (k .parent)) refl (λ k l. refl) ks h)
+  parents-sound ks h =
+      all-weaken (λ k e. parent-sound (k .parent) e) (each-sound (knownParents G) (λ k. knownParent G (k .parent)) refl (λ k l. refl) ks h)
 
   pub parents-complete : {ks : List Class} → All (ParentKnown G) ks → knownParents G ks ≡ accepted tt
   unfolding knownParents
@@ -167,7 +168,8 @@ module _ {G : List Class} (A : Acyclic G) where
 
   bodies-sound : (c : List ℕ) (ms : List Method) → bodies G c ms ≡ accepted tt → All (HeadTyped G c) ms → All (MethodTyped G c) ms
   unfolding bodies
-  bodies-sound c ms h t = all-weaken (λ m w. method-typed A c m (w .0) (w .1)) (all-zip t (each-sound (bodies G c) (body G c) refl (λ m l. refl) ms h))
+  bodies-sound c ms h t =
+      all-weaken (λ m w. method-typed A c m (w .0) (w .1)) (all-zip t (each-sound (bodies G c) (body G c) refl (λ m l. refl) ms h))
 
   bodies-complete : {c : List ℕ} {ms : List Method} → All (MethodTyped G c) ms → bodies G c ms ≡ accepted tt
   unfolding bodies
@@ -213,7 +215,8 @@ judged-sound p q h =
       z,
       record {
         distinct = ds;
-        classes = all-weaken (class-typed A) (all-zip (all-zip ps es) (all-zip (declarations-sound A G (d .1)) (classBodies-sound A G (c .2))));
+        classes =
+            all-weaken (class-typed A) (all-zip (all-zip ps es) (all-zip (declarations-sound A G (d .1)) (classBodies-sound A G (c .2))));
         main = sound A mainContext (p .statement) (c .1);
       },
     )

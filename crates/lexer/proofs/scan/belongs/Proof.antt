@@ -17,7 +17,8 @@ returns : tie.Need-returns
 returns c = sym (ap (λ (k : Class). member k (c .before .before .args .b)) (c .enum-told .given .1))
 
 returns-2 : tie.Need-returns-2
-returns-2 c = c .is-name-part .ensures ∙ sym (ap (λ (k : Class). member k (c .before .before .before .args .b)) (c .before .enum-told2 .given .1))
+returns-2 c =
+    c .is-name-part .ensures ∙ sym (ap (λ (k : Class). member k (c .before .before .before .args .b)) (c .before .enum-told2 .given .1))
 
 returns-3 : tie.Need-returns-3
 returns-3 c =

@@ -16,7 +16,8 @@ module _ (t : ℕ) where
   operation-enum-known-a c = search needs
 
   pub operation-levels-requires : operation-lts.Need-levels-requires (operation-calls t) (operation-at t) operation.Post
-  operation-levels-requires c κs = omega (arith, within-ok (c .before .before .a .given .1) (c .before .before .before .before .before .before .unary .ensures .within))
+  operation-levels-requires c κs =
+      omega (arith, within-ok (c .before .before .a .given .1) (c .before .before .before .before .before .before .unary .ensures .within))
 
   pub operation-enum-known-a-2 : operation-lts.Need-enum-known-a-2 (operation-calls t) (operation-at t) operation.Post
   operation-enum-known-a-2 c = search needs
