@@ -17,7 +17,7 @@ use Rattle.parser.specs.Tree.{Place, Sort, Sort.expression, Sort.stateme
 use Rattle.parser.specs.Tree.{Part.block, Part.conditional, Part.loop, Part.print, Part.assign, Part.assignElement, Part.sequence}
 use Rattle.parser.specs.Stream.{tokenAt, kindAt, placeAt}
 use Rattle.parser.specs.Parse.{Parsed, ok, bad, bind, expect, Mode, operation, aStatement, statementList, anExpression}
-use Rattle.parser.specs.Parse.{beginsStatement, printHead, printEnd, expectAll, assignFrom, assignElementFrom, branchesFrom}
+use Rattle.parser.specs.Parse.{beginsStatement, printHead, callEnd, expectAll, assignFrom, assignElementFrom, branchesFrom}
 use Rattle.parser.specs.Parse.{repeatedFrom, step, parseAs}
 use Rattle.parser.specs.contracts.Layout.{rowOf, node, given, store}
 use Rattle.parser.specs.contracts.Post.{kindInTable, TokensIn, part, met-ok, met-bad, ModePost, ListPost, BranchesPost, levelAt}
@@ -195,7 +195,7 @@ module _ (ts : List Token) (P : (s : Sort) → Mode s → ℕ → Parsed (Part s
   printed e j = ok (print (placeAt ts i i) e) j
 
   abbrev printing : ℕ → Parsed Statement
-  printing j = bind (P expression anExpression j) λ e j. expectAll ts printEnd j (printed e)
+  printing j = bind (P expression anExpression j) λ e j. expectAll ts callEnd j (printed e)
 
   is-printing : kindAt ts i ≡ 19 → step ts P aStatement i ≡ expectAll ts printHead (i + 1) printing
   unfolding step
