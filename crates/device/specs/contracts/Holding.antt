@@ -32,6 +32,10 @@ pub record CaughtUp (tape : List ℕ) (due : ℕ) (before after : Held) : Type 0
   pub taken : after .taken ≡ due
   pub is : deviceOf tape after ≡ samples (due - before .taken) (deviceOf tape before)
 
+-- after a look: up to date where no sample is due that was taken before
+pub record Looks (tape : List ℕ) (due : ℕ) (before after : Held) : Type 0 where
+  pub says : before .taken ≤ due → CaughtUp tape due before after
+
 -- the lesser of two numbers
 pub record LesserOf (a b r : ℕ) : Type 0 where
   pub below : r ≤ a
