@@ -25,3 +25,6 @@ module _ {p : Program} {L : Limits} {tape : List ℕ} (P : ProgramTyped p) (F : 
 
   pub reach-typed : {c : Core} {m : Meters} → Reach p L tape c m → StateTyped (p .classes) c
   reach-typed r = reach-both r .0
+
+  pub reach-bytes : {c : Core} {m : Meters} → Reach p L tape c m → HoldsBytes (m .device)
+  reach-bytes r = reach-both r .1
