@@ -7,7 +7,7 @@ ghost use mathlib.Core.List.{[]};
 ghost use lib.ListN.{getD};
 ghost use Rattle.base.specs.Choice.{if_then_else_};
 ghost use Rattle.device.specs.Device as Device;
-ghost use Rattle.device.specs.contracts.Holding.{deviceOf, registersOf, Rests, Becomes, CaughtUp, LesserOf};
+ghost use Rattle.device.specs.contracts.Holding.{deviceOf, registersOf, Rests, Becomes, Looks, LesserOf};
 
 // Flag bits 0 and 1 of register 0, registers 1 and 2, registers 3 to 15, and how many samples were due so far.
 pub struct Held {
@@ -223,8 +223,7 @@ fn loses(lost: bool, arrived: bool, more: usize) -> bool
 
 // The device after all samples that are due, past the tape's end too.
 pub fn catch_up(tape: &[u8], d: Held, due: usize) -> Held
-    requires { ⌜ d .taken ≤ due ⌝ }
-    ensures { λ r. ⌜ CaughtUp (now (tape .entry)) due d r ⌝ }
+    ensures { λ r. ⌜ Looks (now (tape .entry)) due d r ⌝ }
 {
     let last = least(due, tape.len());
     if last <= d.taken {

@@ -2,10 +2,10 @@
 use borrow.Author.Needs.{needs}
 use Rattle.device.proofs.state.catch_up.Statement.{statement}
 use Rattle.device.proofs.state.catch_up.Tie as tie
-use Rattle.device.proofs.CatchLaws.{none-read, last-read}
+use Rattle.device.proofs.CatchLaws.{looks-none, looks-last}
 
 pub catch-up-spec : {M : Type 1} → statement M
 catch-up-spec =
-    tie.close (tie.spec (λ c κs. search needs) (λ c κs. search needs) (λ c. search (none-read, needs)) (λ c. search needs)
+    tie.close (tie.spec (λ c κs. search needs) (λ c κs. search needs) (λ c. search (looks-none, needs)) (λ c. search needs)
     (λ c. search needs) (λ c κs. search needs) (λ c. search needs) (λ c. search needs) (λ c κs. search needs)
-    (λ c. search (last-read, needs)))
+    (λ c. search (looks-last, needs)))
