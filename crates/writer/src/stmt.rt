@@ -5,8 +5,8 @@ use crate::expr::expression;
 use crate::expr::followed;
 use crate::expr::loaded;
 use crate::expr::located;
+use crate::expr::located_pair;
 use crate::expr::mark;
-use crate::expr::pair;
 use crate::scope::Scope;
 use crate::scope::slot;
 use codegen::numbers;
@@ -55,18 +55,7 @@ fn element(
         (now (code .exit)) r ⌝ }
 {
     let i = loaded(table, names, code, s, row, at);
-    let start = word(table, columns::BEGIN, row);
-    pair(
-        table,
-        names,
-        code,
-        s,
-        numbers::STORE_ELEMENT,
-        start,
-        left,
-        row,
-        i,
-    )
+    located_pair(table, names, code, s, numbers::STORE_ELEMENT, left, row, i)
 }
 
 // A statement.
@@ -100,6 +89,9 @@ pub fn single(
     }
     if k == kinds::SYSTEM {
         return located(table, names, code, s, numbers::PRINT, left - 1, row, i);
+    }
+    if k == kinds::PORT {
+        return located_pair(table, names, code, s, numbers::WRITE_REGISTER, left - 1, row, i);
     }
     if kind(table, s.tokens, row + 1) == kinds::OPEN_BRACKET {
         return element(table, names, code, s, left - 1, row, i);
