@@ -5,31 +5,34 @@ use borrow.Fn.Kinds.{In}
 use borrow.Fn.PlainCycle.{Measures, is, falls, and}
 use Rattle.writer.proofs.expr.arguments.Reads as arguments
 use Rattle.writer.proofs.expr.arguments.Kinds as arguments-kinds
-use Rattle.writer.proofs.expr.+arguments+binary+call+compound+conjunction+expression+followed+located+pair.Lts-arguments as arguments-lts
+use Rattle.writer.proofs.expr.+arguments+binary+call+compound+conjunction+expression+followed+located+located_pair+pair.Lts-arguments as arguments-lts
 use Rattle.writer.proofs.expr.binary.Reads as binary
 use Rattle.writer.proofs.expr.binary.Kinds as binary-kinds
-use Rattle.writer.proofs.expr.+arguments+binary+call+compound+conjunction+expression+followed+located+pair.Lts-binary as binary-lts
+use Rattle.writer.proofs.expr.+arguments+binary+call+compound+conjunction+expression+followed+located+located_pair+pair.Lts-binary as binary-lts
 use Rattle.writer.proofs.expr.call.Reads as call
 use Rattle.writer.proofs.expr.call.Kinds as call-kinds
-use Rattle.writer.proofs.expr.+arguments+binary+call+compound+conjunction+expression+followed+located+pair.Lts-call as call-lts
+use Rattle.writer.proofs.expr.+arguments+binary+call+compound+conjunction+expression+followed+located+located_pair+pair.Lts-call as call-lts
 use Rattle.writer.proofs.expr.compound.Reads as compound
 use Rattle.writer.proofs.expr.compound.Kinds as compound-kinds
-use Rattle.writer.proofs.expr.+arguments+binary+call+compound+conjunction+expression+followed+located+pair.Lts-compound as compound-lts
+use Rattle.writer.proofs.expr.+arguments+binary+call+compound+conjunction+expression+followed+located+located_pair+pair.Lts-compound as compound-lts
 use Rattle.writer.proofs.expr.conjunction.Reads as conjunction
 use Rattle.writer.proofs.expr.conjunction.Kinds as conjunction-kinds
-use Rattle.writer.proofs.expr.+arguments+binary+call+compound+conjunction+expression+followed+located+pair.Lts-conjunction as conjunction-lts
+use Rattle.writer.proofs.expr.+arguments+binary+call+compound+conjunction+expression+followed+located+located_pair+pair.Lts-conjunction as conjunction-lts
 use Rattle.writer.proofs.expr.expression.Reads as expression
 use Rattle.writer.proofs.expr.expression.Kinds as expression-kinds
-use Rattle.writer.proofs.expr.+arguments+binary+call+compound+conjunction+expression+followed+located+pair.Lts-expression as expression-lts
+use Rattle.writer.proofs.expr.+arguments+binary+call+compound+conjunction+expression+followed+located+located_pair+pair.Lts-expression as expression-lts
 use Rattle.writer.proofs.expr.followed.Reads as followed
 use Rattle.writer.proofs.expr.followed.Kinds as followed-kinds
-use Rattle.writer.proofs.expr.+arguments+binary+call+compound+conjunction+expression+followed+located+pair.Lts-followed as followed-lts
+use Rattle.writer.proofs.expr.+arguments+binary+call+compound+conjunction+expression+followed+located+located_pair+pair.Lts-followed as followed-lts
 use Rattle.writer.proofs.expr.located.Reads as located
 use Rattle.writer.proofs.expr.located.Kinds as located-kinds
-use Rattle.writer.proofs.expr.+arguments+binary+call+compound+conjunction+expression+followed+located+pair.Lts-located as located-lts
+use Rattle.writer.proofs.expr.+arguments+binary+call+compound+conjunction+expression+followed+located+located_pair+pair.Lts-located as located-lts
+use Rattle.writer.proofs.expr.located_pair.Reads as located-pair
+use Rattle.writer.proofs.expr.located_pair.Kinds as located-pair-kinds
+use Rattle.writer.proofs.expr.+arguments+binary+call+compound+conjunction+expression+followed+located+located_pair+pair.Lts-located_pair as located-pair-lts
 use Rattle.writer.proofs.expr.pair.Reads as pair
 use Rattle.writer.proofs.expr.pair.Kinds as pair-kinds
-use Rattle.writer.proofs.expr.+arguments+binary+call+compound+conjunction+expression+followed+located+pair.Lts-pair as pair-lts
+use Rattle.writer.proofs.expr.+arguments+binary+call+compound+conjunction+expression+followed+located+located_pair+pair.Lts-pair as pair-lts
 use Rattle.lookup.proofs.member.count.Reads as count-reads
 use Rattle.lookup.proofs.rows.word.Reads as word-reads
 use Rattle.parser.proofs.kinds.is_atom.Reads as is-atom-reads
@@ -39,11 +42,12 @@ use Rattle.writer.proofs.code.put.Reads as put-reads
 use Rattle.writer.proofs.expr.atom.Reads as atom-reads
 use Rattle.writer.proofs.expr.creation.Reads as creation-reads
 use Rattle.writer.proofs.expr.mark.Reads as mark-reads
-use Rattle.writer.proofs.expr.+arguments+binary+call+compound+conjunction+expression+followed+located+pair.{statement}
-use Rattle.writer.proofs.expr.+arguments+binary+call+compound+conjunction+expression+followed+located+pair.Tie.{close}
+use Rattle.writer.proofs.expr.+arguments+binary+call+compound+conjunction+expression+followed+located+located_pair+pair.{statement}
+use Rattle.writer.proofs.expr.+arguments+binary+call+compound+conjunction+expression+followed+located+located_pair+pair.Tie.{close}
 use Rattle.writer.proofs.ExpressionLaws.{expression-none, expression-atom, expression-compound, compound-array, compound-object}
-use Rattle.writer.proofs.ExpressionLaws.{compound-length, compound-call, compound-not, compound-element, compound-binary}
+use Rattle.writer.proofs.ExpressionLaws.{compound-length, compound-call, compound-not, compound-get, compound-element, compound-binary}
 use Rattle.writer.proofs.ExpressionLaws.{binary-and, binary-operation, followed-wrote, located-wrote, pair-wrote, conjunction-wrote}
+use Rattle.writer.proofs.ExpressionLaws.{located-pair-wrote}
 use Rattle.writer.proofs.ExpressionLaws.{call-wrote, arguments-none, arguments-end, arguments-more}
 use borrow.Author.Needs.{needs}
 use Prim.Native.Nat.{_+_, _*_}
@@ -71,6 +75,9 @@ abbrev μ-followed : Measures 3 followed-kinds.ps ℕ
 
 abbrev μ-located : Measures 3 located-kinds.ps ℕ
 μ-located κs a = 5 * a .1 .1 .1 .1 .1 .0 + 2
+
+abbrev μ-located-pair : Measures 3 located-pair-kinds.ps ℕ
+μ-located-pair κs a = 5 * a .1 .1 .1 .1 .1 .0 + 3
 
 abbrev μ-pair : Measures 3 pair-kinds.ps ℕ
 μ-pair κs a = 5 * a .1 .1 .1 .1 .1 .1 .0 + 2
@@ -148,9 +155,9 @@ module _ (t : ℕ) where
       pair-wrote (e .before .before .word .ensures .0) (e .expression .ensures) (d .word2 .ensures .0)
       (c .before .before .followed .ensures)
 
-pub +arguments+binary+call+compound+conjunction+expression+followed+located+pair-spec : {M : Type 1} → statement M
-+arguments+binary+call+compound+conjunction+expression+followed+located+pair-spec =
-    close μ-arguments μ-binary μ-call μ-compound μ-conjunction μ-expression μ-followed μ-located μ-pair
+pub +arguments+binary+call+compound+conjunction+expression+followed+located+located-pair+pair-spec : {M : Type 1} → statement M
++arguments+binary+call+compound+conjunction+expression+followed+located+located-pair+pair-spec =
+    close μ-arguments μ-binary μ-call μ-compound μ-conjunction μ-expression μ-followed μ-located μ-located-pair μ-pair
     (λ t. arguments-lts.spec (expression-below t, expression.Post, word-reads.Asked, word-reads.Learnt, arguments-below t, arguments.Post)
     (and 3 arguments-kinds.ps (is 3 arguments-kinds.ps μ-arguments t) arguments.Pre) arguments.Post (λ c. search arguments-none)
     (λ c. search arguments-end) (λ c κs. search needs) (λ c κs. search needs) (λ c. search needs) (λ c κs. search needs)
@@ -164,13 +171,14 @@ pub +arguments+binary+call+compound+conjunction+expression+followed+located+pair
     (λ c κs. search needs) (λ c κs. search needs) (λ c. search needs) (λ c κs. search needs) (λ c κs. search needs) (λ c κs. search needs)
     (λ c. search needs) (call-returns t))
     (λ t. compound-lts.spec
-    (kind-reads.Asked, kind-reads.Learnt, and 3 located-kinds.ps (falls 3 located-kinds.ps _<_ μ-located t) located.Pre, located.Post, creation-reads.Asked, creation-reads.Learnt, and 3 call-kinds.ps (falls 3 call-kinds.ps _<_ μ-call t) call.Pre, call.Post, word-reads.Asked, word-reads.Learnt, followed-below t, followed.Post, pair-below t, pair.Post, and 3 binary-kinds.ps (falls 3 binary-kinds.ps _<_ μ-binary t) binary.Pre, binary.Post)
+    (kind-reads.Asked, kind-reads.Learnt, and 3 located-kinds.ps (falls 3 located-kinds.ps _<_ μ-located t) located.Pre, located.Post, creation-reads.Asked, creation-reads.Learnt, and 3 call-kinds.ps (falls 3 call-kinds.ps _<_ μ-call t) call.Pre, call.Post, word-reads.Asked, word-reads.Learnt, followed-below t, followed.Post, and 3 located-pair-kinds.ps (falls 3 located-pair-kinds.ps _<_ μ-located-pair t) located-pair.Pre, located-pair.Post, and 3 binary-kinds.ps (falls 3 binary-kinds.ps _<_ μ-binary t) binary.Pre, binary.Post)
     (and 3 compound-kinds.ps (is 3 compound-kinds.ps μ-compound t) compound.Pre) compound.Post (λ c. search needs) (λ c κs. search needs)
     (λ c κs. search needs) (λ c. search needs) (λ c. search compound-array) (λ c κs. search needs) (λ c. search needs)
     (λ c. search compound-object) (λ c. search needs) (λ c κs. search needs) (λ c κs. search needs) (λ c. search needs)
     (λ c. search compound-length) (λ c κs. search needs) (λ c. search needs) (λ c. search compound-call) (λ c κs. search needs)
-    (λ c κs. search needs) (λ c. search needs) (λ c. search compound-not) (λ c κs. search needs) (λ c κs. search needs)
-    (λ c. search needs) (λ c. search compound-element) (λ c κs. search needs) (λ c. search needs) (λ c. search compound-binary))
+    (λ c κs. search needs) (λ c. search needs) (λ c. search compound-not) (λ c κs. search needs) (λ c. search needs)
+    (λ c. search compound-get) (λ c κs. search needs) (λ c. search needs) (λ c. search compound-element) (λ c κs. search needs)
+    (λ c. search needs) (λ c. search compound-binary))
     (λ t. conjunction-lts.spec (conjunction-calls t) (conjunction-at t) conjunction.Post (λ c κs. search needs) (λ c κs. search needs)
     (λ c κs. search needs) (λ c κs. search needs) (λ c κs. search needs) (λ c κs. search needs) (λ c. search needs)
     (conjunction-returns t))
@@ -185,5 +193,8 @@ pub +arguments+binary+call+compound+conjunction+expression+followed+located+pair
     (λ t. located-lts.spec (word-reads.Asked, word-reads.Learnt, followed-below t, followed.Post)
     (and 3 located-kinds.ps (is 3 located-kinds.ps μ-located t) located.Pre) located.Post (λ c κs. search needs) (λ c κs. search needs)
     (λ c κs. search needs) (λ c. search needs) (λ c. search located-wrote))
+    (λ t. located-pair-lts.spec (word-reads.Asked, word-reads.Learnt, pair-below t, pair.Post)
+    (and 3 located-pair-kinds.ps (is 3 located-pair-kinds.ps μ-located-pair t) located-pair.Pre) located-pair.Post (λ c κs. search needs)
+    (λ c κs. search needs) (λ c. search needs) (λ c. search located-pair-wrote))
     (λ t. pair-lts.spec (pair-calls t) (pair-at t) pair.Post (λ c κs. search needs) (λ c κs. search needs) (λ c κs. search needs)
     (λ c κs. search needs) (λ c. search needs) (pair-returns t))
