@@ -1,6 +1,6 @@
 // The device, held by value; samples are looked after only where a lesson looks at the device, and at the end of a run.
 ghost use mathlib.Core.Path.{_≡_};
-ghost use Prim.Native.Nat.{_≤_, _<_};
+ghost use Prim.Native.Nat.{_/_, _≤_, _<_};
 ghost use mathlib.Core.Bool.{true, _&&_, _||_, not};
 ghost use lib.Dec.{eqb, leb};
 ghost use mathlib.Core.List.{[]};
@@ -222,7 +222,7 @@ fn loses(lost: bool, arrived: bool, more: usize) -> bool
 }
 
 // The device after all samples that are due, past the tape's end too.
-pub fn catch_up(tape: &[u8], d: Held, due: usize) -> Held
+fn sampled(tape: &[u8], d: Held, due: usize) -> Held
     ensures { λ r. ⌜ Looks (now (tape .entry)) due d r ⌝ }
 {
     let last = least(due, tape.len());
@@ -231,4 +231,14 @@ pub fn catch_up(tape: &[u8], d: Held, due: usize) -> Held
     }
     let lost = loses(d.lost, d.arrived, last - d.taken - 1);
     with_reading(d, due, lost, tape[last - 1])
+}
+
+// How many steps lie between two samples.
+const PERIOD: usize = 100;
+
+// A look at the device after so many steps.
+pub fn catch_up(tape: &[u8], d: Held, steps: usize) -> Held
+    ensures { λ r. ⌜ Looks (now (tape .entry)) (steps / Device.period) d r ⌝ }
+{
+    sampled(tape, d, steps / PERIOD)
 }
