@@ -9,6 +9,9 @@ ghost use Rattle.base.specs.Choice.{if_then_else_};
 ghost use Rattle.device.specs.Device as Device;
 ghost use Rattle.device.specs.contracts.Holding.{deviceOf, registersOf, Rests, Becomes, Looks, LesserOf};
 
+// How many registers there are.
+pub const REGISTERS: usize = 16;
+
 // Flag bits 0 and 1 of register 0, registers 1 and 2, registers 3 to 15, and how many samples were due so far.
 pub struct Held {
     pub arrived: bool,

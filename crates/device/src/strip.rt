@@ -1,5 +1,6 @@
 // The register strip at the end of a run.
 use crate::state::Held;
+use crate::state::REGISTERS;
 use crate::state::value;
 ghost use mathlib.Core.Path.{_≡_};
 ghost use lib.ListN.{length};
@@ -12,7 +13,7 @@ pub fn write(strip: &mut [u8], d: Held)
     ensures { λ _. ⌜ ShownIn d (now (strip .exit)) ⌝ }
 {
     let mut i: usize = 0;
-    while i < strip.len() && i < 16 {
+    while i < strip.len() && i < REGISTERS {
         strip[i] = value(d, i);
         i += 1;
     }
