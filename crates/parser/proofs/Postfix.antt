@@ -10,6 +10,7 @@ use lib.Dec.{eqb, eqb→eq, T}
 use borrow.Author.Tests.{ne-eqb}
 use Rattle.base.specs.Choice.{option}
 use Rattle.base.specs.contracts.Table.{col, put}
+use Rattle.base.specs.laws.Tests.{and-true}
 use Rattle.lexer.specs.Kinds.{isName}
 use Rattle.lexer.specs.Tokens.{Token, decimal}
 use Rattle.lexer.specs.laws.ItemLaws.{kinds-apart}
@@ -62,7 +63,7 @@ module _ (T : List ℕ) (n i k : ℕ) (ek : k ≡ kindInTable T n i) where
 module _ (T : List ℕ) (n i : ℕ) (pre : startsArray T n i ≡ true) where
   -- the element type after `new`
   element-after : {ts : List Token} → TokensIn T n ts → ElementRead ts (i + 1)
-  element-after {ts} h = element-read ts (i + 1) _ (both (eqb (kindAt ts i) 14) _ (makes-array T n i h ∙ pre) .1)
+  element-after {ts} h = element-read ts (i + 1) _ (and-true (eqb (kindAt ts i) 14) _ (makes-array T n i h ∙ pre) .1)
 
   -- what follows the length
   abbrev sized : ℕ → List Token → Expression → ℕ → Parsed Expression
