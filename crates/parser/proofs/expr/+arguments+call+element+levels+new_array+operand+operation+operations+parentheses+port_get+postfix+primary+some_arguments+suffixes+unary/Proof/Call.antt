@@ -1,14 +1,14 @@
 -- The answers of `call`.
 use Prim.Native.Nat.{ℕ, _<_}
 use Rattle.parser.proofs.expr.call.Reads as call
-use Rattle.parser.proofs.expr.+arguments+call+element+levels+new_array+operand+operation+operations+parentheses+postfix+primary+some_arguments+suffixes+unary.Lts-call as call-lts
+use Rattle.parser.proofs.expr.+arguments+call+element+levels+new_array+operand+operation+operations+parentheses+port_get+postfix+primary+some_arguments+suffixes+unary.Lts-call as call-lts
 use Prim.Native.Nat.{_+_}
 use borrow.Author.Needs.{needs}
 use native.Mathlib.Omega.{arith}
 use lib.Dec.{lit<}
 use Rattle.parser.proofs.Laws.{there, within-ok}
 use Rattle.parser.proofs.Postfix.{call-ok, call-bad, call-open, call-name}
-use Rattle.parser.proofs.expr.+arguments+call+element+levels+new_array+operand+operation+operations+parentheses+postfix+primary+some_arguments+suffixes+unary.Proof.At.{call-at, call-calls}
+use Rattle.parser.proofs.expr.+arguments+call+element+levels+new_array+operand+operation+operations+parentheses+port_get+postfix+primary+some_arguments+suffixes+unary.Proof.At.{call-at, call-calls}
 
 module _ (t : ℕ) where
   pub call-add-kind : call-lts.Need-add-kind (call-calls t) (call-at t) call.Post

@@ -1,7 +1,7 @@
 -- The answers of `new_array`.
 use Prim.Native.Nat.{ℕ}
 use Rattle.parser.proofs.expr.new_array.Reads as new-array
-use Rattle.parser.proofs.expr.+arguments+call+element+levels+new_array+operand+operation+operations+parentheses+postfix+primary+some_arguments+suffixes+unary.Lts-new_array as new-array-lts
+use Rattle.parser.proofs.expr.+arguments+call+element+levels+new_array+operand+operation+operations+parentheses+port_get+postfix+primary+some_arguments+suffixes+unary.Lts-new_array as new-array-lts
 use Prim.Native.Nat.{_+_}
 use borrow.Author.Needs.{needs}
 use native.Mathlib.Omega.{arith}
@@ -10,8 +10,8 @@ use Rattle.parser.specs.contracts.Layout.{node}
 use Rattle.parser.proofs.Laws.{there}
 use Rattle.parser.proofs.Pieces.{follows-ok}
 use Rattle.parser.proofs.Postfix.{array-ok, array-bad, array-open}
-use Rattle.parser.proofs.expr.+arguments+call+element+levels+new_array+operand+operation+operations+parentheses+postfix+primary+some_arguments+suffixes+unary.Proof.At.{new-array-at}
-use Rattle.parser.proofs.expr.+arguments+call+element+levels+new_array+operand+operation+operations+parentheses+postfix+primary+some_arguments+suffixes+unary.Proof.At.{new-array-calls}
+use Rattle.parser.proofs.expr.+arguments+call+element+levels+new_array+operand+operation+operations+parentheses+port_get+postfix+primary+some_arguments+suffixes+unary.Proof.At.{new-array-at}
+use Rattle.parser.proofs.expr.+arguments+call+element+levels+new_array+operand+operation+operations+parentheses+port_get+postfix+primary+some_arguments+suffixes+unary.Proof.At.{new-array-calls}
 
 module _ (t : ℕ) where
   pub new-array-add-kind : new-array-lts.Need-add-kind (new-array-calls t) (new-array-at t) new-array.Post

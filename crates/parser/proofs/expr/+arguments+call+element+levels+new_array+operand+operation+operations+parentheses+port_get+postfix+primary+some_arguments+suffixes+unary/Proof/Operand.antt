@@ -1,10 +1,10 @@
 -- The answers of `operand`.
 use Prim.Native.Nat.{ℕ}
 use Rattle.parser.proofs.expr.operand.Reads as operand
-use Rattle.parser.proofs.expr.+arguments+call+element+levels+new_array+operand+operation+operations+parentheses+postfix+primary+some_arguments+suffixes+unary.Lts-operand as operand-lts
+use Rattle.parser.proofs.expr.+arguments+call+element+levels+new_array+operand+operation+operations+parentheses+port_get+postfix+primary+some_arguments+suffixes+unary.Lts-operand as operand-lts
 use borrow.Author.Needs.{needs}
 use Rattle.parser.proofs.Expressions.{operand-next, operand-last}
-use Rattle.parser.proofs.expr.+arguments+call+element+levels+new_array+operand+operation+operations+parentheses+postfix+primary+some_arguments+suffixes+unary.Proof.At.{operand-at, operand-calls}
+use Rattle.parser.proofs.expr.+arguments+call+element+levels+new_array+operand+operation+operations+parentheses+port_get+postfix+primary+some_arguments+suffixes+unary.Proof.At.{operand-at, operand-calls}
 
 module _ (t : ℕ) where
   pub operand-add-operation : operand-lts.Need-add-operation (operand-calls t) (operand-at t) operand.Post

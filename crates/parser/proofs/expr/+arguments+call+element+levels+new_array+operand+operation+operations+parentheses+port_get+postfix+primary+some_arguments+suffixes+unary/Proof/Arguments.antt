@@ -1,10 +1,10 @@
 -- The answers of `arguments`.
 use Prim.Native.Nat.{ℕ}
 use Rattle.parser.proofs.expr.arguments.Reads as arguments
-use Rattle.parser.proofs.expr.+arguments+call+element+levels+new_array+operand+operation+operations+parentheses+postfix+primary+some_arguments+suffixes+unary.Lts-arguments as arguments-lts
+use Rattle.parser.proofs.expr.+arguments+call+element+levels+new_array+operand+operation+operations+parentheses+port_get+postfix+primary+some_arguments+suffixes+unary.Lts-arguments as arguments-lts
 use borrow.Author.Needs.{needs}
 use Rattle.parser.proofs.Postfix.{arguments-none, arguments-some}
-use Rattle.parser.proofs.expr.+arguments+call+element+levels+new_array+operand+operation+operations+parentheses+postfix+primary+some_arguments+suffixes+unary.Proof.At.{arguments-at, arguments-calls}
+use Rattle.parser.proofs.expr.+arguments+call+element+levels+new_array+operand+operation+operations+parentheses+port_get+postfix+primary+some_arguments+suffixes+unary.Proof.At.{arguments-at, arguments-calls}
 
 module _ (t : ℕ) where
   pub arguments-kind-requires : arguments-lts.Need-kind-requires (arguments-calls t) (arguments-at t) arguments.Post

@@ -1,12 +1,12 @@
 -- The answers of `operation`.
 use Prim.Native.Nat.{ℕ}
 use Rattle.parser.proofs.expr.operation.Reads as operation
-use Rattle.parser.proofs.expr.+arguments+call+element+levels+new_array+operand+operation+operations+parentheses+postfix+primary+some_arguments+suffixes+unary.Lts-operation as operation-lts
+use Rattle.parser.proofs.expr.+arguments+call+element+levels+new_array+operand+operation+operations+parentheses+port_get+postfix+primary+some_arguments+suffixes+unary.Lts-operation as operation-lts
 use borrow.Author.Needs.{needs}
 use native.Mathlib.Omega.{arith}
 use Rattle.parser.proofs.Laws.{within-ok}
 use Rattle.parser.proofs.Expressions.{levels-ok, unary-bad}
-use Rattle.parser.proofs.expr.+arguments+call+element+levels+new_array+operand+operation+operations+parentheses+postfix+primary+some_arguments+suffixes+unary.Proof.At.{operation-at, operation-calls}
+use Rattle.parser.proofs.expr.+arguments+call+element+levels+new_array+operand+operation+operations+parentheses+port_get+postfix+primary+some_arguments+suffixes+unary.Proof.At.{operation-at, operation-calls}
 
 module _ (t : ℕ) where
   pub operation-unary-requires : operation-lts.Need-unary-requires (operation-calls t) (operation-at t) operation.Post

@@ -1,12 +1,12 @@
 -- The answers of `operations`.
 use Prim.Native.Nat.{ℕ}
 use Rattle.parser.proofs.expr.operations.Reads as operations
-use Rattle.parser.proofs.expr.+arguments+call+element+levels+new_array+operand+operation+operations+parentheses+postfix+primary+some_arguments+suffixes+unary.Lts-operations as operations-lts
+use Rattle.parser.proofs.expr.+arguments+call+element+levels+new_array+operand+operation+operations+parentheses+port_get+postfix+primary+some_arguments+suffixes+unary.Lts-operations as operations-lts
 use borrow.Author.Needs.{needs}
 use native.Mathlib.Omega.{arith}
 use Rattle.parser.proofs.Laws.{within-ok}
 use Rattle.parser.proofs.Expressions.{operator-there, operations-ok, operations-bad, operations-none}
-use Rattle.parser.proofs.expr.+arguments+call+element+levels+new_array+operand+operation+operations+parentheses+postfix+primary+some_arguments+suffixes+unary.Proof.At.{operations-at, operations-calls}
+use Rattle.parser.proofs.expr.+arguments+call+element+levels+new_array+operand+operation+operations+parentheses+port_get+postfix+primary+some_arguments+suffixes+unary.Proof.At.{operations-at, operations-calls}
 
 module _ (t : ℕ) where
   pub operations-kind-requires : operations-lts.Need-kind-requires (operations-calls t) (operations-at t) operations.Post

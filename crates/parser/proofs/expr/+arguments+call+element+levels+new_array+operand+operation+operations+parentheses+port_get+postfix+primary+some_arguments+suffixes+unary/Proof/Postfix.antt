@@ -1,13 +1,13 @@
 -- The answers of `postfix`.
 use Prim.Native.Nat.{ℕ}
 use Rattle.parser.proofs.expr.postfix.Reads as postfix
-use Rattle.parser.proofs.expr.+arguments+call+element+levels+new_array+operand+operation+operations+parentheses+postfix+primary+some_arguments+suffixes+unary.Lts-postfix as postfix-lts
+use Rattle.parser.proofs.expr.+arguments+call+element+levels+new_array+operand+operation+operations+parentheses+port_get+postfix+primary+some_arguments+suffixes+unary.Lts-postfix as postfix-lts
 use mathlib.Core.Path.{sym, _∙_}
 use borrow.Author.Needs.{needs}
 use native.Mathlib.Omega.{arith}
 use Rattle.parser.proofs.Laws.{within-ok}
 use Rattle.parser.proofs.Expressions.{postfix-ok, postfix-bad}
-use Rattle.parser.proofs.expr.+arguments+call+element+levels+new_array+operand+operation+operations+parentheses+postfix+primary+some_arguments+suffixes+unary.Proof.At.{postfix-at, postfix-calls}
+use Rattle.parser.proofs.expr.+arguments+call+element+levels+new_array+operand+operation+operations+parentheses+port_get+postfix+primary+some_arguments+suffixes+unary.Proof.At.{postfix-at, postfix-calls}
 
 module _ (t : ℕ) where
   pub postfix-starts-array-requires : postfix-lts.Need-starts-array-requires (postfix-calls t) (postfix-at t) postfix.Post

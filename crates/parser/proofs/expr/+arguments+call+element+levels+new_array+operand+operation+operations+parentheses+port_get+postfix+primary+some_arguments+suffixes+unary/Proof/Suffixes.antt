@@ -1,14 +1,14 @@
 -- The answers of `suffixes`.
 use Prim.Native.Nat.{ℕ, _<_}
 use Rattle.parser.proofs.expr.suffixes.Reads as suffixes
-use Rattle.parser.proofs.expr.+arguments+call+element+levels+new_array+operand+operation+operations+parentheses+postfix+primary+some_arguments+suffixes+unary.Lts-suffixes as suffixes-lts
+use Rattle.parser.proofs.expr.+arguments+call+element+levels+new_array+operand+operation+operations+parentheses+port_get+postfix+primary+some_arguments+suffixes+unary.Lts-suffixes as suffixes-lts
 use Prim.Native.Nat.{_+_}
 use borrow.Author.Needs.{needs}
 use native.Mathlib.Omega.{arith}
 use lib.Dec.{lit<}
 use Rattle.parser.proofs.Laws.{there}
 use Rattle.parser.proofs.Postfix.{suffix-element, suffix-closed, suffix-length, suffix-none}
-use Rattle.parser.proofs.expr.+arguments+call+element+levels+new_array+operand+operation+operations+parentheses+postfix+primary+some_arguments+suffixes+unary.Proof.At.{suffixes-at, suffixes-calls}
+use Rattle.parser.proofs.expr.+arguments+call+element+levels+new_array+operand+operation+operations+parentheses+port_get+postfix+primary+some_arguments+suffixes+unary.Proof.At.{suffixes-at, suffixes-calls}
 
 module _ (t : ℕ) where
   pub suffixes-kind-requires : suffixes-lts.Need-kind-requires (suffixes-calls t) (suffixes-at t) suffixes.Post

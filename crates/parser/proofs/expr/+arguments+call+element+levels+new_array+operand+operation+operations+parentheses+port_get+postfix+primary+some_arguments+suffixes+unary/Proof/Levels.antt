@@ -1,12 +1,12 @@
 -- The answers of `levels`.
 use Prim.Native.Nat.{ℕ}
 use Rattle.parser.proofs.expr.levels.Reads as levels
-use Rattle.parser.proofs.expr.+arguments+call+element+levels+new_array+operand+operation+operations+parentheses+postfix+primary+some_arguments+suffixes+unary.Lts-levels as levels-lts
+use Rattle.parser.proofs.expr.+arguments+call+element+levels+new_array+operand+operation+operations+parentheses+port_get+postfix+primary+some_arguments+suffixes+unary.Lts-levels as levels-lts
 use borrow.Author.Needs.{needs}
 use native.Mathlib.Omega.{arith}
 use Rattle.parser.proofs.Laws.{within-ok}
 use Rattle.parser.proofs.Expressions.{levels-more, levels-last, levels-bad}
-use Rattle.parser.proofs.expr.+arguments+call+element+levels+new_array+operand+operation+operations+parentheses+postfix+primary+some_arguments+suffixes+unary.Proof.At.{levels-at, levels-calls}
+use Rattle.parser.proofs.expr.+arguments+call+element+levels+new_array+operand+operation+operations+parentheses+port_get+postfix+primary+some_arguments+suffixes+unary.Proof.At.{levels-at, levels-calls}
 
 module _ (t : ℕ) where
   pub levels-operations-requires : levels-lts.Need-operations-requires (levels-calls t) (levels-at t) levels.Post

@@ -1,15 +1,15 @@
 -- The answers of `some_arguments`.
 use Prim.Native.Nat.{ℕ}
 use Rattle.parser.proofs.expr.some_arguments.Reads as some-arguments
-use Rattle.parser.proofs.expr.+arguments+call+element+levels+new_array+operand+operation+operations+parentheses+postfix+primary+some_arguments+suffixes+unary.Lts-some_arguments as some-arguments-lts
+use Rattle.parser.proofs.expr.+arguments+call+element+levels+new_array+operand+operation+operations+parentheses+port_get+postfix+primary+some_arguments+suffixes+unary.Lts-some_arguments as some-arguments-lts
 use borrow.Author.Needs.{needs}
 use native.Mathlib.Omega.{arith}
 use lib.Dec.{lit<}
 use Rattle.parser.proofs.Laws.{there, within-ok}
 use Rattle.parser.proofs.Pieces.{arguments-fit}
 use Rattle.parser.proofs.Postfix.{argument-bad, argument-last, argument-other, arguments-more}
-use Rattle.parser.proofs.expr.+arguments+call+element+levels+new_array+operand+operation+operations+parentheses+postfix+primary+some_arguments+suffixes+unary.Proof.At.{some-arguments-at}
-use Rattle.parser.proofs.expr.+arguments+call+element+levels+new_array+operand+operation+operations+parentheses+postfix+primary+some_arguments+suffixes+unary.Proof.At.{some-arguments-calls}
+use Rattle.parser.proofs.expr.+arguments+call+element+levels+new_array+operand+operation+operations+parentheses+port_get+postfix+primary+some_arguments+suffixes+unary.Proof.At.{some-arguments-at}
+use Rattle.parser.proofs.expr.+arguments+call+element+levels+new_array+operand+operation+operations+parentheses+port_get+postfix+primary+some_arguments+suffixes+unary.Proof.At.{some-arguments-calls}
 
 module _ (t : ℕ) where
   pub some-arguments-operation-requires : some-arguments-lts.Need-operation-requires (some-arguments-calls t) (some-arguments-at t) some-arguments.Post

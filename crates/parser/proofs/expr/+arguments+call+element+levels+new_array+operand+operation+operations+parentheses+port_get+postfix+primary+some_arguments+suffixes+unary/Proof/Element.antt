@@ -1,7 +1,7 @@
 -- The answers of `element`.
 use Prim.Native.Nat.{ℕ}
 use Rattle.parser.proofs.expr.element.Reads as element
-use Rattle.parser.proofs.expr.+arguments+call+element+levels+new_array+operand+operation+operations+parentheses+postfix+primary+some_arguments+suffixes+unary.Lts-element as element-lts
+use Rattle.parser.proofs.expr.+arguments+call+element+levels+new_array+operand+operation+operations+parentheses+port_get+postfix+primary+some_arguments+suffixes+unary.Lts-element as element-lts
 use mathlib.Core.Path.{refl}
 use borrow.Author.Needs.{needs}
 use native.Mathlib.Omega.{arith}
@@ -10,8 +10,8 @@ use Rattle.parser.specs.contracts.Layout.{node}
 use Rattle.parser.proofs.Laws.{there}
 use Rattle.parser.proofs.Pieces.{follows-ok}
 use Rattle.parser.proofs.Postfix.{element-ok, element-bad}
-use Rattle.parser.proofs.expr.+arguments+call+element+levels+new_array+operand+operation+operations+parentheses+postfix+primary+some_arguments+suffixes+unary.Proof.At.{element-at}
-use Rattle.parser.proofs.expr.+arguments+call+element+levels+new_array+operand+operation+operations+parentheses+postfix+primary+some_arguments+suffixes+unary.Proof.At.{element-calls}
+use Rattle.parser.proofs.expr.+arguments+call+element+levels+new_array+operand+operation+operations+parentheses+port_get+postfix+primary+some_arguments+suffixes+unary.Proof.At.{element-at}
+use Rattle.parser.proofs.expr.+arguments+call+element+levels+new_array+operand+operation+operations+parentheses+port_get+postfix+primary+some_arguments+suffixes+unary.Proof.At.{element-calls}
 
 module _ (t : ℕ) where
   pub element-add-operation : element-lts.Need-add-operation (element-calls t) (element-at t) element.Post

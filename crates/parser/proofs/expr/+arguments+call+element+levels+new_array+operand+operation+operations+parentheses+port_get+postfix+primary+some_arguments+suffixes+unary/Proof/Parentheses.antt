@@ -1,14 +1,14 @@
 -- The answers of `parentheses`.
 use Prim.Native.Nat.{ℕ, _<_}
 use Rattle.parser.proofs.expr.parentheses.Reads as parentheses
-use Rattle.parser.proofs.expr.+arguments+call+element+levels+new_array+operand+operation+operations+parentheses+postfix+primary+some_arguments+suffixes+unary.Lts-parentheses as parentheses-lts
+use Rattle.parser.proofs.expr.+arguments+call+element+levels+new_array+operand+operation+operations+parentheses+port_get+postfix+primary+some_arguments+suffixes+unary.Lts-parentheses as parentheses-lts
 use mathlib.Core.Path.{refl}
 use borrow.Author.Needs.{needs}
 use native.Mathlib.Omega.{arith}
 use lib.Dec.{lit<}
 use Rattle.parser.proofs.Laws.{there, within-ok}
 use Rattle.parser.proofs.Postfix.{parentheses-ok, parentheses-close, parentheses-bad}
-use Rattle.parser.proofs.expr.+arguments+call+element+levels+new_array+operand+operation+operations+parentheses+postfix+primary+some_arguments+suffixes+unary.Proof.At.{parentheses-at, parentheses-calls}
+use Rattle.parser.proofs.expr.+arguments+call+element+levels+new_array+operand+operation+operations+parentheses+port_get+postfix+primary+some_arguments+suffixes+unary.Proof.At.{parentheses-at, parentheses-calls}
 
 module _ (t : ℕ) where
   pub parentheses-add-operation : parentheses-lts.Need-add-operation (parentheses-calls t) (parentheses-at t) parentheses.Post

@@ -1,11 +1,11 @@
 -- The answers of `primary`.
 use Prim.Native.Nat.{ℕ}
 use Rattle.parser.proofs.expr.primary.Reads as primary
-use Rattle.parser.proofs.expr.+arguments+call+element+levels+new_array+operand+operation+operations+parentheses+postfix+primary+some_arguments+suffixes+unary.Lts-primary as primary-lts
+use Rattle.parser.proofs.expr.+arguments+call+element+levels+new_array+operand+operation+operations+parentheses+port_get+postfix+primary+some_arguments+suffixes+unary.Lts-primary as primary-lts
 use borrow.Author.Needs.{needs}
 use native.Mathlib.Omega.{arith}
 use Rattle.parser.proofs.Postfix.{atom-there, an-atom, no-primary}
-use Rattle.parser.proofs.expr.+arguments+call+element+levels+new_array+operand+operation+operations+parentheses+postfix+primary+some_arguments+suffixes+unary.Proof.At.{primary-at, primary-calls}
+use Rattle.parser.proofs.expr.+arguments+call+element+levels+new_array+operand+operation+operations+parentheses+port_get+postfix+primary+some_arguments+suffixes+unary.Proof.At.{primary-at, primary-calls}
 
 module _ (t : ℕ) where
   pub primary-kind-requires : primary-lts.Need-kind-requires (primary-calls t) (primary-at t) primary.Post
@@ -44,8 +44,17 @@ module _ (t : ℕ) where
   pub primary-returns-3 : primary-lts.Need-returns-3 (primary-calls t) (primary-at t) primary.Post
   primary-returns-3 c = search needs
 
+  pub primary-port-get-requires : primary-lts.Need-port-get-requires (primary-calls t) (primary-at t) primary.Post
+  primary-port-get-requires c κs = search needs
+
   pub primary-same-length-4 : primary-lts.Need-same-length-4 (primary-calls t) (primary-at t) primary.Post
   primary-same-length-4 c = search needs
 
   pub primary-returns-4 : primary-lts.Need-returns-4 (primary-calls t) (primary-at t) primary.Post
-  primary-returns-4 c = search no-primary
+  primary-returns-4 c = search needs
+
+  pub primary-same-length-5 : primary-lts.Need-same-length-5 (primary-calls t) (primary-at t) primary.Post
+  primary-same-length-5 c = search needs
+
+  pub primary-returns-5 : primary-lts.Need-returns-5 (primary-calls t) (primary-at t) primary.Post
+  primary-returns-5 c = search no-primary
