@@ -34,7 +34,8 @@ use Rattle.lookup.specs.contracts.Lookups.{TypeOf, Knows, Fits, rowFound, Finds
 use Rattle.lookup.specs.laws.ChainLaws.{found-stands}
 use Rattle.lookup.specs.laws.VariableLaws.{typed-some, typed-none}
 use Rattle.lookup.specs.contracts.Answers.{asJudged, asJudged-fine, asJudged-refused, Judges, well, ill}
-use Rattle.lookup.specs.contracts.Shows.{PartAt, Form, aVariable, aNewArray, aNewObject, aNegation, aBinary, anElement, aLength, aCall, aPortGet}
+use Rattle.lookup.specs.contracts.Shows.{PartAt, Form, aVariable, aNewArray, aNewObject, aNegation, aBinary, anElement, aLength, aCall}
+use Rattle.lookup.specs.contracts.Shows.{aPortGet}
 use Rattle.lookup.specs.contracts.Shows.{aLiteral, aTruth, aThis, formAtom, formCompound, formE, formAt, GoesOn, one-more-argument}
 use Rattle.lookup.specs.contracts.Shows.{shows-literal, shows-truth, shows-variable, shows-this, shows-new-array, shows-new-object}
 use Rattle.lookup.specs.contracts.Shows.{shows-negation, shows-binary, shows-element, shows-length, shows-call, shows-port-get}

@@ -222,7 +222,8 @@ module _ {tab : List ℕ} {s : Scope} {first end row : ℕ} where
       pub statement-assignment : (k′ ≡ 36 → ⊥) → StatementNodePost tab s anAssignment end row r → StatementPost tab s first end row r
       unfolding formS
       statement-assignment other f =
-          told (rw (ne-eqb k 38 n₁, ne-eqb k 10 n₂, ne-eqb k 23 n₃, ne-eqb k 19 n₄, ne-eqb k 40 n₅, sym after, ne-eqb k′ 36 other)) (f .says)
+          told (rw (ne-eqb k 38 n₁, ne-eqb k 10 n₂, ne-eqb k 23 n₃, ne-eqb k 19 n₄, ne-eqb k 40 n₅, sym after, ne-eqb k′ 36 other))
+          (f .says)
 
 -- LISTS
 

@@ -122,8 +122,8 @@ pair-wrote {at = at} e₄ f e₅ g =
           next-to (λ j k. emit G Γ m j (x ∷ k)) (λ j. suc (end m j)) u (g .says ts G Γ w x is m (rw e₅ z) (rw (u .ends) h));
     }
 
-pub located-pair-wrote : {tab names : List ℕ} {s : Scope} {op start left : ℕ} (row : ℕ) {at r : ℕ} {c c′ : List ℕ} → start ≡ wordAt tab 3 row
-    → PairPost tab names s op start left row at c c′ r → PairPost tab names s op (wordAt tab 3 row) left row at c c′ r
+pub located-pair-wrote : {tab names : List ℕ} {s : Scope} {op start left : ℕ} (row : ℕ) {at r : ℕ} {c c′ : List ℕ}
+    → start ≡ wordAt tab 3 row → PairPost tab names s op start left row at c c′ r → PairPost tab names s op (wordAt tab 3 row) left row at c c′ r
 located-pair-wrote {tab} {names} {s} {op} {left = left} row {at} {r} {c} {c′} e₃ f =
     subst (λ (i : ℕ). PairPost tab names s op i left row at c c′ r) e₃ f
 

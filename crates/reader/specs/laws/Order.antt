@@ -16,7 +16,8 @@ use Rattle.parser.specs.Tree.{Variable, Method, Class, Program}
 use Rattle.parser.specs.Stream.{kindAt, startAt, noMore, Level, Level.conjunction, Level.comparison, Level.sum, Level.product, operatorOf}
 use Rattle.parser.specs.contracts.Layout.{rowOf, rowMethods, rowClasses}
 use Rattle.parser.specs.Grammar.{Kind, Derives, operate, one-operand, negate, no-negation, make-array, no-array, index, take-length, invoke}
-use Rattle.parser.specs.Grammar.{no-suffix, a-literal, a-true, a-false, a-name, a-this, make-object, get-register, parentheses, none-given, some-given}
+use Rattle.parser.specs.Grammar.{no-suffix, a-literal, a-true, a-false, a-name, a-this, make-object, get-register, parentheses, none-given}
+use Rattle.parser.specs.Grammar.{some-given}
 use Rattle.parser.specs.Grammar.{one-argument, more-arguments, a-block, an-if, a-while, a-print, an-assignment, an-element-assignment}
 use Rattle.parser.specs.Grammar.{put-register, no-statement, more-statements}
 use Rattle.parser.specs.Grammar.{DerivesType, an-array, no-mark, DerivesVariable, a-variable, DerivesVariables, no-variable, more-variables}
@@ -128,7 +129,8 @@ module _ (ts : List Token) (few : length ts ≤ 2048) where
   range (a-this {i = i} e) h = let n = there ts i e (lit< tt) in (omega arith, omega arith, omega arith)
   range (make-object {i = i} e₁ e₂ e₃ e₄) h = let n = there ts (i + 3) e₄ (lit< tt) in (omega arith, omega arith, omega arith)
   range (get-register {i = i} {j = j} e₁ e₂ e₃ e₄ d e₅) h =
-      let n = there ts (i + 3) e₄ (lit< tt) in let v = range d (omega arith) in let q = there ts j e₅ (lit< tt) in (omega arith, omega (arith, v), omega arith)
+      let n = there ts (i + 3) e₄ (lit< tt) in let v = range d (omega arith) in let q = there ts j e₅ (lit< tt) in
+      (omega arith, omega (arith, v), omega arith)
   range (parentheses {i = i} {j = j} e₁ d e₂) h =
       let n = there ts i e₁ (lit< tt) in let v = range d (omega arith) in let q = there ts j e₂ (lit< tt) in (omega (arith, v), omega (arith, v), omega arith)
   range none-given h = (omega arith, omega arith, h)
@@ -152,8 +154,8 @@ module _ (ts : List Token) (few : length ts ≤ 2048) where
       let n = there ts (i + 1) e₂ (lit< tt) in let u = range a (omega arith) in let q = there ts (j + 1) e₄ (lit< tt) in let v = range d (omega arith) in
       let z = there ts k e₅ (lit< tt) in (omega arith, omega (arith, u, v), omega arith)
   range (put-register {i = i} {j = j} {k = k} e₁ e₂ e₃ e₄ a e₅ d e₆ e₇) h =
-      let n = there ts (i + 3) e₄ (lit< tt) in let u = range a (omega arith) in let q = there ts j e₅ (lit< tt) in let v = range d (omega arith) in
-      let z = there ts (k + 1) e₇ (lit< tt) in (omega arith, omega (arith, u, v), omega arith)
+      let n = there ts (i + 3) e₄ (lit< tt) in let u = range a (omega arith) in let q = there ts j e₅ (lit< tt) in
+      let v = range d (omega arith) in let z = there ts (k + 1) e₇ (lit< tt) in (omega arith, omega (arith, u, v), omega arith)
   range no-statement h = (omega arith, omega arith, h)
   range (more-statements {m = m} s ss) h = let u = range s h in let v = range ss (u .2) in (omega (arith, u, v), u .0, v .2)
 
@@ -223,8 +225,11 @@ module _ (ts : List Token) (few : length ts ≤ 2048) (rising : TokensRise ts) w
       let n = there ts (i + 1) e₂ (lit< tt) in let u = range ts few a (omega arith) in let q = there ts (j + 1) e₄ (lit< tt) in
       (f (omega arith), order a (omega arith) (later i (i + 2) (at i) (omega arith)), order d (omega arith) (later i (j + 2) (at i) (omega (arith, u))))
   order (put-register {i = i} {j = j} e₁ e₂ e₃ e₄ a e₅ d e₆ e₇) h f =
-      let n = there ts (i + 3) e₄ (lit< tt) in let u = range ts few a (omega arith) in let q = there ts j e₅ (lit< tt) in
-      (f (omega arith), order a (omega arith) (later i (i + 4) (at i) (omega arith)), order d (omega arith) (later i (j + 1) (at i) (omega (arith, u))))
+      let n = there ts (i + 3) e₄ (lit< tt) in let u = range ts few a (omega arith) in let q = there ts j e₅ (lit< tt) in (
+        f (omega arith),
+        order a (omega arith) (later i (i + 4) (at i) (omega arith)),
+        order d (omega arith) (later i (j + 1) (at i) (omega (arith, u))),
+      )
   order no-statement h f = tt
   order (more-statements {i = i} {m = m} s ss) h f =
       let u = range ts few s h in let v = range ts few ss (u .2) in (omega (arith, u, v), order s h f, order ss (u .2) (later i m f (omega (arith, u))))

@@ -15,7 +15,8 @@ use Rattle.parser.specs.Grammar.{Kind, Derives, DerivesType, DerivesVariable, D
 use Rattle.parser.specs.Grammar.{DerivesMethod, DerivesMethods, DerivesParent, DerivesClass, DerivesClasses, DerivesProgram}
 use Rattle.parser.specs.Grammar.{Derives.operate, Derives.one-operand, Derives.negate, Derives.no-negation, Derives.make-array}
 use Rattle.parser.specs.Grammar.{Derives.no-array, Derives.index, Derives.take-length, Derives.invoke, Derives.no-suffix}
-use Rattle.parser.specs.Grammar.{Derives.a-literal, Derives.a-true, Derives.a-false, Derives.a-name, Derives.a-this, Derives.make-object, Derives.get-register}
+use Rattle.parser.specs.Grammar.{Derives.a-literal, Derives.a-true, Derives.a-false, Derives.a-name, Derives.a-this, Derives.make-object}
+use Rattle.parser.specs.Grammar.{Derives.get-register}
 use Rattle.parser.specs.Grammar.{Derives.parentheses, Derives.none-given, Derives.some-given, Derives.one-argument, Derives.more-arguments}
 use Rattle.parser.specs.Grammar.{Derives.a-block, Derives.an-if, Derives.a-while, Derives.a-print, Derives.an-assignment}
 use Rattle.parser.specs.Grammar.{Derives.an-element-assignment, Derives.put-register, Derives.no-statement, Derives.more-statements}
@@ -95,7 +96,8 @@ module _ {ts : List Token} where
   lies (a-name {i = i} _) = leaf i (i + 1) (placeAt ts i i) (omega arith)
   lies (a-this {i = i} _) = leaf i (i + 1) (placeAt ts i i) (omega arith)
   lies (make-object {i = i} _ _ _ _) = leaf i (i + 4) (placeAt ts i i) (omega arith)
-  lies (get-register {i = i} {j = j} _ _ _ _ d _) = let x = lies d in one-part i (j + 1) (placeAt ts i i) _ _ (x .2) (omega arith) (omega arith)
+  lies (get-register {i = i} {j = j} _ _ _ _ d _) =
+      let x = lies d in one-part i (j + 1) (placeAt ts i i) _ _ (x .2) (omega arith) (omega arith)
   lies (parentheses {i = i} {j = j} {e = e} _ d _) =
       let x = lies d in (omega arith, omega arith, reshape i (j + 1) (nextOf (rowOf e)) (x .2) (omega arith) (λ k r _ h. h) (λ tab h. h))
   lies (none-given {i = i}) = writes-nothing i i nowhere (omega arith)

@@ -61,7 +61,8 @@ use Rattle.bodies.proofs.ExpressionLaws.{arguments-before, arguments-be
 use Rattle.bodies.proofs.ExpressionLaws.{binary-refused, binary-right, binary-wrong, call-object, call-plain, call-refused}
 use Rattle.bodies.proofs.ExpressionLaws.{creation-array, creation-object, dotted-call, dotted-length, element-first}
 use Rattle.bodies.proofs.ExpressionLaws.{element-second, expression-atom, expression-before, expression-behind, expression-binary}
-use Rattle.bodies.proofs.ExpressionLaws.{expression-dot, expression-element, expression-get, expression-new, expression-not, invocation-count}
+use Rattle.bodies.proofs.ExpressionLaws.{expression-dot, expression-element, expression-get, expression-new, expression-not}
+use Rattle.bodies.proofs.ExpressionLaws.{invocation-count}
 use Rattle.bodies.proofs.ExpressionLaws.{invocation-fine, invocation-refused, invocation-unknown, operand-fits, operand-refused}
 use Rattle.bodies.proofs.ExpressionLaws.{operand-wrong, single-fine, single-refused}
 use Rattle.bodies.proofs.ExpressionLaws.{array-wrong, array-right, array-unjudged, length-right, length-refused}

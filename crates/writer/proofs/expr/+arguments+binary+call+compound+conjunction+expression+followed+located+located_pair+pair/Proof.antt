@@ -45,7 +45,8 @@ use Rattle.writer.proofs.expr.mark.Reads as mark-reads
 use Rattle.writer.proofs.expr.+arguments+binary+call+compound+conjunction+expression+followed+located+located_pair+pair.{statement}
 use Rattle.writer.proofs.expr.+arguments+binary+call+compound+conjunction+expression+followed+located+located_pair+pair.Tie.{close}
 use Rattle.writer.proofs.ExpressionLaws.{expression-none, expression-atom, expression-compound, compound-array, compound-object}
-use Rattle.writer.proofs.ExpressionLaws.{compound-length, compound-call, compound-not, compound-get, compound-element, compound-binary}
+use Rattle.writer.proofs.ExpressionLaws.{compound-length, compound-call, compound-not, compound-get, compound-element}
+use Rattle.writer.proofs.ExpressionLaws.{compound-binary}
 use Rattle.writer.proofs.ExpressionLaws.{binary-and, binary-operation, followed-wrote, located-wrote, pair-wrote, conjunction-wrote}
 use Rattle.writer.proofs.ExpressionLaws.{located-pair-wrote}
 use Rattle.writer.proofs.ExpressionLaws.{call-wrote, arguments-none, arguments-end, arguments-more}
