@@ -12,6 +12,8 @@ use Rattle.parser.specs.Tree.{Program}
 use Rattle.typesystem.specs.Check.{checking}
 use Rattle.semantics.specs.Limits.{Limits, ended, wentWrong, unfinished, run}
 use Rattle.soundness.specs.Results.{Finish, EndsWell, _⊑_, Begins}
+use Rattle.soundness.specs.Portless.{Portless, SameButRegisters}
+use Rattle.soundness.specs.laws.PortLaws.{never-asked}
 use Rattle.soundness.specs.laws.ResultLaws.{Over}
 use Rattle.soundness.specs.laws.Ending.{run-ends}
 use Rattle.soundness.specs.laws.LargerLimits.{run-agrees, agree-same, agree-begins}
@@ -42,6 +44,11 @@ printed-begins p L M tape h = agree-begins (run-agrees p L M tape h)
 -- limit stopped it.
 pub climbs-bounded : (p : Program) (L : Limits) (tape : List ℕ) → run p L tape .climbs ≤ run p L tape .steps * length (p .classes)
 climbs-bounded p L tape = run-climbs p L tape
+
+-- Document 02, (viii): a lesson without `Port` behaves the same for every tape: result, position, steps, climbs, heap words and printed
+-- numbers.
+pub any-tape : (p : Program) → Portless p → (L : Limits) (tape tape′ : List ℕ) → SameButRegisters (run p L tape) (run p L tape′)
+any-tape p w L tape tape′ = never-asked p w L tape tape′
 
 -- The fuel of a run is always enough.
 pub always-ends : (p : Program) (L : Limits) (tape : List ℕ) → run p L tape .ending ≢ unfinished
