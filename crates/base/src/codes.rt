@@ -11,6 +11,8 @@ pub const HEAP_TOO_LONG: u32 = 3;
 
 pub const STRIP_TOO_SHORT: u32 = 4;
 
+pub const REGISTERS_NOT_SIXTEEN: u32 = 62;
+
 // Read.
 pub const SOURCE_TOO_LONG: u32 = 10;
 
@@ -65,6 +67,10 @@ pub const NULL_REFERENCE: u32 = 40;
 pub const INDEX_OUT_OF_RANGE: u32 = 41;
 
 pub const NEGATIVE_SIZE: u32 = 42;
+
+pub const REGISTER_OUT_OF_RANGE: u32 = 63;
+
+pub const VALUE_OUT_OF_RANGE: u32 = 64;
 
 pub const BUDGET_SPENT: u32 = 50;
 

@@ -35,9 +35,10 @@ use Rattle.lookup.specs.laws.ChainLaws.{found-stands}
 use Rattle.lookup.specs.laws.VariableLaws.{typed-some, typed-none}
 use Rattle.lookup.specs.contracts.Answers.{asJudged, asJudged-fine, asJudged-refused, Judges, well, ill}
 use Rattle.lookup.specs.contracts.Shows.{PartAt, Form, aVariable, aNewArray, aNewObject, aNegation, aBinary, anElement, aLength, aCall}
+use Rattle.lookup.specs.contracts.Shows.{aPortGet}
 use Rattle.lookup.specs.contracts.Shows.{aLiteral, aTruth, aThis, formAtom, formCompound, formE, formAt, GoesOn, one-more-argument}
 use Rattle.lookup.specs.contracts.Shows.{shows-literal, shows-truth, shows-variable, shows-this, shows-new-array, shows-new-object}
-use Rattle.lookup.specs.contracts.Shows.{shows-negation, shows-binary, shows-element, shows-length, shows-call}
+use Rattle.lookup.specs.contracts.Shows.{shows-negation, shows-binary, shows-element, shows-length, shows-call, shows-port-get}
 use Rattle.lookup.specs.laws.ShowLaws.{goes-on, ended}
 use Rattle.bodies.specs.declared.scope.Scope.{Scope}
 use Rattle.bodies.specs.contracts.Scoping.{InScope, PartIn, NameTyped}
@@ -266,15 +267,24 @@ module _ {tab : List ℕ} {s : Scope} {first end row : ℕ} where
         go ts G Γ i t (shows-negation {e = e} st x) =
             f .says ts G Γ i e (rw e₄ x) (plain boolean) (plain boolean) (code-plain (code-boolean refl)) (code-plain (code-boolean refl))
 
+    pub expression-get : k ≡ 40 → {part : ℕ} → part ≡ wordAt tab 4 row → SinglePost tab s (row + 1) end part 2048 2048 r
+        → ExpressionPost tab s first end row r
+    unfolding formE formCompound isAtom isName judge
+    expression-get is e₄ f = alone 40 is go
+      where
+        go : NodeJudged tab s aPortGet first end row r
+        go ts G Γ i t (shows-port-get {e = e} st x) =
+            f .says ts G Γ i e (rw e₄ x) (plain int) (plain int) (code-plain (code-int refl)) (code-plain (code-int refl))
+
     pub expression-element : k ≡ 36 → NodePost tab s anElement first end row r → ExpressionPost tab s first end row r
     unfolding formE formCompound isAtom isName
     expression-element is f = alone 36 is (f .says)
 
-    pub expression-binary : {a : Bool} → a ≡ isAtom k → a ≡ false → (k ≡ 14 → ⊥) → (k ≡ 31 → ⊥) → (k ≡ 29 → ⊥) → (k ≡ 36 → ⊥)
-        → NodePost tab s aBinary first end row r → ExpressionPost tab s first end row r
+    pub expression-binary : {a : Bool} → a ≡ isAtom k → a ≡ false → (k ≡ 14 → ⊥) → (k ≡ 31 → ⊥) → (k ≡ 29 → ⊥) → (k ≡ 40 → ⊥)
+        → (k ≡ 36 → ⊥) → NodePost tab s aBinary first end row r → ExpressionPost tab s first end row r
     unfolding formE formCompound
-    expression-binary ea other n₁ n₂ n₃ n₄ f =
-        told (rw (sym ea ∙ other, ne-eqb k 14 n₁, ne-eqb k 31 n₂, ne-eqb k 29 n₃, ne-eqb k 36 n₄)) (f .says)
+    expression-binary ea other n₁ n₂ n₃ n₄ n₅ f =
+        told (rw (sym ea ∙ other, ne-eqb k 14 n₁, ne-eqb k 31 n₂, ne-eqb k 29 n₃, ne-eqb k 40 n₄, ne-eqb k 36 n₅)) (f .says)
 
 -- PARTS THAT MUST FIT
 

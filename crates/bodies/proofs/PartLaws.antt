@@ -110,6 +110,7 @@ module _ (first end row : ℕ) where
         of-element = λ {p} {a} {i} at h. (before first a at (h .1), behind end i at (h .2));
         of-length = λ {p} {e} at h. before first e at (h .1);
         of-call = λ {p} {e} {m} {es} at h. (before first e at (h .1), behind end es at (h .2));
+        of-port-get = λ {p} {e} at h. behind end e at (h .1);
       }
 
   rangesS : BoundsS row (λ (q : Sort). Spans {s = q} first end) (λ (q : Sort). Spans {s = q} (row + 1) end)
@@ -122,6 +123,7 @@ module _ (first end row : ℕ) where
         of-print = λ {p} {e} at h. behind end e at (h .1);
         of-assignment = λ {p} {x} {e} at h. behind end e at (h .1);
         of-element-store = λ {p} {x} {i} {e} at h. (behind end i at (h .1), behind end e at (h .2));
+        of-port-put = λ {p} {n} {e} at h. (behind end n at (h .1), behind end e at (h .2));
       }
 
   -- a list that stands in a row: one member and the rest, in their ranges; so the row is among those of the range

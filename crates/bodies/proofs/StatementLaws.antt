@@ -19,8 +19,9 @@ use Rattle.lookup.specs.declared.answer.Judged.{Judged}
 use Rattle.lookup.specs.declared.answer.Judged.the-variants.{Fine, Refused}
 use Rattle.lookup.specs.contracts.HeldClasses.{wordAt, code-int, code-boolean, code-plain}
 use Rattle.lookup.specs.contracts.Answers.{asJudged, goes-on, stops}
-use Rattle.lookup.specs.contracts.Shows.{Form, aBlock, aConditional, aLoop, aPrint, anAssignment, anElementStore, formS}
+use Rattle.lookup.specs.contracts.Shows.{Form, aBlock, aConditional, aLoop, aPrint, anAssignment, anElementStore, aPortPut, formS}
 use Rattle.lookup.specs.contracts.Shows.{shows-block, shows-conditional, shows-loop, shows-print, shows-assignment, shows-element-store}
+use Rattle.lookup.specs.contracts.Shows.{shows-port-put}
 use Rattle.lookup.specs.contracts.Shows.{GoesOnS, one-more-statement}
 use Rattle.lookup.specs.laws.ShowLaws.{endedS}
 use Rattle.bodies.specs.declared.scope.Scope.{Scope}
@@ -204,16 +205,25 @@ module _ {tab : List ℕ} {s : Scope} {first end row : ℕ} where
         go : StatementJudged tab s aPrint end row r
         go ts G Γ sc t (shows-print {e = e} st x) = f .says ts G Γ sc e (rw e₄ x) (plain int) (code-plain (code-int refl))
 
-    module _ (n₁ : k ≡ 38 → ⊥) (n₂ : k ≡ 10 → ⊥) (n₃ : k ≡ 23 → ⊥) (n₄ : k ≡ 19 → ⊥) {k′ : ℕ}
+    pub statement-put : k ≡ 40 → ValuePost tab s end row 2048 r → StatementPost tab s first end row r
+    unfolding formS judge
+    statement-put is f = alone 40 is go
+      where
+        go : StatementJudged tab s aPortPut end row r
+        go ts G Γ sc t (shows-port-put {n = n} {e = e} st x y) = f .says ts G Γ sc n e x y (plain int) (code-plain (code-int refl))
+
+    module _ (n₁ : k ≡ 38 → ⊥) (n₂ : k ≡ 10 → ⊥) (n₃ : k ≡ 23 → ⊥) (n₄ : k ≡ 19 → ⊥) (n₅ : k ≡ 40 → ⊥) {k′ : ℕ}
         (after : k′ ≡ kindInTable tab (s .tokens) (row + 1)) where
       pub statement-element : k′ ≡ 36 → StatementNodePost tab s anElementStore end row r → StatementPost tab s first end row r
       unfolding formS
-      statement-element is f = told (rw (ne-eqb k 38 n₁, ne-eqb k 10 n₂, ne-eqb k 23 n₃, ne-eqb k 19 n₄, sym after ∙ is)) (f .says)
+      statement-element is f =
+          told (rw (ne-eqb k 38 n₁, ne-eqb k 10 n₂, ne-eqb k 23 n₃, ne-eqb k 19 n₄, ne-eqb k 40 n₅, sym after ∙ is)) (f .says)
 
       pub statement-assignment : (k′ ≡ 36 → ⊥) → StatementNodePost tab s anAssignment end row r → StatementPost tab s first end row r
       unfolding formS
       statement-assignment other f =
-          told (rw (ne-eqb k 38 n₁, ne-eqb k 10 n₂, ne-eqb k 23 n₃, ne-eqb k 19 n₄, sym after, ne-eqb k′ 36 other)) (f .says)
+          told (rw (ne-eqb k 38 n₁, ne-eqb k 10 n₂, ne-eqb k 23 n₃, ne-eqb k 19 n₄, ne-eqb k 40 n₅, sym after, ne-eqb k′ 36 other))
+          (f .says)
 
 -- LISTS
 

@@ -142,6 +142,10 @@ pub fn expression(
         let part = word(table, columns::FIRST, row);
         return single(table, fields, s, row + 1, end, part, BOOLEAN, BOOLEAN);
     }
+    if k == kinds::PORT {
+        let part = word(table, columns::FIRST, row);
+        return single(table, fields, s, row + 1, end, part, INT, INT);
+    }
     if k == kinds::OPEN_BRACKET {
         return element(table, fields, s, first, end, row);
     }

@@ -19,7 +19,7 @@ ghost use Rattle.lookup.specs.contracts.Shows.{aConditional, aLoop, anAssignmen
 ghost use Rattle.bodies.specs.contracts.Scoping.{Judgeable};
 ghost use Rattle.bodies.specs.contracts.StatementPost.{StatementPost, ListPost, StatementNodePost, BranchesPost, ValuePost};
 
-// Index and value of an assignment to an element, which is of type `want`.
+// Index and value of an assignment to an element, which is of type `want`; register and value of `Port.put`.
 fn index_and_value(
     table: &[u32],
     fields: &[u32],
@@ -106,6 +106,9 @@ pub fn single(
     if k == kinds::SYSTEM {
         let part = word(table, columns::FIRST, row);
         return operand(table, fields, s, row + 1, end, part, INT);
+    }
+    if k == kinds::PORT {
+        return index_and_value(table, fields, s, end, row, INT);
     }
     if kind(table, s.tokens, row + 1) == kinds::OPEN_BRACKET {
         return element_store(table, fields, s, end, row);

@@ -37,3 +37,7 @@ pub const STORE_ELEMENT: usize = 16;
 pub const MAKE_OBJECT: usize = 17;
 
 pub const CALL: usize = 18;
+
+pub const READ_REGISTER: usize = 19;
+
+pub const WRITE_REGISTER: usize = 20;

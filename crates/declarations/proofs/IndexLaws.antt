@@ -93,11 +93,12 @@ kept-named lx p (more-named {k = k} m c₆ h) =
 
 -- the number of a name is the row of a name
 name-no-if : {ts : List Token} {c : List ℕ} {number : ℕ} → NameNumber ts c number → kindAt ts number ≡ kIf → ⊥
+unfolding isName
 name-no-if {ts} {c} {number} s e =
     let f = first-named ts c (omega (arith, s .first, s .there)) in
     let at : tokenAt ts number ≡ f .item = ap (tokenAt ts) (sym (s .first)) ∙ getD-get ts (firstNamed ts c) noMore (f .at) in
     let z : isName (kindAt ts number) ≡ true = ap (λ (t : Token). isName (t .kind)) at ∙ f .named in
-    omega (arith, name-kind (kindAt ts number) z, e)
+    name-kind (kindAt ts number) kIf z refl e
 
 -- CLEARING
 

@@ -10,7 +10,7 @@ use lib.Seq.{drop-drop, getD-drop}
 use lib.Dec.{leb}
 use Rattle.device.specs.Device.{Device}
 use Rattle.device.specs.laws.Samples.{samples, withTape, samples-past, samples-seen, samples-end}
-use Rattle.device.specs.contracts.Holding.{deviceOf, CaughtUp, LesserOf}
+use Rattle.device.specs.contracts.Holding.{deviceOf, CaughtUp, Looks, LesserOf}
 use Rattle.device.specs.declared.state.Held.{Held}
 
 pub least-first : {a b : ℕ} → a < b → LesserOf a b a
@@ -32,7 +32,7 @@ module _ (t : List ℕ) (d : Held) (due last : ℕ) (h : d .taken ≤ due) (w : 
   abbrev after : ℕ → List ℕ → Device
   after k r = samples k (withTape r (deviceOf t d))
 
-  pub none-read : {r : Held} → last ≤ d .taken → r ≡ unread d due → CaughtUp t due d r
+  none-read : {r : Held} → last ≤ d .taken → r ≡ unread d due → CaughtUp t due d r
   unfolding samples
   none-read {r} l q = record { taken = ap (λ (x : Held). x .taken) q; is = ap (λ (x : Held). deviceOf t x) q ∙ go (w .one) }
     where
@@ -75,7 +75,7 @@ module _ (t : List ℕ) (d : Held) (due last : ℕ) (h : d .taken ≤ due) (w : 
         ∙ drop-of-length-le t {i = d .taken + suc more} (omega (arith, e, l))
         ∙ sym (drop-of-length-le t {i = due} (omega (arith, e, w .below)))
 
-    pub last-read : {lost : Bool} {b : ℕ} {r : Held} → lost ≡ ((d .lost || d .arrived) || leb 1 more) → b ≡ getD t (last - 1) 0
+    last-read : {lost : Bool} {b : ℕ} {r : Held} → lost ≡ ((d .lost || d .arrived) || leb 1 more) → b ≡ getD t (last - 1) 0
         → r ≡ read d due lost b → CaughtUp t due d r
     last-read {lost} {b} e v q =
         record {
@@ -91,3 +91,13 @@ module _ (t : List ℕ) (d : Held) (due last : ℕ) (h : d .taken ≤ due) (w : 
               (left-over (w .one))
               );
         }
+
+-- where no sample is due that was taken before
+pub looks-none : {t : List ℕ} {d r : Held} {due last : ℕ} → LesserOf due (length t) last → last ≤ d .taken → r ≡ unread d due
+    → Looks t due d r
+looks-none {t} {d} {r} {due} {last} w l q = record { says = λ h. none-read t d due last h w l q }
+
+pub looks-last : {t : List ℕ} {d r : Held} {due last b : ℕ} {lost : Bool} → LesserOf due (length t) last → d .taken < last
+    → lost ≡ ((d .lost || d .arrived) || leb 1 (last - d .taken - 1)) → b ≡ getD t (last - 1) 0 → r ≡ read d due lost b
+    → Looks t due d r
+looks-last {t} {d} {r} {due} {last} w l e v q = record { says = λ h. last-read t d due last h w l e v q }

@@ -11,7 +11,7 @@ use borrow.Author.Tests.{ne-eqb}
 use Rattle.base.specs.Choice.{if_then_else_}
 use Rattle.device.specs.Device as Device
 use Rattle.device.specs.Device.{Device}
-use Rattle.device.specs.contracts.Holding.{deviceOf, registersOf, Becomes}
+use Rattle.device.specs.contracts.Holding.{deviceOf, registersOf, Becomes, ShownIn}
 use Rattle.device.specs.declared.state.Held.{Held}
 
 -- FLAGS
@@ -112,5 +112,8 @@ module _ {l : List ℕ} where
       at j (yes z) q = ap (λ (k : ℕ). getD (set s i v) k 0) z ∙ getD-set-same s i v 0 h ∙ e ∙ ap (λ (k : ℕ). getD l k 0) (sym z)
       at j (no z) q = getD-set-other s i j v 0 z ∙ W .so-far j (omega (arith, q, z))
 
-  pub written-all : {s : List ℕ} {i : ℕ} → Written l s i → length l ≡ 16 → 16 ≤ i → s ≡ l
+  written-all : {s : List ℕ} {i : ℕ} → Written l s i → length l ≡ 16 → 16 ≤ i → s ≡ l
   written-all {s} W n h = ext-getD 0 s l (W .long ∙ sym n) (λ j q. W .so-far j (omega (arith, q, W .long, h)))
+
+pub shown-in : {h : Held} {s : List ℕ} {i : ℕ} → Written (registersOf h) s i → 16 ≤ i → ShownIn h s
+shown-in W b = record { says = λ n. written-all W n b }

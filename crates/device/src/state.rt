@@ -1,13 +1,16 @@
 // The device, held by value; samples are looked after only where a lesson looks at the device, and at the end of a run.
 ghost use mathlib.Core.Path.{_≡_};
-ghost use Prim.Native.Nat.{_≤_, _<_};
+ghost use Prim.Native.Nat.{_/_, _≤_, _<_};
 ghost use mathlib.Core.Bool.{true, _&&_, _||_, not};
 ghost use lib.Dec.{eqb, leb};
 ghost use mathlib.Core.List.{[]};
 ghost use lib.ListN.{getD};
 ghost use Rattle.base.specs.Choice.{if_then_else_};
 ghost use Rattle.device.specs.Device as Device;
-ghost use Rattle.device.specs.contracts.Holding.{deviceOf, registersOf, Rests, Becomes, CaughtUp, LesserOf};
+ghost use Rattle.device.specs.contracts.Holding.{deviceOf, registersOf, Rests, Becomes, Looks, LesserOf};
+
+// How many registers there are.
+pub const REGISTERS: usize = 16;
 
 // Flag bits 0 and 1 of register 0, registers 1 and 2, registers 3 to 15, and how many samples were due so far.
 pub struct Held {
@@ -222,9 +225,8 @@ fn loses(lost: bool, arrived: bool, more: usize) -> bool
 }
 
 // The device after all samples that are due, past the tape's end too.
-pub fn catch_up(tape: &[u8], d: Held, due: usize) -> Held
-    requires { ⌜ d .taken ≤ due ⌝ }
-    ensures { λ r. ⌜ CaughtUp (now (tape .entry)) due d r ⌝ }
+fn sampled(tape: &[u8], d: Held, due: usize) -> Held
+    ensures { λ r. ⌜ Looks (now (tape .entry)) due d r ⌝ }
 {
     let last = least(due, tape.len());
     if last <= d.taken {
@@ -232,4 +234,14 @@ pub fn catch_up(tape: &[u8], d: Held, due: usize) -> Held
     }
     let lost = loses(d.lost, d.arrived, last - d.taken - 1);
     with_reading(d, due, lost, tape[last - 1])
+}
+
+// How many steps lie between two samples.
+const PERIOD: usize = 100;
+
+// A look at the device after so many steps.
+pub fn catch_up(tape: &[u8], d: Held, steps: usize) -> Held
+    ensures { λ r. ⌜ Looks (now (tape .entry)) (steps / Device.period) d r ⌝ }
+{
+    sampled(tape, d, steps / PERIOD)
 }

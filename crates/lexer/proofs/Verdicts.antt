@@ -8,13 +8,14 @@ use mathlib.Core.Path.{_≡_, refl, sym, ap, _∙_, subst}
 use lib.ListN.{length, take, drop, length-drop}
 use lib.Seq.{length-take-le}
 use lib.Dec.{eqb, ltb}
-use borrow.Author.Tests.{lt-ltb, le-ltb, le-leb, lt-leb, eq-eqb, ne-eqb, eqb-false}
+use borrow.Author.Tests.{lt-ltb, le-ltb, eq-eqb, ne-eqb, eqb-false}
 use Rattle.base.specs.Choice.{if_then_else_}
 use Rattle.base.specs.Codes.{tokensMost, nameMost, literalMost, leadingZero, literalTooLarge, nameTooLong, tooManyTokens}
 use Rattle.base.specs.Outcome.{Outcome, accepted, refused, _>>=_}
 use Rattle.lexer.specs.Kinds.{kLiteral, isName}
 use Rattle.lexer.specs.Tokens.{Token, token, decimal, startsWithZero, tooLong, zeroFirst, tooLarge, turn}
 use Rattle.base.specs.laws.Tests.{apart}
+use Rattle.lexer.specs.laws.ItemLaws.{kinds-apart}
 use Rattle.lexer.specs.contracts.Verdicts.{literalOf, numberBeside, verdictOf}
 use Rattle.lexer.specs.contracts.Chains.{Extended, Added}
 use Rattle.lexer.specs.declared.Stored.the-variants.{Refused as Declined, Done}
@@ -33,14 +34,6 @@ verdictBy many name long literal zero large value =
     if literal && large then (λ _. Refused literalTooLarge) else λ _.
     if name then (λ _. Name) else λ _. Plain (if literal then (λ _. value) else λ _. 0)
 
-pub is-name : (k : ℕ) → 0 < k → k < 4 → isName k ≡ true
-unfolding isName
-is-name k l h = let h′ : k ≤ 3 = omega arith in rw (le-leb 1 k l, le-leb k 3 h′)
-
-pub is-no-name : (k : ℕ) → 4 ≤ k → isName k ≡ false
-unfolding isName
-is-no-name k h = let l : 1 ≤ k = omega arith in let h′ : 3 < k = omega arith in rw (le-leb 1 k l, lt-leb k 3 h′)
-
 -- the verdict on a literal without a leading zero
 abbrev pub onLiteral : Literal → Verdict
 onLiteral (Value v) = Plain v
@@ -56,30 +49,34 @@ module _ (n k : ℕ) (t : List ℕ) where
   pub verdict-many : n ≡ 2048 → Refused tooManyTokens ≡ verdictOf n k t
   verdict-many e = sym (by-tests (eq-eqb n 2048 e) refl refl refl refl refl)
 
-  pub verdict-long : n ≢ 2048 → 0 < k → k < 4 → 255 < length t → Refused nameTooLong ≡ verdictOf n k t
-  verdict-long e l h g = sym (by-tests (ne-eqb n 2048 e) (is-name k l h) (lt-ltb 255 (length t) g) refl refl refl)
+  -- b is what the test for a name answers
+  module _ {b : Bool} (few : n ≢ 2048) (q : b ≡ isName k) where
+    pub verdict-long : b ≡ true → 255 < length t → Refused nameTooLong ≡ verdictOf n k t
+    verdict-long y g = sym (by-tests (ne-eqb n 2048 few) (sym q ∙ y) (lt-ltb 255 (length t) g) refl refl refl)
 
-  pub verdict-name : n ≢ 2048 → 0 < k → k < 4 → length t ≤ 255 → Name ≡ verdictOf n k t
-  verdict-name e l h g =
-      sym (by-tests (ne-eqb n 2048 e) (is-name k l h) (le-ltb 255 (length t) g) (ne-eqb k 4 (λ q. omega arith)) refl refl)
+    pub verdict-name : b ≡ true → length t ≤ 255 → Name ≡ verdictOf n k t
+    unfolding isName
+    verdict-name y g =
+        let named = sym q ∙ y in
+        sym (by-tests (ne-eqb n 2048 few) named (le-ltb 255 (length t) g) (kinds-apart isName k kLiteral named refl) refl refl)
 
-  pub verdict-zero : {z : Bool} → n ≢ 2048 → k ≡ 4 → z ≡ startsWithZero t → z ≡ true → Refused leadingZero ≡ verdictOf n k t
-  verdict-zero e l q y = sym (by-tests (ne-eqb n 2048 e) (is-no-name k (omega arith)) refl (eq-eqb k 4 l) (sym q ∙ y) refl)
+    pub verdict-zero : {z : Bool} → b ≡ false → k ≡ 4 → z ≡ startsWithZero t → z ≡ true → Refused leadingZero ≡ verdictOf n k t
+    verdict-zero y l p z = sym (by-tests (ne-eqb n 2048 few) (sym q ∙ y) refl (eq-eqb k 4 l) (sym p ∙ z) refl)
 
-  pub verdict-literal : {z : Bool} {v : Literal} → n ≢ 2048 → k ≡ 4 → z ≡ startsWithZero t → z ≡ false → v ≡ literalOf (decimal 0 t)
-      → onLiteral v ≡ verdictOf n k t
-  verdict-literal e l p y q =
-      ap onLiteral q
-      ∙ on (ltb literalMost (decimal 0 t))
-      ∙ sym (by-tests (ne-eqb n 2048 e) (is-no-name k (omega arith)) refl (eq-eqb k 4 l) (sym p ∙ y) refl)
-    where
-      on : (c : Bool) → onLiteral (if c then (λ _. TooLarge) else λ _. Value (decimal 0 t))
-          ≡ verdictBy false false (ltb nameMost (length t)) true false c (decimal 0 t)
-      on true = refl
-      on false = refl
+    pub verdict-literal : {z : Bool} {v : Literal} → b ≡ false → k ≡ 4 → z ≡ startsWithZero t → z ≡ false → v ≡ literalOf (decimal 0 t)
+        → onLiteral v ≡ verdictOf n k t
+    verdict-literal y l p z r =
+        ap onLiteral r
+        ∙ on (ltb literalMost (decimal 0 t))
+        ∙ sym (by-tests (ne-eqb n 2048 few) (sym q ∙ y) refl (eq-eqb k 4 l) (sym p ∙ z) refl)
+      where
+        on : (c : Bool) → onLiteral (if c then (λ _. TooLarge) else λ _. Value (decimal 0 t))
+            ≡ verdictBy false false (ltb nameMost (length t)) true false c (decimal 0 t)
+        on true = refl
+        on false = refl
 
-  pub verdict-plain : n ≢ 2048 → 4 ≤ k → k ≢ 4 → Plain 0 ≡ verdictOf n k t
-  verdict-plain e l d = sym (by-tests (ne-eqb n 2048 e) (is-no-name k l) refl (ne-eqb k 4 d) refl refl)
+    pub verdict-plain : b ≡ false → k ≢ 4 → Plain 0 ≡ verdictOf n k t
+    verdict-plain y d = sym (by-tests (ne-eqb n 2048 few) (sym q ∙ y) refl (ne-eqb k 4 d) refl refl)
 
 -- ---- a turn goes by the verdict
 

@@ -1,4 +1,7 @@
 // The kinds of tokens, by the numbers of the definition, and 0 past the last token.
+ghost use mathlib.Core.Path.{_≡_};
+ghost use Rattle.lexer.specs.Kinds.{isName};
+
 pub const END: u32 = 0;
 
 pub const NAME: u32 = 1;
@@ -78,3 +81,19 @@ pub const CLOSE_BRACKET: u32 = 37;
 pub const OPEN_BRACE: u32 = 38;
 
 pub const CLOSE_BRACE: u32 = 39;
+
+pub const PORT: u32 = 40;
+
+pub const GET: u32 = 41;
+
+pub const PUT: u32 = 42;
+
+// An identifier, those that the grammar requires among them.
+pub fn is_name(k: u32) -> bool
+    ensures { λ r. ⌜ r ≡ isName k ⌝ }
+{
+    if k <= PRINTLN {
+        return NAME <= k;
+    }
+    GET <= k && k <= PUT
+}

@@ -2,7 +2,7 @@
 use super::kinds;
 use base::codes;
 ghost use mathlib.Core.Path.{_≡_};
-ghost use Prim.Native.Nat.{_-_, _<_};
+ghost use Prim.Native.Nat.{_-_};
 ghost use Rattle.lexer.specs.Tokens.{decimal, startsWithZero};
 ghost use Rattle.lexer.specs.contracts.Verdicts.{literalOf, verdictOf};
 
@@ -60,13 +60,12 @@ fn starts_with_zero(text: &[u8]) -> bool
 
 // The verdict on a token, where `count` tokens stand before it.
 pub fn judge(text: &[u8], count: usize, kind: u32) -> Verdict
-    requires { ⌜ 0 < kind ⌝ }
     ensures { λ r. ⌜ r ≡ verdictOf count kind (now (text .entry)) ⌝ }
 {
     if count == TOKENS_MOST {
         return Verdict::Refused(codes::TOO_MANY_TOKENS);
     }
-    if kind < kinds::LITERAL {
+    if kinds::is_name(kind) {
         if NAME_MOST < text.len() {
             return Verdict::Refused(codes::NAME_TOO_LONG);
         }

@@ -51,11 +51,12 @@ fn kind_among(words: &[u8], kinds: &[u32], text: &[u8]) -> u32
 // The kinds of the words of each length.
 const TWOS: [u32; 1] = [kinds::IF];
 
-const THREES: [u32; 3] = [kinds::INT, kinds::NEW, kinds::OUT];
+const THREES: [u32; 5] = [kinds::INT, kinds::NEW, kinds::OUT, kinds::GET, kinds::PUT];
 
-const FOURS: [u32; 5] = [
+const FOURS: [u32; 6] = [
     kinds::ELSE,
     kinds::MAIN,
+    kinds::PORT,
     kinds::THIS,
     kinds::TRUE,
     kinds::VOID,
@@ -80,8 +81,8 @@ pub fn word_kind(text: &[u8]) -> u32
 {
     match text.len() {
         2 => kind_among(b"if", &TWOS, text),
-        3 => kind_among(b"intnewout", &THREES, text),
-        4 => kind_among(b"elsemainthistruevoid", &FOURS, text),
+        3 => kind_among(b"intnewoutgetput", &THREES, text),
+        4 => kind_among(b"elsemainPortthistruevoid", &FOURS, text),
         5 => kind_among(b"classfalsewhile", &FIVES, text),
         6 => kind_among(b"lengthpublicreturnstaticStringSystem", &SIXES, text),
         7 => kind_among(b"booleanextendsprintln", &SEVENS, text),

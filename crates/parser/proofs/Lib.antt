@@ -5,8 +5,9 @@ pub mod Types
 pub mod Cycles
 pub mod Pieces
 pub mod Expressions
-pub mod Postfix
 pub mod Matched
+pub mod Heads
+pub mod Postfix
 pub mod Statements
 pub mod Variables
 pub mod Methods

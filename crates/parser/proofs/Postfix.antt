@@ -4,39 +4,37 @@ use Prim.Native.Nat.{ℕ, _+_, _*_, _-_, _≤_, _<_}
 use mathlib.Core.Path.{_≡_, refl, sym, ap, _∙_, subst}
 use mathlib.Core.List.{List}
 use mathlib.Core.Logic.{_≢_}
-use mathlib.Core.Bool.{Bool, true, false, _&&_, _||_}
+use mathlib.Core.Bool.{Bool, true, false, _||_}
 use native.Mathlib.Omega.{arith}
-use lib.Dec.{eqb, eqb→eq, leb, leb→le, T}
+use lib.Dec.{eqb, eqb→eq, T}
 use borrow.Author.Tests.{ne-eqb}
 use Rattle.base.specs.Choice.{option}
 use Rattle.base.specs.contracts.Table.{col, put}
+use Rattle.base.specs.laws.Tests.{and-true}
 use Rattle.lexer.specs.Kinds.{isName}
 use Rattle.lexer.specs.Tokens.{Token, decimal}
+use Rattle.lexer.specs.laws.ItemLaws.{kinds-apart}
 use Rattle.parser.specs.declared.answer.Answer.{Answer}
 use Rattle.parser.specs.declared.answer.Answer.the-variants.{At, Bad}
 use Rattle.parser.specs.Tree.{Place, Name, ElementUse, Sort, Sort.arguments, Part, Expression}
 use Rattle.parser.specs.Tree.{Part.literal, Part.truth, Part.variable, Part.this, Part.newArray, Part.newObject, Part.element}
-use Rattle.parser.specs.Tree.{Part.arrayLength, Part.call, Part.noArguments, Part.argument}
+use Rattle.parser.specs.Tree.{Part.arrayLength, Part.call, Part.portGet, Part.noArguments, Part.argument}
 use Rattle.parser.specs.Stream.{tokenAt, kindAt, startAt, placeAt, nameAt, elementAt}
 use Rattle.parser.specs.Parse.{Parsed, ok, bad, bind, expect, elementType, beginsType, anExpression, Mode, operation, postfix, primary, suffixes, argumentList}
-use Rattle.parser.specs.Parse.{someArguments, step, parseAs}
+use Rattle.parser.specs.Parse.{someArguments, getHead, expectAll, step, parseAs}
 use Rattle.parser.specs.contracts.Layout.{absent, rowOf, node, given, store}
 use Rattle.parser.specs.contracts.Post.{kindInTable, TokensIn, met-ok, met-bad, ModePost, RestPost, moreSuffixes, levelAt, isAtom}
-use Rattle.parser.specs.contracts.Post.{startsArray, fuel}
-use Rattle.parser.specs.contracts.Parts.{Follows, ListOf}
-use Rattle.parser.proofs.Pieces.{andToken, regroup, member, then-token, then-bad, then-on, last-member, no-member, more-members}
+use Rattle.parser.specs.contracts.Post.{startsArray, matchedIn, fuel}
+use Rattle.parser.specs.contracts.Parts.{Follows, ListOf, OnePart}
+use Rattle.parser.proofs.Pieces.{andToken, regroup, member, then-token, then-bad, then-on, then-node, last-member, no-member, more-members}
 use Rattle.parser.proofs.Pieces.{of-mode, as-mode}
 use Rattle.parser.proofs.Laws.{plus-two, plus-three, plus-four, there, there-by, tokens-kept, given-node, kind-of, is, is-not}
 use Rattle.parser.proofs.Laws.{passes, at-result, bind-ok, bind-bad, stepped, within-ok, within-more}
 use Rattle.parser.proofs.Expressions.{made}
+use Rattle.parser.proofs.Heads.{head-there, head-bad, head-passed}
 use Rattle.parser.proofs.Types.{ElementRead, element-read, makes-array}
 
--- a conjunction of tests
-both : (a b : Bool) → (a && b) ≡ true → (a ≡ true) × (b ≡ true)
-both true true e = (refl, refl)
-both true false e = absurd (let z : _≡_ {A = ℕ} 0 1 = cc in omega arith)
-both false b e = absurd (let z : _≡_ {A = ℕ} 0 1 = cc in omega arith)
-
+-- a choice of tests that fails
 pub neither : (a b : Bool) → (a || b) ≡ false → (a ≡ false) × (b ≡ false)
 neither true b e = absurd (let z : _≡_ {A = ℕ} 0 1 = cc in omega arith)
 neither false b e = (refl, e)
@@ -65,7 +63,7 @@ module _ (T : List ℕ) (n i k : ℕ) (ek : k ≡ kindInTable T n i) where
 module _ (T : List ℕ) (n i : ℕ) (pre : startsArray T n i ≡ true) where
   -- the element type after `new`
   element-after : {ts : List Token} → TokensIn T n ts → ElementRead ts (i + 1)
-  element-after {ts} h = element-read ts (i + 1) _ (both (eqb (kindAt ts i) 14) _ (makes-array T n i h ∙ pre) .1)
+  element-after {ts} h = element-read ts (i + 1) _ (and-true (eqb (kindAt ts i) 14) _ (makes-array T n i h ∙ pre) .1)
 
   -- what follows the length
   abbrev sized : ℕ → List Token → Expression → ℕ → Parsed Expression
@@ -283,15 +281,6 @@ atom k = go (eqb k 4) refl (eqb k 21) refl (eqb k 9) refl (eqb k 20) refl
     go false _ false _ false _ true e t = a-this (eqb→eq k 20 (subst T (sym e) tt))
     go false _ false _ false _ false _ t = a-name t
 
--- a name is of a small kind
-pub small-name : (k : ℕ) → isName k ≡ true → k ≤ 3
-unfolding isName
-small-name k e = leb→le k 3 (subst T (sym (both (leb 1 k) (leb k 3) e .1)) tt)
-
-this-no-name : isName 20 ≡ false
-unfolding isName
-this-no-name = refl
-
 -- a node of one token, as the definition makes it
 record OneToken (ts : List Token) (P : (s : Sort) → Mode s → ℕ → Parsed (Part s)) (i : ℕ) : Type 0 where
   pub tree : Expression
@@ -300,17 +289,17 @@ record OneToken (ts : List Token) (P : (s : Sort) → Mode s → ℕ → Parsed 
   pub lies : (t : List ℕ) → store tree t ≡ node t i (startAt ts i) 2048 2048
 
 one-token : (ts : List Token) (P : (s : Sort) → Mode s → ℕ → Parsed (Part s)) (i : ℕ) → Atom (kindAt ts i) → OneToken ts P i
-unfolding step store
+unfolding step store isName
 one-token ts P i (a-literal e) =
     record { tree = literal (placeAt ts i i) (decimal 0 (tokenAt ts i .text)); read = rw e refl; row = refl; lies = λ t. refl }
 one-token ts P i (a-true e) = record { tree = truth (placeAt ts i i) true; read = rw e refl; row = refl; lies = λ t. refl }
 one-token ts P i (a-false e) = record { tree = truth (placeAt ts i i) false; read = rw e refl; row = refl; lies = λ t. refl }
-one-token ts P i (a-this e) = record { tree = this (placeAt ts i i); read = rw (e, this-no-name) refl; row = refl; lies = λ t. refl }
+one-token ts P i (a-this e) = record { tree = this (placeAt ts i i); read = rw e refl; row = refl; lies = λ t. refl }
 one-token ts P i (a-name e) =
-    let s = small-name (kindAt ts i) e in
+    let k = kindAt ts i in
     record {
       tree = variable (placeAt ts i i) (tokenAt ts i .text);
-      read = rw (ne-eqb (kindAt ts i) 4 (omega arith), ne-eqb (kindAt ts i) 21 (omega arith), ne-eqb (kindAt ts i) 9 (omega arith), e) refl;
+      read = rw (kinds-apart isName k 4 e refl, kinds-apart isName k 21 e refl, kinds-apart isName k 9 e refl, e) refl;
       row = refl;
       lies = λ t. refl;
     }
@@ -340,10 +329,10 @@ module _ {n i : ℕ} {T : List ℕ} where
             at-result (o .read) (met-ok (o .row) (made T₁ i i 2048 2048 h il eT ∙ sym (o .lies T))));
       }
 
-  pub no-primary : {k : ℕ} {b : Bool} → k ≡ kindInTable T n i → b ≡ isAtom k → b ≡ false → k ≢ 14 → k ≢ 34
+  pub no-primary : {k : ℕ} {b : Bool} → k ≡ kindInTable T n i → b ≡ isAtom k → b ≡ false → k ≢ 14 → k ≢ 34 → k ≢ 40
       → ModePost primary n n i T (Bad i) T
   unfolding step isAtom
-  no-primary {k} {b} ek eb t z z′ =
+  no-primary {k} {b} ek eb t z z′ z″ =
       let q₄ = neither (eqb k 4 || eqb k 21 || eqb k 9 || eqb k 20) (isName k) (sym eb ∙ t) in
       let q₃ = neither (eqb k 4 || eqb k 21 || eqb k 9) (eqb k 20) (q₄ .0) in
       let q₂ = neither (eqb k 4 || eqb k 21) (eqb k 9) (q₃ .0) in
@@ -352,7 +341,7 @@ module _ {n i : ℕ} {T : List ℕ} where
         kept = refl;
         within = tt;
         says = λ ts h. stepped primary ts i (fuel primary n i) (λ f enough.
-            rw (kind-of h i ek, q₁ .0, q₁ .1, q₂ .1, q₄ .1, q₃ .1, ne-eqb k 14 z, ne-eqb k 34 z′) met-bad);
+            rw (kind-of h i ek, q₁ .0, q₁ .1, q₂ .1, q₄ .1, q₃ .1, ne-eqb k 14 z, ne-eqb k 34 z′, ne-eqb k 40 z″) met-bad);
       }
 
   -- `new C()`
@@ -440,6 +429,34 @@ module _ {n i : ℕ} {T : List ℕ} where
           within = tt;
           says = λ ts h. stepped primary ts i (fuel primary n i) (λ f enough. rw (is h i refl z) (bind-bad _ e (p .says ts h f (omega arith))));
         }
+
+-- `Port.get(e)`
+module _ (i f : ℕ) (ts : List Token) where
+  -- after what is got, and after `Port.get(`
+  abbrev got : Expression → ℕ → Parsed Expression
+  got e j = ok (portGet (placeAt ts i i) e) j
+
+  abbrev getting : ℕ → Parsed Expression
+  getting j = bind (parseAs f ts anExpression j) λ e j. expect ts 35 j (got e)
+
+  is-getting : kindAt ts i ≡ 40 → step ts (λ s m j. parseAs f ts m j) primary i ≡ expectAll ts getHead (i + 1) getting
+  unfolding step isName
+  is-getting e = rw e refl
+
+module _ {n i m : ℕ} {T : List ℕ} (z : kindInTable T n i ≡ 40) (em : m ≡ matchedIn T n (i + 1) getHead) where
+  pub get-head : m < 3 → ModePost primary n n i T (Bad (i + 1 + m)) T
+  get-head lt = head-bad primary getHead z em (getting i) (is-getting i) lt
+
+  pub get-ok : {T₁ T₂ : List ℕ} {r₁ r₂ r : Answer} → n ≤ 2048 → 3 ≤ m → ModePost (operation (levelAt 0)) n n (i + 4) T r₁ T₁
+      → Follows T₁ n 35 r₁ r₂ → OnePart i T₁ r₂ r T₂ → ModePost primary n n i T r T₂
+  unfolding levelAt store
+  get-ok few l p s w =
+      let le = head-there T n i 40 m getHead (omega arith) (omega arith) z em in
+      as-mode (omega arith) (omega arith)
+      (λ f ts h. head-passed primary getHead z em (getting i) (is-getting i) l f ts h
+      ∙ ap (getting i f ts) (omega arith) ∙ regroup ts 35 (got i f ts) (parseAs f ts anExpression (i + 4)))
+      (then-node (λ ts a. portGet (placeAt ts i i) a) (λ ts a t. (refl, refl)) few (omega arith)
+      (then-token few (of-mode (16 * (n - (i + 1)) + 15) (omega arith) p) (omega arith) s) w)
 
 -- ARGUMENTS
 is-argument : (e : Expression) (es : Part arguments) (t : List ℕ)

@@ -6,18 +6,19 @@ use mathlib.Core.Logic.{_≢_}
 use mathlib.Core.Bool.{Bool, true, false}
 use native.Mathlib.Omega.{arith}
 use lib.Dec.{eqb}
-use borrow.Author.Tests.{ne-eqb}
 use Rattle.base.specs.Choice.{if_then_else_}
 use Rattle.base.specs.contracts.Table.{col, put}
 use Rattle.lexer.specs.Kinds.{isName}
 use Rattle.lexer.specs.Tokens.{Token}
+use Rattle.lexer.specs.laws.ItemLaws.{kinds-apart}
 use Rattle.parser.specs.declared.answer.Answer.{Answer}
 use Rattle.parser.specs.declared.answer.Answer.the-variants.{At, Bad}
 use Rattle.parser.specs.Tree.{Place, Sort, Sort.expression, Sort.statement, Part, Expression, Statement}
-use Rattle.parser.specs.Tree.{Part.block, Part.conditional, Part.loop, Part.print, Part.assign, Part.assignElement, Part.sequence}
+use Rattle.parser.specs.Tree.{Part.block, Part.conditional, Part.loop, Part.print, Part.assign, Part.assignElement, Part.portPut}
+use Rattle.parser.specs.Tree.{Part.sequence}
 use Rattle.parser.specs.Stream.{tokenAt, kindAt, placeAt}
 use Rattle.parser.specs.Parse.{Parsed, ok, bad, bind, expect, Mode, operation, aStatement, statementList, anExpression}
-use Rattle.parser.specs.Parse.{beginsStatement, printHead, printEnd, expectAll, assignFrom, assignElementFrom, branchesFrom}
+use Rattle.parser.specs.Parse.{beginsStatement, printHead, callEnd, putHead, expectAll, assignFrom, assignElementFrom, branchesFrom}
 use Rattle.parser.specs.Parse.{repeatedFrom, step, parseAs}
 use Rattle.parser.specs.contracts.Layout.{rowOf, node, given, store}
 use Rattle.parser.specs.contracts.Post.{kindInTable, TokensIn, part, met-ok, met-bad, ModePost, ListPost, BranchesPost, levelAt}
@@ -28,8 +29,7 @@ use Rattle.parser.proofs.Laws.{stepped, within-ok, within-more}
 use Rattle.parser.proofs.Pieces.{andToken, regroup, regroup-two, bind-same, then-token, then-bad, then-on, then-list, then-node}
 use Rattle.parser.proofs.Pieces.{then-second, of-mode, as-mode, of-list, as-list, as-piece}
 use Rattle.parser.proofs.Expressions.{made}
-use Rattle.parser.proofs.Postfix.{small-name}
-use Rattle.parser.proofs.Matched.{matched-there, all-matched, not-matched}
+use Rattle.parser.proofs.Heads.{head-there, head-bad, head-passed}
 
 -- enough fuel for what is read after token i
 abbrev after : (n i : ℕ) → ℕ
@@ -189,43 +189,31 @@ module _ {n i test j : ℕ} {T T₁ : List ℕ} {r₁ r₂ : Answer} (few : n �
         }
 
 -- PRINTING
-module _ (ts : List Token) (P : (s : Sort) → Mode s → ℕ → Parsed (Part s)) (i : ℕ) where
+module _ (i f : ℕ) (ts : List Token) where
   -- after what is printed, and after `System.out.println(`
   abbrev printed : Expression → ℕ → Parsed Statement
   printed e j = ok (print (placeAt ts i i) e) j
 
   abbrev printing : ℕ → Parsed Statement
-  printing j = bind (P expression anExpression j) λ e j. expectAll ts printEnd j (printed e)
+  printing j = bind (parseAs f ts anExpression j) λ e j. expectAll ts callEnd j (printed e)
 
-  is-printing : kindAt ts i ≡ 19 → step ts P aStatement i ≡ expectAll ts printHead (i + 1) printing
+  is-printing : kindAt ts i ≡ 19 → step ts (λ s m j. parseAs f ts m j) aStatement i ≡ expectAll ts printHead (i + 1) printing
   unfolding step
   is-printing e = rw e refl
 
--- a head that matches is there
-pub head-there : (T : List ℕ) (n i m : ℕ) → kindInTable T n i ≡ 19 → m ≡ matchedIn T n (i + 1) printHead → i + 1 + m ≤ n
-head-there T n i m z em =
-    let il = there T n i _ 19 refl z (omega arith) in
-    omega (arith, matched-there T n (i + 1) printHead (omega arith) (omega arith))
-
 module _ {n i m : ℕ} {T : List ℕ} (z : kindInTable T n i ≡ 19) (em : m ≡ matchedIn T n (i + 1) printHead) where
   pub print-head : m < 5 → ModePost aStatement n n i T (Bad (i + 1 + m)) T
-  print-head lt =
-      record {
-        kept = refl;
-        within = tt;
-        says = λ ts h. stepped aStatement ts i (fuel aStatement n i) (λ f enough.
-            at-result (is-printing ts _ i (is h i refl z) ∙ not-matched h (i + 1) printHead (printing ts (λ s m j. parseAs f ts m j) i) (omega arith) ∙ ap bad (omega arith)) met-bad);
-      }
+  print-head lt = head-bad aStatement printHead z em (printing i) (is-printing i) lt
 
   pub print-ok : {T₁ T₂ : List ℕ} {r₁ r₂ r₃ r : Answer} → n ≤ 2048 → 5 ≤ m → ModePost (operation (levelAt 0)) n n (i + 6) T r₁ T₁
       → Follows T₁ n 35 r₁ r₂
       → Follows T₁ n 33 r₂ r₃ → OnePart i T₁ r₃ r T₂ → ModePost aStatement n n i T r T₂
   unfolding levelAt store
   print-ok few l p s s₂ w =
-      let le = head-there T n i m z em in
+      let le = head-there T n i 19 m printHead (omega arith) (omega arith) z em in
       as-mode (omega arith) (omega arith)
-      (λ f ts h. is-printing ts _ i (is h i refl z) ∙ all-matched h (i + 1) printHead (printing ts (λ s m j. parseAs f ts m j) i) (omega arith)
-      ∙ ap (printing ts (λ s m j. parseAs f ts m j) i) (omega arith) ∙ regroup-two ts 35 33 (printed ts (λ s m j. parseAs f ts m j) i) (parseAs f ts anExpression (i + 6)))
+      (λ f ts h. head-passed aStatement printHead z em (printing i) (is-printing i) l f ts h
+      ∙ ap (printing i f ts) (omega arith) ∙ regroup-two ts 35 33 (printed i f ts) (parseAs f ts anExpression (i + 6)))
       (then-node (λ ts a. print (placeAt ts i i) a) (λ ts a t. (refl, refl)) few (omega arith)
       (then-token few (then-token few (of-mode (after n i) (omega arith) p) (omega arith) s) (omega arith) s₂) w)
 
@@ -233,17 +221,18 @@ module _ {n i m : ℕ} {T : List ℕ} (z : kindInTable T n i ≡ 19) (em : m ≡
 
 -- a name begins an assignment, and what follows tells which
 module _ (ts : List Token) (P : (s : Sort) → Mode s → ℕ → Parsed (Part s)) (i : ℕ) (t : isName (kindAt ts i) ≡ true) where
+  other : (q : ℕ) → isName q ≡ false → eqb (kindAt ts i) q ≡ false
+  other q n = kinds-apart isName (kindAt ts i) q t n
+
   is-assignment : eqb (kindAt ts (i + 1)) 36 ≡ false → step ts P aStatement i ≡ assignFrom ts P i
-  unfolding step
+  unfolding step isName
   is-assignment e =
-      let s = small-name (kindAt ts i) t in
-      rw (ne-eqb (kindAt ts i) 38 (omega arith), ne-eqb (kindAt ts i) 10 (omega arith), ne-eqb (kindAt ts i) 23 (omega arith), ne-eqb (kindAt ts i) 19 (omega arith), t, e) refl
+      rw (other 38 refl, other 10 refl, other 23 refl, other 19 refl, other 40 refl, t, e) refl
 
   is-element-assignment : kindAt ts (i + 1) ≡ 36 → step ts P aStatement i ≡ assignElementFrom ts P i
-  unfolding step
+  unfolding step isName
   is-element-assignment e =
-      let s = small-name (kindAt ts i) t in
-      rw (ne-eqb (kindAt ts i) 38 (omega arith), ne-eqb (kindAt ts i) 10 (omega arith), ne-eqb (kindAt ts i) 23 (omega arith), ne-eqb (kindAt ts i) 19 (omega arith), t, e) refl
+      rw (other 38 refl, other 10 refl, other 23 refl, other 19 refl, other 40 refl, t, e) refl
 
 -- what a name's token is
 of-name : {T : List ℕ} {n : ℕ} {ts : List Token} (h : TokensIn T n ts) (i : ℕ) → isName (kindInTable T n i) ≡ true
@@ -312,15 +301,72 @@ module _ {n i : ℕ} {T T₁ : List ℕ} {r₁ r₂ r₃ : Answer} (few : n ≤ 
       (λ f ts j. andToken ts 33 (parseAs f ts anExpression j)) (omega arith) (omega arith) (omega arith)
       (then-token few (of-mode (after n i) (omega arith) q) (omega arith) s₃) w₃)
 
+-- `Port.put(e, e);`
+module _ (i f : ℕ) (ts : List Token) where
+  -- after both parts, after the first and its comma, and after `Port.put(`
+  abbrev putBoth : Expression → Expression → ℕ → Parsed Statement
+  putBoth a e j = ok (portPut (placeAt ts i i) a e) j
+
+  abbrev putting : Expression → ℕ → Parsed Statement
+  putting a j = bind (parseAs f ts anExpression j) λ e j. expectAll ts callEnd j (putBoth a e)
+
+  abbrev registerPart : Parsed Expression
+  registerPart = andToken ts 32 (parseAs f ts anExpression (i + 4))
+
+  abbrev puttingTo : ℕ → Parsed Statement
+  puttingTo j = bind (parseAs f ts anExpression j) λ a j. expect ts 32 j (putting a)
+
+  is-putting : kindAt ts i ≡ 40 → step ts (λ s m j. parseAs f ts m j) aStatement i ≡ expectAll ts putHead (i + 1) puttingTo
+  unfolding step
+  is-putting e = rw e refl
+
+module _ {n i m : ℕ} {T : List ℕ} (z : kindInTable T n i ≡ 40) (em : m ≡ matchedIn T n (i + 1) putHead) where
+  pub put-head : m < 3 → ModePost aStatement n n i T (Bad (i + 1 + m)) T
+  put-head lt = head-bad aStatement putHead z em (puttingTo i) (is-putting i) lt
+
+module _ (n i : ℕ) {T T₁ : List ℕ} {r₁ r₂ : Answer} (few : n ≤ 2048) where
+  register-part : ModePost (operation (levelAt 0)) n n (i + 4) T r₁ T₁ → Follows T₁ n 32 r₁ r₂
+      → PiecePost (part expression) (registerPart i) (after n i) (i + 4 + 1 + 1) n n T r₂ T₁
+  unfolding levelAt
+  register-part p s = then-token few (of-mode (after n i) (omega arith) p) (omega arith) s
+
+module _ (n i : ℕ) {m : ℕ} {T : List ℕ} where
+  as-put : kindInTable T n i ≡ 40 → m ≡ matchedIn T n (i + 1) putHead → 3 ≤ m → (f : ℕ) (ts : List Token) → TokensIn T n ts
+      → step ts (λ s m j. parseAs f ts m j) aStatement i ≡ bind (registerPart i f ts) (putting i f ts)
+  as-put z em l f ts h =
+      head-passed aStatement putHead z em (puttingTo i) (is-putting i) l f ts h
+      ∙ ap (puttingTo i f ts) (omega arith) ∙ regroup ts 32 (putting i f ts) (parseAs f ts anExpression (i + 4))
+
+module _ {n i m : ℕ} {T T₁ : List ℕ} {r₁ r₂ : Answer} (few : n ≤ 2048) (z : kindInTable T n i ≡ 40) (em : m ≡ matchedIn T n (i + 1) putHead)
+    (l : 3 ≤ m) (p : ModePost (operation (levelAt 0)) n n (i + 4) T r₁ T₁) (s : Follows T₁ n 32 r₁ r₂) where
+  pub register-bad : {y : ℕ} → r₂ ≡ Bad y → ModePost aStatement n n i T (Bad y) T₁
+  register-bad e =
+      let le = head-there T n i 40 m putHead (omega arith) (omega arith) z em in
+      as-mode (omega arith) (omega arith) (as-put n i z em l) (then-bad few (register-part n i few p s) (i + 1) n (putting i) e)
+
+  pub put-ok : {x j : ℕ} {T₂ T₃ : List ℕ} {r₃ r₄ r₅ r : Answer} → r₂ ≡ At x j → ModePost (operation (levelAt 0)) n n j T₁ r₃ T₂
+      → Follows T₂ n 35 r₃ r₄
+      → Follows T₂ n 33 r₄ r₅ → TwoParts i i x T₂ r₅ r T₃ → ModePost aStatement n n i T r T₃
+  unfolding levelAt store
+  put-ok e q s₂ s₃ w₃ =
+      let le = head-there T n i 40 m putHead (omega arith) (omega arith) z em in
+      let w = within-ok e (register-part n i few p s .within) in
+      as-mode (omega arith) (omega arith)
+      (λ f ts h. as-put n i z em l f ts h
+      ∙ bind-same (λ a j. regroup-two ts 35 33 (putBoth i f ts a) (parseAs f ts anExpression j)) (registerPart i f ts))
+      (then-second few (register-part n i few p s) e (λ ts a c. portPut (placeAt ts i i) a c) (λ ts a c t. (refl, refl))
+      (λ f ts j. andToken ts 33 (andToken ts 35 (parseAs f ts anExpression j))) (omega arith) (omega arith) (omega arith)
+      (then-token few (then-token few (of-mode (after n i) (omega arith) q) (omega arith) s₂) (omega arith) s₃) w₃)
+
 -- NO STATEMENT
-pub no-statement : {n i k : ℕ} {T : List ℕ} {b : Bool} → k ≡ kindInTable T n i → k ≢ 38 → k ≢ 10 → k ≢ 23 → k ≢ 19 → b ≡ isName k
-    → b ≡ false
+pub no-statement : {n i k : ℕ} {T : List ℕ} {b : Bool} → k ≡ kindInTable T n i → k ≢ 38 → k ≢ 10 → k ≢ 23 → k ≢ 19 → k ≢ 40
+    → b ≡ isName k → b ≡ false
     → ModePost aStatement n n i T (Bad i) T
 unfolding step
-no-statement {i = i} ek z₁ z₂ z₃ z₄ eb t =
+no-statement {i = i} ek z₁ z₂ z₃ z₄ z₅ eb t =
     record {
       kept = refl;
       within = tt;
       says = λ ts h. stepped aStatement ts i _ (λ f enough.
-          rw (is-not h i ek z₁, is-not h i ek z₂, is-not h i ek z₃, is-not h i ek z₄, passes h isName i ek (sym eb ∙ t)) met-bad);
+          rw (is-not h i ek z₁, is-not h i ek z₂, is-not h i ek z₃, is-not h i ek z₄, is-not h i ek z₅, passes h isName i ek (sym eb ∙ t)) met-bad);
     }

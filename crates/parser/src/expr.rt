@@ -4,23 +4,26 @@ use crate::answer::Answer;
 use crate::columns;
 use crate::kinds::begins_type;
 use crate::kinds::is_atom;
-use crate::kinds::is_name;
 use crate::kinds::is_operator;
 use crate::parts::followed;
 use crate::parts::linked;
 use crate::parts::one_part;
 use crate::table::kind;
 use crate::table::link;
+use crate::table::member_head;
 use crate::table::node;
 use lexer::kinds::CLOSE;
 use lexer::kinds::CLOSE_BRACKET;
 use lexer::kinds::COMMA;
 use lexer::kinds::DOT;
+use lexer::kinds::GET;
 use lexer::kinds::LENGTH;
 use lexer::kinds::NEW;
 use lexer::kinds::NOT;
 use lexer::kinds::OPEN;
 use lexer::kinds::OPEN_BRACKET;
+use lexer::kinds::PORT;
+use lexer::kinds::is_name;
 ghost use mathlib.Core.Path.{_≡_};
 ghost use mathlib.Core.Bool.{true};
 ghost use Prim.Native.Nat.{_+_, _<_, _≤_};
@@ -234,7 +237,7 @@ fn call(table: &mut [u32], n: usize, indexable: bool, first: usize, left: usize,
     Answer::Bad(i + 1)
 }
 
-// A literal, a truth value, a name, `this`, `new C()` or an expression in parentheses.
+// A literal, a truth value, a name, `this`, `new C()`, an expression in parentheses or `Port.get(e)`.
 fn primary(table: &mut [u32], n: usize, i: usize) -> Answer
     requires { ⌜ Parsable (now table) n i ⌝ }
     ensures { λ r. ⌜ ModePost Parse.primary n n i (now (table .entry)) r (now (table .exit)) ⌝ }
@@ -249,6 +252,9 @@ fn primary(table: &mut [u32], n: usize, i: usize) -> Answer
     }
     if k == OPEN {
         return parentheses(table, n, i);
+    }
+    if k == PORT {
+        return port_get(table, n, i);
     }
     Answer::Bad(i)
 }
@@ -286,6 +292,20 @@ fn parentheses(table: &mut [u32], n: usize, i: usize) -> Answer
         }
         Answer::Bad(at) => Answer::Bad(at),
     }
+}
+
+// `Port.get(e)`
+fn port_get(table: &mut [u32], n: usize, i: usize) -> Answer
+    requires { ⌜ Parsable (now table) n i × (kindInTable (now table) n i ≡ 40) ⌝ }
+    ensures { λ r. ⌜ ModePost Parse.primary n n i (now (table .entry)) r (now (table .exit)) ⌝ }
+{
+    let m = member_head(table, n, i, GET);
+    if m < 3 {
+        return Answer::Bad(i + 1 + m);
+    }
+    let a = operation(table, n, 0, i + 4);
+    let b = followed(table, n, a, CLOSE);
+    one_part(table, i, b)
 }
 
 // The arguments of a call, with the `)` that ends them.

@@ -3,19 +3,20 @@ use crate::answer::Answer;
 use crate::columns;
 use crate::expr::operation;
 use crate::kinds::begins_statement;
-use crate::kinds::is_name;
 use crate::parts::followed;
 use crate::parts::linked;
 use crate::parts::one_part;
 use crate::parts::two_parts;
 use crate::table::kind;
 use crate::table::matched;
+use crate::table::member_head;
 use crate::table::node;
 use crate::table::third;
 use lexer::kinds::ASSIGN;
 use lexer::kinds::CLOSE;
 use lexer::kinds::CLOSE_BRACE;
 use lexer::kinds::CLOSE_BRACKET;
+use lexer::kinds::COMMA;
 use lexer::kinds::DOT;
 use lexer::kinds::ELSE;
 use lexer::kinds::IF;
@@ -23,10 +24,13 @@ use lexer::kinds::OPEN;
 use lexer::kinds::OPEN_BRACE;
 use lexer::kinds::OPEN_BRACKET;
 use lexer::kinds::OUT;
+use lexer::kinds::PORT;
 use lexer::kinds::PRINTLN;
+use lexer::kinds::PUT;
 use lexer::kinds::SEMICOLON;
 use lexer::kinds::SYSTEM;
 use lexer::kinds::WHILE;
+use lexer::kinds::is_name;
 ghost use mathlib.Core.Path.{_≡_};
 ghost use mathlib.Core.Bool.{true};
 ghost use Prim.Native.Nat.{_+_, _<_};
@@ -52,6 +56,9 @@ pub fn single(table: &mut [u32], n: usize, i: usize) -> Answer
     }
     if k == SYSTEM {
         return print(table, n, i);
+    }
+    if k == PORT {
+        return port_put(table, n, i);
     }
     if is_name(k) {
         return assignment(table, n, i);
@@ -197,6 +204,28 @@ fn assign_element(table: &mut [u32], n: usize, i: usize) -> Answer
             let d = operation(table, n, 0, j);
             let e = followed(table, n, d, SEMICOLON);
             two_parts(table, i, i, index, e)
+        }
+        Answer::Bad(at) => Answer::Bad(at),
+    }
+}
+
+// `Port.put(e, e);`
+fn port_put(table: &mut [u32], n: usize, i: usize) -> Answer
+    requires { ⌜ Parsable (now table) n i × (kindInTable (now table) n i ≡ 40) ⌝ }
+    ensures { λ r. ⌜ ModePost aStatement n n i (now (table .entry)) r (now (table .exit)) ⌝ }
+{
+    let m = member_head(table, n, i, PUT);
+    if m < 3 {
+        return Answer::Bad(i + 1 + m);
+    }
+    let a = operation(table, n, 0, i + 4);
+    let b = followed(table, n, a, COMMA);
+    match b {
+        Answer::At(register, j) => {
+            let c = operation(table, n, 0, j);
+            let d = followed(table, n, c, CLOSE);
+            let e = followed(table, n, d, SEMICOLON);
+            two_parts(table, i, i, register, e)
         }
         Answer::Bad(at) => Answer::Bad(at),
     }

@@ -8,8 +8,8 @@ use native.Mathlib.Decide.{decLt}
 use borrow.Author.Tests.{lt-ltb, le-ltb}
 use Rattle.base.specs.Codes.{depthMost}
 use Rattle.parser.specs.Tree.{Place, Sort, Part}
-use Rattle.parser.specs.Tree.{Part.literal, Part.truth, Part.variable, Part.this, Part.newArray, Part.newObject, Part.negation, Part.binary, Part.element, Part.arrayLength, Part.call, Part.noArguments, Part.argument}
-use Rattle.parser.specs.Tree.{Part.block, Part.conditional, Part.loop, Part.print, Part.assign, Part.assignElement, Part.noStatements, Part.sequence}
+use Rattle.parser.specs.Tree.{Part.literal, Part.truth, Part.variable, Part.this, Part.newArray, Part.newObject, Part.negation, Part.binary, Part.element, Part.arrayLength, Part.call, Part.portGet, Part.noArguments, Part.argument}
+use Rattle.parser.specs.Tree.{Part.block, Part.conditional, Part.loop, Part.print, Part.assign, Part.assignElement, Part.portPut, Part.noStatements, Part.sequence}
 use Rattle.parser.specs.Measure.{least, deepHere, deep}
 use Rattle.reader.specs.contracts.WalkPost.{Ordered, nowhere, countMost, FoundPlace, WalkAnswers}
 use Rattle.reader.specs.declared.walk.Walked.{Walked}
@@ -98,6 +98,7 @@ not-before d (element p a i) low h =
 not-before d (arrayLength p a) low h = with-parts d p low (h .0) (not-before (d + 1) a (p .start) (h .1))
 not-before d (call p e m es) low h =
     with-parts d p low (h .0) (both (not-before (d + 1) e (p .start) (h .1)) (not-before (d + 1) es (p .start) (h .2)))
+not-before d (portGet p e) low h = with-parts d p low (h .0) (not-before (d + 1) e (p .start) (h .1))
 not-before d noArguments low h = nowhere-before
 not-before d (argument e es) low h = both (not-before d e low (h .1)) (not-before d es low (h .2))
 not-before d (block p ss) low h = with-parts d p low (h .0) (not-before (d + 1) ss (p .start) (h .1))
@@ -111,6 +112,8 @@ not-before d (print p e) low h = with-parts d p low (h .0) (not-before (d + 1) e
 not-before d (assign p x e) low h = with-parts d p low (h .0) (not-before (d + 1) e (p .start) (h .1))
 not-before d (assignElement p x i e) low h =
     with-parts d p low (h .0) (both (not-before (d + 1) i (p .start) (h .1)) (not-before (d + 1) e (p .start) (h .2)))
+not-before d (portPut p n e) low h =
+    with-parts d p low (h .0) (both (not-before (d + 1) n (p .start) (h .1)) (not-before (d + 1) e (p .start) (h .2)))
 not-before d noStatements low h = nowhere-before
 not-before d (sequence s ss) low h = both (not-before d s low (h .1)) (not-before d ss low (h .2))
 

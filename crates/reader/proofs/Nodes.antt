@@ -13,8 +13,8 @@ use Rattle.base.specs.contracts.Table.{col}
 use Rattle.lexer.specs.Kinds.{kDot, kIf, kOpenBrace, isName}
 use Rattle.lexer.specs.Tokens.{Token}
 use Rattle.parser.specs.Tree.{Place, Operator, Operator.and, Operator.less, Operator.plus, Operator.minus, Operator.times, Sort, Sort.expression, Sort.arguments, Sort.statement, Part}
-use Rattle.parser.specs.Tree.{Part.literal, Part.truth, Part.variable, Part.this, Part.newArray, Part.newObject, Part.negation, Part.binary, Part.element, Part.arrayLength, Part.call, Part.noArguments, Part.argument}
-use Rattle.parser.specs.Tree.{Part.block, Part.conditional, Part.loop, Part.print, Part.assign, Part.assignElement, Part.noStatements, Part.sequence}
+use Rattle.parser.specs.Tree.{Part.literal, Part.truth, Part.variable, Part.this, Part.newArray, Part.newObject, Part.negation, Part.binary, Part.element, Part.arrayLength, Part.call, Part.portGet, Part.noArguments, Part.argument}
+use Rattle.parser.specs.Tree.{Part.block, Part.conditional, Part.loop, Part.print, Part.assign, Part.assignElement, Part.portPut, Part.noStatements, Part.sequence}
 use Rattle.parser.specs.Stream.{kindAt}
 use Rattle.parser.specs.contracts.Layout.{absent, rowOf}
 use Rattle.parser.specs.Measure.{nodes, least, deepHere, deep}
@@ -157,6 +157,8 @@ module _ {tab : List ℕ} {ts : List Token} where
   apart (call p x f es) low e h m o =
       two (call p x f es) p x es refl (h .0) (known kIf (m .0 .is))
       (sound (known kOpenBrace (m .0 .is)) (h .1) (m .3) (o .1)) (sound (known kDot (m .0 .is)) (h .2) (m .4) (o .2)) (λ d. refl) (omega arith)
+  apart (portGet p x) low e h m o =
+      one (portGet p x) p x refl (h .0) (known kIf (m .0 .is)) (sound (known kOpenBrace (m .0 .is)) (h .1) (m .1) (o .1)) (λ d. refl) refl
   apart noArguments low e h m o = absurd (true-false e)
   apart (argument x es) low e h m o = absurd (true-false e)
   apart (block p ss) low e h m o =
@@ -193,5 +195,8 @@ module _ {tab : List ℕ} {ts : List Token} where
       two (assignElement p x i v) p i v refl (h .0) (name-kinds _ (m .0 .named) .0)
       (sound (name-kinds _ (m .0 .named) .1) (h .1) (m .2) (o .1))
       (sound (name-kinds _ (m .0 .named) .2) (h .2) (m .3) (o .2)) (λ d. refl) (omega arith)
+  apart (portPut p x v) low e h m o =
+      two (portPut p x v) p x v refl (h .0) (known kIf (m .0 .is))
+      (sound (known kOpenBrace (m .0 .is)) (h .1) (m .1) (o .1)) (sound (known kDot (m .0 .is)) (h .2) (m .2) (o .2)) (λ d. refl) (omega arith)
   apart noStatements low e h m o = absurd (true-false e)
   apart (sequence s ss) low e h m o = absurd (true-false e)

@@ -15,8 +15,8 @@ use Rattle.base.specs.Codes.{depthMost}
 use Rattle.lexer.specs.Kinds.{kDot, kIf, kOpenBrace}
 use Rattle.lexer.specs.Tokens.{Token}
 use Rattle.parser.specs.Tree.{Sort, Sort.expression, Sort.arguments, Sort.statement, Sort.statements, Part}
-use Rattle.parser.specs.Tree.{Part.literal, Part.truth, Part.variable, Part.this, Part.newArray, Part.newObject, Part.negation, Part.binary, Part.element, Part.arrayLength, Part.call, Part.noArguments, Part.argument}
-use Rattle.parser.specs.Tree.{Part.block, Part.conditional, Part.loop, Part.print, Part.assign, Part.assignElement, Part.noStatements, Part.sequence}
+use Rattle.parser.specs.Tree.{Part.literal, Part.truth, Part.variable, Part.this, Part.newArray, Part.newObject, Part.negation, Part.binary, Part.element, Part.arrayLength, Part.call, Part.portGet, Part.noArguments, Part.argument}
+use Rattle.parser.specs.Tree.{Part.block, Part.conditional, Part.loop, Part.print, Part.assign, Part.assignElement, Part.portPut, Part.noStatements, Part.sequence}
 use Rattle.parser.specs.Stream.{kindAt}
 use Rattle.parser.specs.contracts.Layout.{absent, rowOf}
 use Rattle.parser.specs.Measure.{nodes, least, deep}
@@ -46,6 +46,7 @@ row-or-empty ts (binary p o l r) m = inl (m .0 .there)
 row-or-empty ts (element p a i) m = inl (m .0 .there)
 row-or-empty ts (arrayLength p a) m = inl (m .0 .there)
 row-or-empty ts (call p e f es) m = inl (m .0 .there)
+row-or-empty ts (portGet p e) m = inl (m .0 .there)
 row-or-empty ts noArguments m = inr (refl, refl, λ d. refl)
 row-or-empty ts (argument e es) m = ⊎-elim inl (λ z. absurd (true-false (sym (z .0)))) (row-or-empty ts e (m .0))
 row-or-empty ts (block p ss) m = inl (m .0 .there)
@@ -54,6 +55,7 @@ row-or-empty ts (loop p e s) m = inl (m .0 .there)
 row-or-empty ts (print p e) m = inl (m .0 .there)
 row-or-empty ts (assign p x e) m = inl (m .0 .there)
 row-or-empty ts (assignElement p x i e) m = inl (m .0 .there)
+row-or-empty ts (portPut p n e) m = inl (m .0 .there)
 row-or-empty ts noStatements m = inr (refl, refl, λ d. refl)
 row-or-empty ts (sequence s ss) m = ⊎-elim inl (λ z. absurd (true-false (sym (z .0)))) (row-or-empty ts s (m .0))
 
@@ -85,6 +87,7 @@ members (binary p q l r) lt e h m o = absurd (true-false (sym e))
 members (element p a i) lt e h m o = absurd (true-false (sym e))
 members (arrayLength p a) lt e h m o = absurd (true-false (sym e))
 members (call p x f es) lt e h m o = absurd (true-false (sym e))
+members (portGet p x) lt e h m o = absurd (true-false (sym e))
 members noArguments lt e h m o = absurd (omega arith)
 members (argument x xs) lt e h m o =
     record {
@@ -106,6 +109,7 @@ members (loop p x s) lt e h m o = absurd (true-false (sym e))
 members (print p x) lt e h m o = absurd (true-false (sym e))
 members (assign p x v) lt e h m o = absurd (true-false (sym e))
 members (assignElement p x i v) lt e h m o = absurd (true-false (sym e))
+members (portPut p x v) lt e h m o = absurd (true-false (sym e))
 members noStatements lt e h m o = absurd (omega arith)
 members (sequence x xs) lt e h m o =
     record {

@@ -12,7 +12,7 @@ use Rattle.base.specs.laws.Lists.{drop-none}
 use Rattle.base.specs.Outcome.{Outcome, accepted, refused}
 use Rattle.base.specs.laws.Tests.{apart}
 use Rattle.parser.specs.Tree.{Program, Statement}
-use Rattle.parser.specs.Tree.{Part.block, Part.conditional, Part.loop, Part.print, Part.assign, Part.assignElement}
+use Rattle.parser.specs.Tree.{Part.block, Part.conditional, Part.loop, Part.print, Part.assign, Part.assignElement, Part.portPut}
 use Rattle.parser.specs.Measure.{nodes, programNodes}
 use Rattle.reader.specs.laws.Counting.{program-nodes}
 use Rattle.typesystem.specs.Check.{checking}
@@ -28,7 +28,7 @@ use Rattle.interpreter.specs.declared.state.Bounds.{Bounds}
 use Rattle.interpreter.specs.declared.report.Ended.{Ended}
 use Rattle.interpreter.specs.contracts.Running.{Runnable, Roomy, endAnswerOf, Executed}
 use Rattle.runner.specs.declared.run.RunAnswer.{RunAnswer}
-use Rattle.runner.specs.contracts.RunPost.{strips, Completes, CompletesInRoom, Performs, LeftByCheck, Performed}
+use Rattle.runner.specs.contracts.RunPost.{strips, Shown, shown, Completes, CompletesInRoom, Performs, LeftByCheck, Performed}
 
 -- CHECK'S PROMISE
 
@@ -56,6 +56,7 @@ statement-nodes p = omega (arith, some-nodes (p .statement))
     some-nodes (print q e) = omega arith
     some-nodes (assign q y e) = omega arith
     some-nodes (assignElement q y i e) = omega arith
+    some-nodes (portPut q n e) = omega arith
 
 -- it has a token
 pub accepted-some : (s tab : List ℕ) {tokens classes : ℕ} {f : Finding} → Leaves s (checking s) f tab → f ≡ found tokens classes
@@ -94,57 +95,64 @@ runnable s p tokens classes tab code code′ entries entries′ h a long many =
 
 -- WHAT IS PERFORMED
 
-pub completed : (tab code fast values : List ℕ) (sz : Sizes) (b : Bounds) (heap output : List ℤ) {code′ entries′ : List ℕ} {x : Ended} {output′ : List ℤ}
+pub completed : (tab code fast values : List ℕ) (sz : Sizes) (b : Bounds) (tape : List ℕ) (heap output : List ℤ) (registers : List ℕ)
+    {code′ entries′ : List ℕ} {x : Ended} {output′ : List ℤ} {registers′ : List ℕ}
     → Prepares (sz .tokens) (sz .classes) tab code code′ (replicate 2048 0) entries′
-    → Executed tab code′ entries′ fast values sz b heap output x output′
-    → CompletesInRoom tab code fast values sz b heap output (endAnswerOf x) output′
-completed tab code fast values sz b heap output {code′} {entries′} {x} {output′} w E = record { says = λ long roomy. record { says = λ s h. by long roomy s (checking s) (h .finds) } }
+    → Executed tab code′ entries′ fast values sz b tape heap output x output′ registers′
+    → CompletesInRoom tab code fast values sz b tape heap (shown output registers) (endAnswerOf x) (shown output′ registers′)
+completed tab code fast values sz b tape heap output registers {code′} {entries′} {x} {output′} {registers′} w E =
+    record { says = λ long roomy. record { says = λ s h. by long roomy s (checking s) (h .finds) } }
   where
     by : 16 * sz .tokens ≤ length code → Roomy (sz .tokens) (b .calls) fast values → (s : List ℕ) (v : Outcome Program)
         → FindsProgram s v (found (sz .tokens) (sz .classes)) tab
-        → Performs v b heap output (endAnswerOf x) output′
+        → Performs v b tape heap (shown output registers) (endAnswerOf x) (shown output′ registers′)
     by long roomy s (accepted p) h =
         let many : length (replicate {A = ℕ} 2048 0) ≡ 2048 = length-replicate {A = ℕ} 2048 0 in
         let r = E .says p (runnable s p (sz .tokens) (sz .classes) tab code code′ (replicate 2048 0) entries′ h (w .says (h .stream) p (record { answer = h .answer; ready = h .ready; derived = h .derived })) long (omega (arith, many))) roomy in
-        (r .reports, r .strip)
+        (r .reports, r .strip, r .registers)
     by long roomy s (refused n i) h = let z = h in apart (cc)
 
 -- room for the values of so many tokens in main and 64 calls
 values-fit : (tokens calls k : ℕ) {n : ℕ} → (tokens + 1) / 2 ≤ k → calls ≤ 64 → 65 * k < n → (calls + 1) * ((tokens + 1) / 2) < n
 values-fit tokens calls k t c l = let m : (calls + 1) * ((tokens + 1) / 2) ≤ 65 * k = mul-le-mul (omega arith) t in omega (arith, m)
 
+-- room of so many words is enough for lessons of so many tokens at most, of which a body keeps k values at most
+room-fits : (most k n m v : ℕ) {tab : List ℕ} {sz : Sizes} {b : Bounds} {tape : List ℕ} {heap : List ℤ} {z z′ : Shown} {a : Run.RunAnswer}
+    → 16 * most ≤ n → 4 * most ≤ m → (most + 1) / 2 ≤ k → 65 * k < v → sz .tokens ≤ most → b .calls ≤ 64
+    → CompletesInRoom tab (replicate n 0) (replicate m 0) (replicate v 0) sz b tape heap z a z′
+    → Completes tab sz b tape heap z a z′
+room-fits most k n m v {sz = sz} {b = b} f g h l t c X =
+    let en : length (replicate {A = ℕ} n 0) ≡ n = length-replicate {A = ℕ} n 0 in
+    let em : length (replicate {A = ℕ} m 0) ≡ m = length-replicate {A = ℕ} m 0 in
+    let ev : length (replicate {A = ℕ} v 0) ≡ v = length-replicate {A = ℕ} v 0 in
+    X .says (omega (arith, en, f, t))
+    (record { places = omega (arith, em, g, t); enough = values-fit (sz .tokens) (b .calls) k (omega (arith, h, t)) c (omega (arith, ev, l)) })
+
 -- the room of a small lesson, and of any
-pub small-fits : {tab : List ℕ} {sz : Sizes} {b : Bounds} {heap output output′ : List ℤ} {a : Run.RunAnswer} → sz .tokens ≤ 125
-    → b .calls ≤ 64
-    → CompletesInRoom tab (replicate 2048 0) (replicate 512 0) (replicate 4096 0) sz b heap output a output′
-    → Completes tab sz b heap output a output′
-small-fits {sz = sz} {b = b} t c X =
-    let l : length (replicate {A = ℕ} 2048 0) ≡ 2048 = length-replicate {A = ℕ} 2048 0 in
-    let m : length (replicate {A = ℕ} 512 0) ≡ 512 = length-replicate {A = ℕ} 512 0 in
-    let n : length (replicate {A = ℕ} 4096 0) ≡ 4096 = length-replicate {A = ℕ} 4096 0 in
-    X .says (omega (arith, l)) (record { places = omega (arith, m); enough = values-fit (sz .tokens) (b .calls) 63 (omega arith) c (omega (arith, n)) })
+pub small-fits : {tab : List ℕ} {sz : Sizes} {b : Bounds} {tape : List ℕ} {heap : List ℤ} {z z′ : Shown} {a : Run.RunAnswer}
+    → sz .tokens ≤ 125 → b .calls ≤ 64
+    → CompletesInRoom tab (replicate 2048 0) (replicate 512 0) (replicate 4096 0) sz b tape heap z a z′
+    → Completes tab sz b tape heap z a z′
+small-fits t c X = room-fits 125 63 2048 512 4096 (omega arith) (omega arith) (omega arith) (omega arith) t c X
 
-pub wide-fits : {tab : List ℕ} {sz : Sizes} {b : Bounds} {heap output output′ : List ℤ} {a : Run.RunAnswer} → sz .tokens ≤ 2048
-    → b .calls ≤ 64
-    → CompletesInRoom tab (replicate 32768 0) (replicate 8192 0) (replicate 66561 0) sz b heap output a output′
-    → Completes tab sz b heap output a output′
-wide-fits {sz = sz} {b = b} t c X =
-    let l : length (replicate {A = ℕ} 32768 0) ≡ 32768 = length-replicate {A = ℕ} 32768 0 in
-    let m : length (replicate {A = ℕ} 8192 0) ≡ 8192 = length-replicate {A = ℕ} 8192 0 in
-    let n : length (replicate {A = ℕ} 66561 0) ≡ 66561 = length-replicate {A = ℕ} 66561 0 in
-    X .says (omega (arith, l)) (record { places = omega (arith, m); enough = values-fit (sz .tokens) (b .calls) 1024 (omega arith) c (omega (arith, n)) })
+pub wide-fits : {tab : List ℕ} {sz : Sizes} {b : Bounds} {tape : List ℕ} {heap : List ℤ} {z z′ : Shown} {a : Run.RunAnswer}
+    → sz .tokens ≤ 2048 → b .calls ≤ 64
+    → CompletesInRoom tab (replicate 32768 0) (replicate 8192 0) (replicate 66561 0) sz b tape heap z a z′
+    → Completes tab sz b tape heap z a z′
+wide-fits t c X = room-fits 2048 1024 32768 8192 66561 (omega arith) (omega arith) (omega arith) (omega arith) t c X
 
-pub performed : {s : List ℕ} {z : Sizes} {b : Bounds} {heap output : List ℤ} {tab table′ : List ℕ} {heap′ output′ : List ℤ} {a : Run.RunAnswer} → LeftByCheck s z tab → 0 < z .tokens
-    → Completes tab z b heap output a output′ → Performed s z b tab heap output a table′ heap′ output′
+pub performed : {s : List ℕ} {z : Sizes} {b : Bounds} {tape : List ℕ} {heap : List ℤ} {w w′ : Shown} {tab table′ : List ℕ} {heap′ : List ℤ}
+    {a : Run.RunAnswer} → LeftByCheck s z tab → 0 < z .tokens
+    → Completes tab z b tape heap w a w′ → Performed s z b tape tab heap w a table′ heap′ w′
 performed {s} k l C = record { performs = C .says s (k .says l); clears = λ e. absurd (omega (arith, l, e)) }
 
-refuses-so : (s : List ℕ) (b : Bounds) (heap output : List ℤ) (tab : List ℕ) {n p : ℕ} {f : Finding} {a : Run.RunAnswer}
-    → Leaves s (checking s) f tab → f ≡ declined n p → a ≡ refusal n p → Performs (checking s) b heap output a output
-refuses-so s b heap output tab {n} {p} {f} {a} h q e = by (checking s) (h .finds)
+refuses-so : (s : List ℕ) (b : Bounds) (tape : List ℕ) (heap : List ℤ) (w : Shown) (tab : List ℕ) {n p : ℕ} {f : Finding} {a : Run.RunAnswer}
+    → Leaves s (checking s) f tab → f ≡ declined n p → a ≡ refusal n p → Performs (checking s) b tape heap w a w
+refuses-so s b tape heap w tab {n} {p} {f} {a} h q e = by (checking s) (h .finds)
   where
-    by : (v : Outcome Program) → FindsProgram s v f tab → Performs v b heap output a output
+    by : (v : Outcome Program) → FindsProgram s v f tab → Performs v b tape heap w a w
     by (accepted p) c = let z = c .answer in apart (cc)
-    by (refused k i) c = let z = c in let x : n ≡ k = cc in let y : p ≡ i = cc in (e ∙ rw (x, y), refl)
+    by (refused k i) c = let z = c in let x : n ≡ k = cc in let y : p ≡ i = cc in (e ∙ rw (x, y), refl, refl)
 
 -- zeros as long as the strips were
 cleared : (table table₁ : List ℕ) (heap heap₁ : List ℤ) {table₂ : List ℕ} {heap₂ : List ℤ} → length table₁ ≡ length table
@@ -153,17 +161,19 @@ cleared : (table table₁ : List ℕ) (heap heap₁ : List ℤ) {table₂ : List
     → (table₂ ≡ replicate (length table) 0) × (heap₂ ≡ replicate (length heap) (pos 0))
 cleared table table₁ heap heap₁ lt lh et eh = (et ∙ ap (λ (n : ℕ). replicate n 0) lt, eh ∙ ap (λ (n : ℕ). replicate n (pos 0)) lh)
 
-pub unperformed : (s : List ℕ) (z : Sizes) (b : Bounds) (table table₁ : List ℕ) (heap output : List ℤ) {table₂ : List ℕ} {heap₂ : List ℤ} {n p : ℕ} {f : Finding} {a : Run.RunAnswer}
+pub unperformed : (s : List ℕ) (z : Sizes) (b : Bounds) (tape table table₁ : List ℕ) (heap output : List ℤ) (registers : List ℕ)
+    {table₂ : List ℕ} {heap₂ : List ℤ} {n p : ℕ} {f : Finding} {a : Run.RunAnswer}
     → Leaves s (checking s) f table₁ → f ≡ declined n p → length table₁ ≡ length table → table₂ ≡ replicate (length table₁) 0
     → heap₂ ≡ replicate (length heap) (pos 0) → a ≡ refusal n p
-    → Performed s z b table heap output a table₂ heap₂ output
-unperformed s z b table table₁ heap output h q lt et eh e =
-    record { performs = refuses-so s b heap output table₁ h q e; clears = λ _. cleared table table₁ heap heap lt refl et eh }
+    → Performed s z b tape table heap (shown output registers) a table₂ heap₂ (shown output registers)
+unperformed s z b tape table table₁ heap output registers h q lt et eh e =
+    record { performs = refuses-so s b tape heap (shown output registers) table₁ h q e; clears = λ _. cleared table table₁ heap heap lt refl et eh }
 
-pub checked : {s : List ℕ} {z y : Sizes} {b : Bounds} (table table₁ table₂ : List ℕ) {heap heap₁ output : List ℤ} {table₃ : List ℕ} {heap₂ output′ : List ℤ} {a : Run.RunAnswer}
-    → Performed s y b table₁ heap output a table₂ heap₁ output′ → length table₂ ≡ length table → length heap₁ ≡ length heap
+pub checked : {s : List ℕ} {z y : Sizes} {b : Bounds} {tape : List ℕ} (table table₁ table₂ : List ℕ) {heap heap₁ : List ℤ} {w w′ : Shown}
+    {table₃ : List ℕ} {heap₂ : List ℤ} {a : Run.RunAnswer}
+    → Performed s y b tape table₁ heap w a table₂ heap₁ w′ → length table₂ ≡ length table → length heap₁ ≡ length heap
     → table₃ ≡ replicate (length table₂) 0 → heap₂ ≡ replicate (length heap₁) (pos 0)
-    → Performed s z b table heap output a table₃ heap₂ output′
+    → Performed s z b tape table heap w a table₃ heap₂ w′
 checked table table₁ table₂ {heap} {heap₁} h lt lh et eh =
     record { performs = h .performs; clears = λ _. cleared table table₂ heap heap₁ lt lh et eh }
 
@@ -178,46 +188,53 @@ nothing-known s tab classes = record { says = λ l. absurd (omega (arith, l)) }
 
 -- RUN
 
-module _ (s : List ℕ) (budget calls : ℕ) (table : List ℕ) (heap output : List ℤ) where
+module _ (s : List ℕ) (budget calls : ℕ) (tape table : List ℕ) (heap output : List ℤ) (registers : List ℕ) where
   abbrev Before : Strips
-  Before = strips table heap output
+  Before = strips table heap output registers
 
-  pub too-short : {a : Run.RunAnswer} → length table < 16384 → a ≡ refusal 1 0 → Runs s budget calls Before a Before
+  pub too-short : {a : Run.RunAnswer} → length table < 16384 → a ≡ refusal 1 0 → Runs s budget calls tape Before a Before
   unfolding Runs
   too-short h e = rw (lt-ltb (length table) 16384 h) (e, refl)
 
   module _ (long : 16384 ≤ length table) where
-    pub no-calls : {a : Run.RunAnswer} → calls ≡ 0 → a ≡ refusal 2 0 → Runs s budget calls Before a Before
+    pub no-calls : {a : Run.RunAnswer} → calls ≡ 0 → a ≡ refusal 2 0 → Runs s budget calls tape Before a Before
     unfolding Runs
     no-calls z e = rw (le-ltb (length table) 16384 long, eq-eqb calls 0 z) (e, refl)
 
     module _ (some-calls : calls ≡ 0 → ⊥) where
-      pub many-calls : {a : Run.RunAnswer} → 64 < calls → a ≡ refusal 2 0 → Runs s budget calls Before a Before
+      pub many-calls : {a : Run.RunAnswer} → 64 < calls → a ≡ refusal 2 0 → Runs s budget calls tape Before a Before
       unfolding Runs
       many-calls m e = rw (le-ltb (length table) 16384 long, ne-eqb calls 0 some-calls, lt-ltb 64 calls m) (e, refl)
 
       module _ (few-calls : calls ≤ 64) where
-        pub long-heap : {a : Run.RunAnswer} → 16384 < length heap → a ≡ refusal 3 0 → Runs s budget calls Before a Before
+        pub long-heap : {a : Run.RunAnswer} → 16384 < length heap → a ≡ refusal 3 0 → Runs s budget calls tape Before a Before
         unfolding Runs
         long-heap m e =
             rw (le-ltb (length table) 16384 long, ne-eqb calls 0 some-calls, le-ltb 64 calls few-calls, lt-ltb 16384 (length heap) m) (e, refl)
 
-        pub runs : (a : Run.RunAnswer) {table₂ : List ℕ} {heap₂ : List ℤ} (output₂ : List ℤ) → length heap ≤ 16384
-            → Performed s (record { tokens = 0; classes = 0 }) (record { budget = budget; calls = calls }) table heap output a table₂ heap₂ output₂
-            → Runs s budget calls Before a (strips table₂ heap₂ output₂)
-        unfolding Runs
-        runs a {table₂} {heap₂} output₂ short h =
-            rw (le-ltb (length table) 16384 long, ne-eqb calls 0 some-calls, le-ltb 64 calls few-calls, le-ltb 16384 (length heap) short) (by (checking s) (h .performs))
-          where
-            same : (o : List ℤ) → output₂ ≡ o
-                → strips table₂ heap₂ output₂ ≡ strips (replicate (length table) 0) (replicate (length heap) (pos 0)) o
-            same o e =
-                let z = h .clears refl in
-                ap (λ (t : List ℕ). strips t heap₂ output₂) (z .0)
-                ∙ ap (λ (k : List ℤ). strips (replicate (length table) 0) k output₂) (z .1)
-                ∙ ap (strips (replicate (length table) 0) (replicate (length heap) (pos 0))) e
+        module _ (short : length heap ≤ 16384) where
+          pub not-sixteen : {a : Run.RunAnswer} → (length registers ≡ 16 → ⊥) → a ≡ refusal 62 0 → Runs s budget calls tape Before a Before
+          unfolding Runs
+          not-sixteen n e =
+              rw (le-ltb (length table) 16384 long, ne-eqb calls 0 some-calls, le-ltb 64 calls few-calls, le-ltb 16384 (length heap) short, ne-eqb (length registers) 16 n) (e, refl)
 
-            by : (v : Outcome Program) → Performs v (record { budget = budget; calls = calls }) heap output a output₂
-                → RunMeets v budget calls Before a (strips table₂ heap₂ output₂)
-            by (accepted p) (r, e) = (r, same _ e)
-            by (refused n i) (r, e) = (r, same (drop 0 output) (e ∙ drop-none output))
+          pub runs : (a : Run.RunAnswer) {table₂ : List ℕ} {heap₂ : List ℤ} (output₂ : List ℤ) (registers₂ : List ℕ) → length registers ≡ 16
+              → Performed s (record { tokens = 0; classes = 0 }) (record { budget = budget; calls = calls }) tape table heap (shown output registers) a table₂ heap₂ (shown output₂ registers₂)
+              → Runs s budget calls tape Before a (strips table₂ heap₂ output₂ registers₂)
+          unfolding Runs
+          runs a {table₂} {heap₂} output₂ registers₂ n h =
+              rw (le-ltb (length table) 16384 long, ne-eqb calls 0 some-calls, le-ltb 64 calls few-calls, le-ltb 16384 (length heap) short, eq-eqb (length registers) 16 n) (by (checking s) (h .performs))
+            where
+              same : (o : List ℤ) (g : List ℕ) → output₂ ≡ o → registers₂ ≡ g
+                  → strips table₂ heap₂ output₂ registers₂ ≡ strips (replicate (length table) 0) (replicate (length heap) (pos 0)) o g
+              same o g e f =
+                  let z = h .clears refl in
+                  ap (λ (t : List ℕ). strips t heap₂ output₂ registers₂) (z .0)
+                  ∙ ap (λ (k : List ℤ). strips (replicate (length table) 0) k output₂ registers₂) (z .1)
+                  ∙ ap (λ (o : List ℤ). strips (replicate (length table) 0) (replicate (length heap) (pos 0)) o registers₂) e
+                  ∙ ap (strips (replicate (length table) 0) (replicate (length heap) (pos 0)) o) f
+
+              by : (v : Outcome Program) → Performs v (record { budget = budget; calls = calls }) tape heap (shown output registers) a (shown output₂ registers₂)
+                  → RunMeets v budget calls tape Before a (strips table₂ heap₂ output₂ registers₂)
+              by (accepted p) (r, e, f) = (r, same _ _ e f)
+              by (refused n i) (r, e, f) = (r, same (drop 0 output) registers (e ∙ drop-none output) f)

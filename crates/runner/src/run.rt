@@ -2,6 +2,7 @@
 use base::codes;
 use base::fill::zero_numbers;
 use base::fill::zero_words;
+use device::state::REGISTERS;
 use driver::calls::Sizes;
 use interpreter::execute::execute;
 use interpreter::state::Bounds;
@@ -13,10 +14,10 @@ ghost use mathlib.Core.Path.{_≡_};
 ghost use lib.ListN.{length};
 ghost use Rattle.base.specs.Word.{modulus};
 ghost use Rattle.base.specs.contracts.Table.{rows};
-ghost use Rattle.base.specs.Codes.{callsMost, heapMost, tableLeast};
+ghost use Rattle.base.specs.Codes.{callsMost, heapMost, tableLeast, registersCount};
 ghost use Rattle.reader.specs.contracts.WalkPost.{Walkable};
 ghost use Rattle.semantics.specs.Run.{Runs, refusal};
-ghost use Rattle.runner.specs.contracts.RunPost.{runAnswerOf, strips, LeftByCheck, CompletesInRoom, Completes, Performed};
+ghost use Rattle.runner.specs.contracts.RunPost.{runAnswerOf, strips, LeftByCheck, shown, CompletesInRoom, Completes, Performed};
 
 // What Run answers: a result number and a position, the steps, how many classes the calls climbed through (at most the classes of the
 // lesson for each step, so 64 bits hold it), the heap words and how many numbers were printed.
@@ -55,15 +56,31 @@ fn compiled(
     b: Bounds,
     heap: &mut [i32],
     output: &mut [i32],
+    registers: &mut [u8],
+    tape: &[u8],
 ) -> RunAnswer
     requires { ⌜ Walkable (now table) (s .tokens) × (s .classes ≤ rows) × (length (now heap) ≤ heapMost) × (b .budget < modulus)
-        × (b .calls ≤ callsMost) × (length (now fast) ≤ 8192) × (length (now values) ≤ 200000) ⌝ }
+        × (b .calls ≤ callsMost) × (length (now fast) ≤ 8192) × (length (now values) ≤ 200000)
+        × (length (now registers) ≡ registersCount) ⌝ }
     ensures { λ r. ⌜ CompletesInRoom (now (table .entry)) (now (code .entry)) (now (fast .entry)) (now (values .entry)) s b
-        (now (heap .entry)) (now (output .entry)) (runAnswerOf r) (now (output .exit)) ⌝ }
+        (now (tape .entry)) (now (heap .entry)) (shown (now (output .entry)) (now (registers .entry))) (runAnswerOf r)
+        (shown (now (output .exit)) (now (registers .exit))) ⌝ }
 {
     let mut entries = [0u32; 2048];
     prepare(table, code, &mut entries, s.tokens, s.classes);
-    let e = execute(table, &entries, code, fast, values, heap, output, s, b);
+    let e = execute(
+        table,
+        &entries,
+        code,
+        fast,
+        values,
+        heap,
+        output,
+        registers,
+        tape,
+        s,
+        b,
+    );
     RunAnswer {
         number: e.number,
         position: e.position,
@@ -78,39 +95,88 @@ fn compiled(
 const SMALL: usize = 125;
 
 // A small lesson, in room that is enough for one: what is cleared for a run depends on the lesson.
-fn small(table: &[u32], s: Sizes, b: Bounds, heap: &mut [i32], output: &mut [i32]) -> RunAnswer
+fn small(
+    table: &[u32],
+    s: Sizes,
+    b: Bounds,
+    heap: &mut [i32],
+    output: &mut [i32],
+    registers: &mut [u8],
+    tape: &[u8],
+) -> RunAnswer
     requires { ⌜ Walkable (now table) (s .tokens) × (s .classes ≤ rows) × (length (now heap) ≤ heapMost) × (b .budget < modulus)
-        × (b .calls ≤ callsMost) × (s .tokens ≤ 125) ⌝ }
-    ensures { λ r. ⌜ Completes (now (table .entry)) s b (now (heap .entry)) (now (output .entry)) (runAnswerOf r) (now (output .exit)) ⌝ }
+        × (b .calls ≤ callsMost) × (s .tokens ≤ 125) × (length (now registers) ≡ registersCount) ⌝ }
+    ensures { λ r. ⌜ Completes (now (table .entry)) s b (now (tape .entry)) (now (heap .entry))
+        (shown (now (output .entry)) (now (registers .entry))) (runAnswerOf r) (shown (now (output .exit)) (now (registers .exit))) ⌝ }
 {
     let mut code = [0u32; 2048];
     let mut fast = [0u64; 512];
     let mut values = [0u32; 4096];
-    compiled(table, &mut code, &mut fast, &mut values, s, b, heap, output)
+    compiled(
+        table,
+        &mut code,
+        &mut fast,
+        &mut values,
+        s,
+        b,
+        heap,
+        output,
+        registers,
+        tape,
+    )
 }
 
 // Any lesson.
-fn wide(table: &[u32], s: Sizes, b: Bounds, heap: &mut [i32], output: &mut [i32]) -> RunAnswer
+fn wide(
+    table: &[u32],
+    s: Sizes,
+    b: Bounds,
+    heap: &mut [i32],
+    output: &mut [i32],
+    registers: &mut [u8],
+    tape: &[u8],
+) -> RunAnswer
     requires { ⌜ Walkable (now table) (s .tokens) × (s .classes ≤ rows) × (length (now heap) ≤ heapMost) × (b .budget < modulus)
-        × (b .calls ≤ callsMost) ⌝ }
-    ensures { λ r. ⌜ Completes (now (table .entry)) s b (now (heap .entry)) (now (output .entry)) (runAnswerOf r) (now (output .exit)) ⌝ }
+        × (b .calls ≤ callsMost) × (length (now registers) ≡ registersCount) ⌝ }
+    ensures { λ r. ⌜ Completes (now (table .entry)) s b (now (tape .entry)) (now (heap .entry))
+        (shown (now (output .entry)) (now (registers .entry))) (runAnswerOf r) (shown (now (output .exit)) (now (registers .exit))) ⌝ }
 {
     let mut code = [0u32; 32768];
     let mut fast = [0u64; 8192];
     let mut values = [0u32; 66561];
-    compiled(table, &mut code, &mut fast, &mut values, s, b, heap, output)
+    compiled(
+        table,
+        &mut code,
+        &mut fast,
+        &mut values,
+        s,
+        b,
+        heap,
+        output,
+        registers,
+        tape,
+    )
 }
 
 // Runs the accepted lesson that the table holds.
-fn accepted(table: &[u32], s: Sizes, b: Bounds, heap: &mut [i32], output: &mut [i32]) -> RunAnswer
+fn accepted(
+    table: &[u32],
+    s: Sizes,
+    b: Bounds,
+    heap: &mut [i32],
+    output: &mut [i32],
+    registers: &mut [u8],
+    tape: &[u8],
+) -> RunAnswer
     requires { ⌜ Walkable (now table) (s .tokens) × (s .classes ≤ rows) × (length (now heap) ≤ heapMost) × (b .budget < modulus)
-        × (b .calls ≤ callsMost) ⌝ }
-    ensures { λ r. ⌜ Completes (now (table .entry)) s b (now (heap .entry)) (now (output .entry)) (runAnswerOf r) (now (output .exit)) ⌝ }
+        × (b .calls ≤ callsMost) × (length (now registers) ≡ registersCount) ⌝ }
+    ensures { λ r. ⌜ Completes (now (table .entry)) s b (now (tape .entry)) (now (heap .entry))
+        (shown (now (output .entry)) (now (registers .entry))) (runAnswerOf r) (shown (now (output .exit)) (now (registers .exit))) ⌝ }
 {
     if s.tokens <= SMALL {
-        return small(table, s, b, heap, output);
+        return small(table, s, b, heap, output, registers, tape);
     }
-    wide(table, s, b, heap, output)
+    wide(table, s, b, heap, output, registers, tape)
 }
 
 // Checks the lesson where no tokens are known of it, and then goes on with those of an accepted one: it is run. The call that checks
@@ -122,20 +188,32 @@ fn perform(
     b: Bounds,
     heap: &mut [i32],
     output: &mut [i32],
+    registers: &mut [u8],
+    tape: &[u8],
     s: Sizes,
 ) -> RunAnswer
     requires { ⌜ (tableLeast ≤ length (now table)) × (length (now heap) ≤ heapMost) × (b .budget < modulus) × (b .calls ≤ callsMost)
-        × LeftByCheck (now source) s (now table) ⌝ }
-    ensures { λ r. ⌜ Performed (now (source .entry)) s b (now (table .entry)) (now (heap .entry)) (now (output .entry)) (runAnswerOf r)
-        (now (table .exit)) (now (heap .exit)) (now (output .exit)) ⌝ }
+        × LeftByCheck (now source) s (now table) × (length (now registers) ≡ registersCount) ⌝ }
+    ensures { λ r. ⌜ Performed (now (source .entry)) s b (now (tape .entry)) (now (table .entry)) (now (heap .entry))
+        (shown (now (output .entry)) (now (registers .entry))) (runAnswerOf r) (now (table .exit)) (now (heap .exit))
+        (shown (now (output .exit)) (now (registers .exit))) ⌝ }
 {
     if 0 < s.tokens {
-        return accepted(table, s, b, heap, output);
+        return accepted(table, s, b, heap, output, registers, tape);
     }
     let f = find(source, table);
     match f {
         Finding::Program(tokens, classes) => {
-            let r = perform(source, table, b, heap, output, Sizes { tokens, classes });
+            let r = perform(
+                source,
+                table,
+                b,
+                heap,
+                output,
+                registers,
+                tape,
+                Sizes { tokens, classes },
+            );
             zero_words(table);
             zero_numbers(heap);
             r
@@ -148,7 +226,8 @@ fn perform(
     }
 }
 
-// The operation Run. 1 work table too short, 2 call limit not 1 to 64, 3 heap strip too long: these touch nothing.
+// The operation Run. 1 work table too short, 2 call limit not 1 to 64, 3 heap strip too long, 62 register strip not 16 bytes: these touch
+// nothing.
 pub fn run(
     source: &[u8],
     table: &mut [u32],
@@ -156,9 +235,12 @@ pub fn run(
     calls: usize,
     heap: &mut [i32],
     output: &mut [i32],
+    registers: &mut [u8],
+    tape: &[u8],
 ) -> RunAnswer
-    ensures { λ r. ⌜ Runs (now (source .entry)) budget calls (strips (now (table .entry)) (now (heap .entry)) (now (output .entry)))
-        (runAnswerOf r) (strips (now (table .exit)) (now (heap .exit)) (now (output .exit))) ⌝ }
+    ensures { λ r. ⌜ Runs (now (source .entry)) budget calls (now (tape .entry))
+        (strips (now (table .entry)) (now (heap .entry)) (now (output .entry)) (now (registers .entry)))
+        (runAnswerOf r) (strips (now (table .exit)) (now (heap .exit)) (now (output .exit)) (now (registers .exit))) ⌝ }
 {
     if table.len() < codes::TABLE_LEAST {
         return refusal(codes::TABLE_TOO_SHORT, 0);
@@ -172,6 +254,9 @@ pub fn run(
     if codes::HEAP_MOST < heap.len() {
         return refusal(codes::HEAP_TOO_LONG, 0);
     }
+    if registers.len() != REGISTERS {
+        return refusal(codes::REGISTERS_NOT_SIXTEEN, 0);
+    }
     let b = Bounds {
         budget: budget as usize,
         calls,
@@ -180,5 +265,5 @@ pub fn run(
         tokens: 0,
         classes: 0,
     };
-    perform(source, table, b, heap, output, unknown)
+    perform(source, table, b, heap, output, registers, tape, unknown)
 }

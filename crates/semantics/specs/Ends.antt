@@ -1,9 +1,11 @@
 -- How a source ends under Run's definition, as a value that a table can list; and how it would end if Check refused nothing.
 use Prim.Native.Nat.{ℕ}
-use mathlib.Core.List.{List, _++_, map}
+use mathlib.Core.List.{List, [], _++_, map}
 use mathlib.Core.Option.{Option, none, some}
+use lib.ListN.{replicate}
 use lib.IntN.{ℤ}
 use Rattle.base.specs.Bytes.{bytes}
+use Rattle.base.specs.Codes.{registersCount}
 use Rattle.base.specs.Outcome.{Outcome, accepted, refused}
 use Rattle.lexer.specs.Bytes as Bytes
 use Rattle.lexer.specs.Kinds as Kinds
@@ -26,12 +28,12 @@ pub data End : Type 0 where
   refusedAt : (number position : ℕ) → End
   ran : Limits.Report → End
 
-abbrev pub ofOutcome : Limits.Limits → Outcome Program → End
-ofOutcome L (accepted p) = ran (Limits.run p L)
-ofOutcome L (refused n p) = refusedAt n p
+abbrev pub ofOutcome : Limits.Limits → (tape : List ℕ) → Outcome Program → End
+ofOutcome L tape (accepted p) = ran (Limits.run p L tape)
+ofOutcome L tape (refused n p) = refusedAt n p
 
 -- what the end of a source depends on unfolds with it
-unfoldable pub endOf : List ℕ → Limits.Limits → End
+unfoldable pub endOn : (tape : List ℕ) → List ℕ → Limits.Limits → End
 unfolding Bytes.isBlank Bytes.isLetter Bytes.isDigit Bytes.isNamePart Kinds.isName Kinds.words Kinds.wordKind Kinds.markKind
     Tokens.longestRun Tokens.closing Tokens.decimal Tokens.item Tokens.turn Tokens.tokensFrom Tokens.tokens Measure.deep
     Measure.methodsDeep Measure.classesDeep Measure.programDeep Parse.beginsStatement Parse.beginsType Parse.elementType Parse.step
@@ -45,21 +47,37 @@ unfolding Bytes.isBlank Bytes.isLetter Bytes.isDigit Bytes.isNamePart Kinds.isNa
     Declarations.variables Declarations.sameTypes Declarations.heads Declarations.declarations Judge.arity Judge.judge Limits.guard
     Limits.runWith Limits.run Machine.readName Machine.writeName Machine.begin Machine.beginStatement Machine.second Machine.callMethod
     Machine.nextArgument Machine.nextStatement Machine.nextOfBody Machine.newArrayOf Machine.newObjectOf Machine.go Machine.plan
-endOf s L = ofOutcome L (Check.checking s)
+endOn tape s L = ofOutcome L tape (Check.checking s)
+
+-- with an empty tape
+unfoldable pub endOf : List ℕ → Limits.Limits → End
+unfolding endOn
+endOf s L = endOn [] s L
 
 abbrev pub endingOf : Outcome Read.Reading → Limits.Limits → Option Limits.Ending
-endingOf (accepted r) L = some (Limits.run (r .tree) L .ending)
+endingOf (accepted r) L = some (Limits.run (r .tree) L [] .ending)
 endingOf (refused n p) L = none
 
--- the ending of what is read, unchecked; none where Read refuses it
+-- the ending of what is read, unchecked, with an empty tape; none where Read refuses it
 unfoldable pub uncheckedOf : List ℕ → Limits.Limits → Option Limits.Ending
 unfolding endOf
 uncheckedOf s L = endingOf (Read.reading s) L
 
--- an end with a result number and a position, steps, climbs, heap words and printed numbers
+-- an end with a result number and a position, steps, climbs, heap words, printed numbers and registers
+abbrev pub endsWith : (number position steps climbs words : ℕ) → List ℤ → (registers : List ℕ) → End
+endsWith n p steps climbs words printed registers =
+    ran (record {
+      ending = Limits.Ending.ended n p;
+      steps = steps;
+      climbs = climbs;
+      words = words;
+      printed = printed;
+      registers = registers;
+    })
+
+-- an end with all registers 0
 abbrev pub ends : (number position steps climbs words : ℕ) → List ℤ → End
-ends n p steps climbs words printed =
-    ran (record { ending = Limits.Ending.ended n p; steps = steps; climbs = climbs; words = words; printed = printed })
+ends n p steps climbs words printed = endsWith n p steps climbs words printed (replicate registersCount 0)
 
 -- bayrun's limits, with another budget or call limit where a row says so
 abbrev pub limits : (budget calls : ℕ) → Limits.Limits
@@ -74,14 +92,19 @@ printing e = bytes "class M{public static void main(String[] a){System.out.print
 
 pub record Row : Type 0 where
   pub source : List ℕ
+  pub tape : List ℕ
   pub limits : Limits.Limits
   pub end : End
 
+-- with an empty tape
 abbrev pub row : List ℕ → Limits.Limits → End → Row
-row s L e = record { source = s; limits = L; end = e }
+row s L e = record { source = s; tape = []; limits = L; end = e }
+
+abbrev pub taped : (tape : List ℕ) → List ℕ → Limits.Limits → End → Row
+taped t s L e = record { source = s; tape = t; limits = L; end = e }
 
 abbrev pub found : List Row → List End
-found rows = map (λ r. endOf (r .source) (r .limits)) rows
+found rows = map (λ r. endOn (r .tape) (r .source) (r .limits)) rows
 
 abbrev pub expected : List Row → List End
 expected rows = map (λ r. r .end) rows

@@ -5,10 +5,11 @@ use Prim.Native.Nat.{ℕ}
 use mathlib.Core.Path.{_≡_, refl}
 use mathlib.Core.List.{List, [], _∷_, _++_}
 use mathlib.Core.Option.{some}
+use lib.ListN.{replicate}
 use lib.IntN.{pos}
 use Rattle.base.specs.Bytes.{bytes}
 use Rattle.semantics.specs.Limits.{wentWrong}
-use Rattle.semantics.specs.Ends.{endOf, uncheckedOf, ends, limits, usual, printing}
+use Rattle.semantics.specs.Ends.{endOf, endOn, uncheckedOf, ends, endsWith, limits, usual, printing}
 
 -- the method is the object's own, not that of the declared type
 abbrev pub declaredAbove : List ℕ
@@ -75,6 +76,22 @@ endlessCalls = printing (bytes "new A().m()") ++ bytes " class A{public int m(){
 pub refused-call-climbs-nothing : endOf endlessCalls (limits 100000 2) ≡ ends 52 109 7 2 1 []
 unfolding endOf
 refused-call-climbs-nothing = refl
+
+-- document 02, (viii): 63 is tested before 64
+abbrev pub putNowhere : List ℕ
+putNowhere = bytes "class M{public static void main(String[] a){Port.put(16,256);}}"
+
+pub register-before-value : endOf putNowhere usual ≡ ends 63 44 3 0 0 []
+unfolding endOf
+register-before-value = refl
+
+-- the sample comes as step 100 is charged: the get that is charged then sees it
+abbrev pub waiting : List ℕ
+waiting = printing (bytes "new A().m()") ++ bytes " class A{public int m(){while(Port.get(0)<1){}return Port.get(2);}}"
+
+pub sample-with-its-step : endOn (42 ∷ []) waiting usual ≡ endsWith 0 0 105 1 1 (pos 42 ∷ []) (0 ∷ 0 ∷ 42 ∷ replicate 13 0)
+unfolding endOn
+sample-with-its-step = refl
 
 -- Stuck at a value of another kind, in lessons that Check refuses: each would run to its end if the kind were not tested there.
 abbrev pub truthAssigned : List ℕ

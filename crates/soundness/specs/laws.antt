@@ -10,3 +10,4 @@ pub mod HeapLaws
 pub mod Soundness
 pub mod Reachable
 pub mod Space
+pub mod PortLaws

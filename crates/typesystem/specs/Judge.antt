@@ -12,9 +12,9 @@ use Rattle.parser.specs.Tree.{Expression, placeE, Variable, Class}
 use Rattle.parser.specs.Tree.{Element, Element.int, Element.boolean, Element.class, Ty, Ty.plain, Ty.arrayOf}
 use Rattle.parser.specs.Tree.{Sort.expression, Sort.arguments, Sort.statement, Sort.statements}
 use Rattle.parser.specs.Tree.{Part.literal, Part.truth, Part.variable, Part.this, Part.newArray, Part.newObject, Part.negation, Part.binary}
-use Rattle.parser.specs.Tree.{Part.element, Part.arrayLength, Part.call, Part.noArguments, Part.argument}
-use Rattle.parser.specs.Tree.{Part.block, Part.conditional, Part.loop, Part.print, Part.assign, Part.assignElement, Part.noStatements}
-use Rattle.parser.specs.Tree.{Part.sequence}
+use Rattle.parser.specs.Tree.{Part.element, Part.arrayLength, Part.call, Part.portGet, Part.noArguments, Part.argument}
+use Rattle.parser.specs.Tree.{Part.block, Part.conditional, Part.loop, Part.print, Part.assign, Part.assignElement, Part.portPut}
+use Rattle.parser.specs.Tree.{Part.noStatements, Part.sequence}
 use Rattle.typesystem.specs.Operators.{operation}
 use Rattle.typesystem.specs.ClassTable.{Found, Context, known, fits, methodOf, meaning, meaningType}
 
@@ -81,6 +81,7 @@ module _ (G : List Class) (Γ : Context) where
       judge a >>= λ t. ofArray (placeE a .start) t λ s. judge i >>= λ u. must G i (plain int) u >>= λ _. accepted (plain s)
   judge (arrayLength p a) = judge a >>= λ t. ofArray (placeE a .start) t λ _. accepted (plain int)
   judge (call p e m es) = judge e >>= λ t. receiver e t λ c. invocation m (arity es) (judge es) (methodOf G c (m .text))
+  judge (portGet p e) = judge e >>= λ t. must G e (plain int) t >>= λ _. accepted (plain int)
   judge noArguments = λ vs. accepted tt
   judge (argument e es) = λ vs. nextParameter vs λ v vs. judge e >>= λ t. must G e (v .type .type) t >>= λ _. judge es vs
   judge (block p ss) = judge ss
@@ -91,5 +92,6 @@ module _ (G : List Class) (Γ : Context) where
   judge (assignElement p x i e) =
       lookUp p x >>= λ target. ofArray (p .start) target λ s.
       judge i >>= λ t. must G i (plain int) t >>= λ _. judge e >>= λ t. must G e (plain s) t
+  judge (portPut p n e) = judge n >>= λ t. must G n (plain int) t >>= λ _. judge e >>= λ t. must G e (plain int) t
   judge noStatements = accepted tt
   judge (sequence s ss) = judge s >>= λ _. judge ss

@@ -14,9 +14,9 @@ use Rattle.parser.specs.Tree.{Element, Element.int, Element.boolean, Element.cl
 use Rattle.parser.specs.Tree.{Method, Class, Program}
 use Rattle.parser.specs.Tree.{Sort.arguments, Sort.statement, Sort.statements}
 use Rattle.parser.specs.Tree.{Part.literal, Part.truth, Part.variable, Part.this, Part.newArray, Part.newObject, Part.negation, Part.binary}
-use Rattle.parser.specs.Tree.{Part.element, Part.arrayLength, Part.call, Part.noArguments, Part.argument}
-use Rattle.parser.specs.Tree.{Part.block, Part.conditional, Part.loop, Part.print, Part.assign, Part.assignElement, Part.noStatements}
-use Rattle.parser.specs.Tree.{Part.sequence}
+use Rattle.parser.specs.Tree.{Part.element, Part.arrayLength, Part.call, Part.portGet, Part.noArguments, Part.argument}
+use Rattle.parser.specs.Tree.{Part.block, Part.conditional, Part.loop, Part.print, Part.assign, Part.assignElement, Part.portPut}
+use Rattle.parser.specs.Tree.{Part.noStatements, Part.sequence}
 use Rattle.typesystem.specs.ClassTable.{Slot, Found, Context, mainContext, contextOf, classNamed, methodNamed, variableNamed, known}
 use Rattle.typesystem.specs.ClassTable.{underlying, occurs, textOf}
 use Rattle.typesystem.specs.Operators.{operation}
@@ -85,6 +85,8 @@ mutual
     t-call : {p : Place} {e : Expression} {m : Name} {es : Part arguments} {c : List ℕ} {F : Found} {t : Ty}
         → HasType G Γ e (plain (class c)) → HasMethod G c (m .text) F → HaveTypes G Γ es (F .method .parameters)
         → F .method .result .type ≡ t → HasType G Γ (call p e m es) t
+    -- document 02, (viii): all parts int
+    t-port-get : {p : Place} {e : Expression} → HasType G Γ e (plain int) → HasType G Γ (portGet p e) (plain int)
 
   pub data HaveTypes (G : List Class) (Γ : Context) : Part arguments → List Variable → Type 0 where
     t-none : HaveTypes G Γ noArguments []
@@ -104,6 +106,7 @@ mutual
     t-assign-element : {p : Place} {x : List ℕ} {i e : Expression} {t : Element} {s : Ty} → HasName G Γ x (arrayOf t)
         → HasType G Γ i (plain int) → HasType G Γ e s → Sub G s (plain t)
         → IsTyped G Γ (assignElement p x i e)
+    t-port-put : {p : Place} {n e : Expression} → HasType G Γ n (plain int) → HasType G Γ e (plain int) → IsTyped G Γ (portPut p n e)
 
   pub data AreTyped (G : List Class) (Γ : Context) : Part statements → Type 0 where
     t-end : AreTyped G Γ noStatements

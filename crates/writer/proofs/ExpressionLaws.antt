@@ -13,7 +13,7 @@ use Rattle.lexer.specs.contracts.Rows.{firstNamed}
 use Rattle.parser.specs.Tree.{Operator, Operator.and, Operator.less, Operator.plus, Operator.minus, Operator.times}
 use Rattle.parser.specs.Tree.{Sort, Sort.expression, Sort.arguments, Part, Expression, Class, placeE}
 use Rattle.parser.specs.Tree.{Part.literal, Part.truth, Part.variable, Part.this, Part.newArray, Part.newObject, Part.negation, Part.binary}
-use Rattle.parser.specs.Tree.{Part.element, Part.arrayLength, Part.call, Part.noArguments, Part.argument}
+use Rattle.parser.specs.Tree.{Part.element, Part.arrayLength, Part.call, Part.portGet, Part.noArguments, Part.argument}
 use Rattle.parser.specs.contracts.Layout.{absent}
 use Rattle.parser.specs.Measure.{nodes}
 use Rattle.parser.specs.contracts.Post.{kindInTable, isAtom}
@@ -23,15 +23,16 @@ use Rattle.typesystem.specs.Judge.{arity}
 use Rattle.lookup.specs.contracts.HeldClasses.{wordAt, NameNumber, Lexemes}
 use Rattle.lookup.specs.contracts.Lookups.{Counts}
 use Rattle.lookup.specs.contracts.Shows.{PartAt, Form, aLiteral, aTruth, aVariable, aThis, aNewArray, aNewObject, aNegation, aBinary}
-use Rattle.lookup.specs.contracts.Shows.{anElement, aLength, aCall, formAtom, formCompound, formE}
+use Rattle.lookup.specs.contracts.Shows.{anElement, aLength, aCall, aPortGet, formAtom, formCompound, formE}
 use Rattle.lookup.specs.contracts.Shows.{Shows, shows-literal, shows-truth, shows-variable, shows-this, shows-new-array, shows-new-object}
-use Rattle.lookup.specs.contracts.Shows.{shows-negation, shows-binary, shows-element, shows-length, shows-call, GoesOn, one-more-argument}
+use Rattle.lookup.specs.contracts.Shows.{shows-negation, shows-binary, shows-element, shows-length, shows-call, shows-port-get}
+use Rattle.lookup.specs.contracts.Shows.{GoesOn, one-more-argument}
 use Rattle.lookup.specs.laws.ShowLaws.{shown, starts, goes-on, ended}
 use Rattle.semantics.specs.Machine.{number, flag, isAnd, slot, initial}
 use Rattle.writer.specs.declared.scope.Scope.{Scope}
 use Rattle.writer.specs.contracts.Scoping.{Sees, SlotPost}
 use Rattle.codegen.specs.contracts.Code as Code
-use Rattle.codegen.specs.contracts.Code.{push, load, self, negate, operate, keep, fetch, measure, makeArray, makeObject}
+use Rattle.codegen.specs.contracts.Code.{push, load, self, negate, operate, keep, fetch, measure, makeArray, makeObject, readRegister}
 use Rattle.codegen.specs.contracts.Compile.{endBinary, emitBinary, end, emit, cellsOf}
 use Rattle.writer.specs.contracts.Words.{words, encode}
 use Rattle.writer.specs.laws.Emits.{no-code}
@@ -120,6 +121,11 @@ pair-wrote {at = at} e₄ f e₅ g =
           let u = f .says ts G Γ w l (rw e₄ y) (omega (arith, grows m (end l at))) in
           next-to (λ j k. emit G Γ m j (x ∷ k)) (λ j. suc (end m j)) u (g .says ts G Γ w x is m (rw e₅ z) (rw (u .ends) h));
     }
+
+pub located-pair-wrote : {tab names : List ℕ} {s : Scope} {op start left : ℕ} (row : ℕ) {at r : ℕ} {c c′ : List ℕ}
+    → start ≡ wordAt tab 3 row → PairPost tab names s op start left row at c c′ r → PairPost tab names s op (wordAt tab 3 row) left row at c c′ r
+located-pair-wrote {tab} {names} {s} {op} {left = left} row {at} {r} {c} {c′} e₃ f =
+    subst (λ (i : ℕ). PairPost tab names s op i left row at c c′ r) e₃ f
 
 pub conjunction-wrote : {tab names : List ℕ} {s : Scope} {left row at first a n second b r : ℕ} {c c₁ c₂ c₃ : List ℕ}
     → first ≡ wordAt tab 4 row → WritePost tab names s expression left first at c c₁ a → second ≡ wordAt tab 5 row → NextPost a n
@@ -252,20 +258,29 @@ module _ {tab names : List ℕ} {s : Scope} {left row at r : ℕ} {c c′ : List
         go : Says tab names s aNegation left row at c c′ r
         go ts G Γ w e (shows-negation {e = l} q x) h = f .says ts G Γ w negate refl l (rw e₄ x) h
 
-    pub compound-element : k ≡ 36 → {start : ℕ} → start ≡ wordAt tab 3 row → PairPost tab names s 12 start left row at c c′ r
+    pub compound-get : k ≡ 40 → FollowedPost tab names s 19 (wordAt tab 3 row) left (wordAt tab 4 row) at c c′ r
         → CompoundPost tab names s k left row at c c′ r
     unfolding formCompound
-    compound-element is e₃ f = formed (by-kind tab (s .tokens) row 36 is refl) (f .within) go
+    compound-get is f = formed (by-kind tab (s .tokens) row 40 is refl) (f .within) go
+      where
+        go : Says tab names s aPortGet left row at c c′ r
+        go ts G Γ w e (shows-port-get {p = p} {e = l} q x) h =
+            f .says ts G Γ w (readRegister p) (ap (λ (n : ℕ). words 19 n 0 0) q) l x h
+
+    pub compound-element : k ≡ 36 → PairPost tab names s 12 (wordAt tab 3 row) left row at c c′ r
+        → CompoundPost tab names s k left row at c c′ r
+    unfolding formCompound
+    compound-element is f = formed (by-kind tab (s .tokens) row 36 is refl) (f .within) go
       where
         go : Says tab names s anElement left row at c c′ r
         go ts G Γ w e (shows-element {p = p} {a = l} {i = m} q x y) h =
-            f .says ts G Γ w (fetch p) (ap (λ (n : ℕ). words 12 n 0 0) (e₃ ∙ q)) l m x y h
+            f .says ts G Γ w (fetch p) (ap (λ (n : ℕ). words 12 n 0 0) q) l m x y h
 
-    pub compound-binary : (k ≡ 14 → ⊥) → (k ≡ 31 → ⊥) → (k ≡ 29 → ⊥) → (k ≡ 36 → ⊥)
+    pub compound-binary : (k ≡ 14 → ⊥) → (k ≡ 31 → ⊥) → (k ≡ 29 → ⊥) → (k ≡ 40 → ⊥) → (k ≡ 36 → ⊥)
         → ExpressionPost tab names s aBinary left row at c c′ r → CompoundPost tab names s k left row at c c′ r
     unfolding formCompound
-    compound-binary n₁ n₂ n₃ n₄ f =
-        formed (rw (ne-eqb k 14 n₁, ne-eqb k 31 n₂, ne-eqb k 29 n₃, ne-eqb k 36 n₄)) (f .within) (f .says)
+    compound-binary n₁ n₂ n₃ n₄ n₅ f =
+        formed (rw (ne-eqb k 14 n₁, ne-eqb k 31 n₂, ne-eqb k 29 n₃, ne-eqb k 40 n₄, ne-eqb k 36 n₅)) (f .within) (f .says)
 
 -- a number of a name is that of a token
 pub creation-none : {tab names : List ℕ} {s : Scope} {left row at : ℕ} {c : List ℕ} {x : ℕ} → x ≡ wordAt tab 2 (row + 1) → absent ≤ x
@@ -328,6 +343,7 @@ opens G Γ (binary p o l r) = record { code = λ i k. refl; ends = λ i. refl }
 opens G Γ (element p a i) = record { code = λ i k. refl; ends = λ i. refl }
 opens G Γ (arrayLength p a) = record { code = λ i k. refl; ends = λ i. refl }
 opens G Γ (call p e m es) = record { code = λ i k. refl; ends = λ i. refl }
+opens G Γ (portGet p e) = record { code = λ i k. refl; ends = λ i. refl }
 
 module _ {tab names : List ℕ} {s : Scope} {left row at : ℕ} {c : List ℕ} where
   pub expression-none : left ≡ 0 → at ≤ room → WritePost tab names s expression left row at c c at

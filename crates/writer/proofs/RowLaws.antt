@@ -8,8 +8,9 @@ use lib.ListN.{length}
 use Rattle.lexer.specs.Tokens.{Token}
 use Rattle.parser.specs.Tree.{Sort.expression, Sort.arguments, Sort.statement, Sort.statements, Part, Expression, Statement}
 use Rattle.parser.specs.Tree.{Part.literal, Part.truth, Part.variable, Part.this, Part.newArray, Part.newObject, Part.negation, Part.binary}
-use Rattle.parser.specs.Tree.{Part.element, Part.arrayLength, Part.call, Part.noArguments, Part.argument}
-use Rattle.parser.specs.Tree.{Part.block, Part.conditional, Part.loop, Part.print, Part.assign, Part.assignElement, Part.sequence}
+use Rattle.parser.specs.Tree.{Part.element, Part.arrayLength, Part.call, Part.portGet, Part.noArguments, Part.argument}
+use Rattle.parser.specs.Tree.{Part.block, Part.conditional, Part.loop, Part.print, Part.assign, Part.assignElement, Part.portPut}
+use Rattle.parser.specs.Tree.{Part.sequence}
 use Rattle.parser.specs.contracts.Layout.{absent, rowOf}
 use Rattle.parser.specs.Measure.{nodes}
 use Rattle.reader.specs.contracts.Holds.{Holds}
@@ -33,6 +34,7 @@ positive (binary p o l r) = omega arith
 positive (element p a i) = omega arith
 positive (arrayLength p a) = omega arith
 positive (call p e m es) = omega arith
+positive (portGet p e) = omega arith
 
 pub positive-statement : (t : Statement) → 1 ≤ nodes t
 unfolding nodes
@@ -42,6 +44,7 @@ positive-statement (loop p e s) = omega arith
 positive-statement (print p e) = omega arith
 positive-statement (assign p x e) = omega arith
 positive-statement (assignElement p x i e) = omega arith
+positive-statement (portPut p n e) = omega arith
 
 -- PARTS
 
@@ -56,6 +59,7 @@ module _ (row left : ℕ) (more : left ≡ 0 → ⊥) where
         of-element = λ at w. (omega arith, omega arith);
         of-length = λ at w. omega arith;
         of-call = λ at w. (omega arith, omega arith);
+        of-port-get = λ at w. omega arith;
       }
 
   pub fewerS : BoundsS row (AtMost left) (AtMost (left - 1))
@@ -68,6 +72,7 @@ module _ (row left : ℕ) (more : left ≡ 0 → ⊥) where
         of-print = λ at w. omega arith;
         of-assignment = λ at w. omega arith;
         of-element-store = λ at w. (omega arith, omega arith);
+        of-port-put = λ at w. (omega arith, omega arith);
       }
 
   -- the first of a list, and the rest

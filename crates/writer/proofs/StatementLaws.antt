@@ -7,21 +7,21 @@ use mathlib.Core.List.{List, _∷_}
 use borrow.Author.Tests.{ne-eqb}
 use Rattle.lexer.specs.Tokens.{Token}
 use Rattle.parser.specs.Tree.{Sort.expression, Sort.statement, Sort.statements, Part, Statement, Class, placeS}
-use Rattle.parser.specs.Tree.{Part.block, Part.conditional, Part.loop, Part.print, Part.assign, Part.assignElement}
+use Rattle.parser.specs.Tree.{Part.block, Part.conditional, Part.loop, Part.print, Part.assign, Part.assignElement, Part.portPut}
 use Rattle.parser.specs.Tree.{Part.noStatements, Part.sequence}
 use Rattle.parser.specs.contracts.Layout.{absent}
 use Rattle.parser.specs.Measure.{nodes}
 use Rattle.parser.specs.contracts.Post.{kindInTable}
 use Rattle.typesystem.specs.ClassTable.{Context, meaning}
 use Rattle.lookup.specs.contracts.HeldClasses.{wordAt}
-use Rattle.lookup.specs.contracts.Shows.{Form, aBlock, aConditional, aLoop, aPrint, anAssignment, anElementStore, formS}
+use Rattle.lookup.specs.contracts.Shows.{Form, aBlock, aConditional, aLoop, aPrint, anAssignment, anElementStore, aPortPut, formS}
 use Rattle.lookup.specs.contracts.Shows.{Bound, ShowsS, shows-block, shows-conditional, shows-loop, shows-print, shows-assignment}
-use Rattle.lookup.specs.contracts.Shows.{shows-element-store, GoesOnS, one-more-statement}
+use Rattle.lookup.specs.contracts.Shows.{shows-element-store, shows-port-put, GoesOnS, one-more-statement}
 use Rattle.lookup.specs.laws.ShowLaws.{shownS, goes-onS, endedS}
 use Rattle.writer.specs.declared.scope.Scope.{Scope}
 use Rattle.writer.specs.contracts.Scoping.{SlotPost}
 use Rattle.codegen.specs.contracts.Code as Code
-use Rattle.codegen.specs.contracts.Code.{save, jump, unless, storeElement}
+use Rattle.codegen.specs.contracts.Code.{save, jump, unless, storeElement, writeRegister}
 use Rattle.codegen.specs.contracts.Compile.{end, emit}
 use Rattle.writer.specs.contracts.Words.{words}
 use Rattle.writer.specs.laws.Emits.{no-code}
@@ -44,15 +44,15 @@ module _ {tab names : List ℕ} {s : Scope} {left row at r : ℕ} {c c′ : List
       go ts G Γ w t (shows-assignment {x = y} {e = e} z sp d) h =
           f .says ts G Γ w (save (meaning G Γ y)) (ap (λ (n : ℕ). words 3 n 0 0) (g .says ts G Γ (w .scope) y (rw e₂ sp))) e (rw e₄ d) h
 
-  pub element-wrote : {i start : ℕ} {c₀ : List ℕ} → LoadPost tab names s row at c c₀ i → start ≡ wordAt tab 3 row
-      → PairPost tab names s 16 start left row i c₀ c′ r → StatementPost tab names s anElementStore left row at c c′ r
-  element-wrote {i} {start} {c₀} g e₃ f = record { within = f .within; says = go }
+  pub element-wrote : {i : ℕ} {c₀ : List ℕ} → LoadPost tab names s row at c c₀ i
+      → PairPost tab names s 16 (wordAt tab 3 row) left row i c₀ c′ r → StatementPost tab names s anElementStore left row at c c′ r
+  element-wrote {i} {c₀} g f = record { within = f .within; says = go }
     where
       go : SaysS tab names s anElementStore left row at c c′ r
       go ts G Γ w t (shows-element-store {p = q} {x = y} {i = l} {e = m} z sp d d′) h =
           let n = g .says ts G Γ w y sp (omega (arith, grows l (suc at), grows m (end l (suc at)))) in
           next-to (λ j k. emit G Γ l j (emit G Γ m (end l j) (storeElement q ∷ k))) (λ j. suc (end m (end l j))) n
-          (f .says ts G Γ w (storeElement q) (ap (λ (j : ℕ). words 16 j 0 0) (e₃ ∙ z)) l m d d′ (rw (n .ends) h))
+          (f .says ts G Γ w (storeElement q) (ap (λ (j : ℕ). words 16 j 0 0) z) l m d d′ (rw (n .ends) h))
 
 -- JUMPS
 
@@ -146,6 +146,7 @@ starts (shows-loop s x y) = s
 starts (shows-print s x) = s
 starts (shows-assignment s q x) = s
 starts (shows-element-store s q x y) = s
+starts (shows-port-put s x y) = s
 
 opens : (G : List Class) (Γ : Context) (t : Statement) → Opens G Γ t (placeS t .start) (innerS G Γ t) (endS t)
 unfolding emit end
@@ -155,6 +156,7 @@ opens G Γ (loop p e s) = record { code = λ i k. refl; ends = λ i. refl }
 opens G Γ (print p e) = record { code = λ i k. refl; ends = λ i. refl }
 opens G Γ (assign p x e) = record { code = λ i k. refl; ends = λ i. refl }
 opens G Γ (assignElement p x i e) = record { code = λ i k. refl; ends = λ i. refl }
+opens G Γ (portPut p n e) = record { code = λ i k. refl; ends = λ i. refl }
 
 module _ {tab names : List ℕ} {s : Scope} {left row at : ℕ} {c : List ℕ} where
   pub statement-none : left ≡ 0 → at ≤ room → WritePost tab names s statement left row at c c at
@@ -200,20 +202,30 @@ module _ {tab names : List ℕ} {s : Scope} {left row at : ℕ} {c : List ℕ} w
         go : SaysS tab names s aPrint (left - 1) row i c₁ c₂ r
         go ts G Γ w t (shows-print {p = q} {e = e} z x) h = f .says ts G Γ w (Code.print q) (ap (λ (n : ℕ). words 15 n 0 0) z) e x h
 
-    module _ (n₁ : k ≡ 38 → ⊥) (n₂ : k ≡ 10 → ⊥) (n₃ : k ≡ 23 → ⊥) (n₄ : k ≡ 19 → ⊥) {after : ℕ}
+    pub statement-put : k ≡ 40 → PairPost tab names s 20 (wordAt tab 3 row) (left - 1) row i c₁ c₂ r
+        → WritePost tab names s statement left row at c c₂ r
+    unfolding formS
+    statement-put is f = behind-mark (rw is) (f .within) go
+      where
+        go : SaysS tab names s aPortPut (left - 1) row i c₁ c₂ r
+        go ts G Γ w t (shows-port-put {p = q} {n = n} {e = e} z x y) h =
+            f .says ts G Γ w (writeRegister q) (ap (λ (j : ℕ). words 20 j 0 0) z) n e x y h
+
+    module _ (n₁ : k ≡ 38 → ⊥) (n₂ : k ≡ 10 → ⊥) (n₃ : k ≡ 23 → ⊥) (n₄ : k ≡ 19 → ⊥) (n₅ : k ≡ 40 → ⊥) {after : ℕ}
         (next : after ≡ kindInTable tab (s .tokens) (row + 1)) where
       pub statement-element : after ≡ 36 → StatementPost tab names s anElementStore (left - 1) row i c₁ c₂ r
           → WritePost tab names s statement left row at c c₂ r
       unfolding formS
       statement-element is f =
-          behind-mark (rw (ne-eqb k 38 n₁, ne-eqb k 10 n₂, ne-eqb k 23 n₃, ne-eqb k 19 n₄, sym next ∙ is)) (f .within) (f .says)
+          behind-mark (rw (ne-eqb k 38 n₁, ne-eqb k 10 n₂, ne-eqb k 23 n₃, ne-eqb k 19 n₄, ne-eqb k 40 n₅, sym next ∙ is)) (f .within)
+          (f .says)
 
       pub statement-assignment : (after ≡ 36 → ⊥) → StatementPost tab names s anAssignment (left - 1) row i c₁ c₂ r
           → WritePost tab names s statement left row at c c₂ r
       unfolding formS
       statement-assignment no′ f =
-          behind-mark (rw (ne-eqb k 38 n₁, ne-eqb k 10 n₂, ne-eqb k 23 n₃, ne-eqb k 19 n₄, sym next, ne-eqb after 36 no′)) (f .within)
-          (f .says)
+          behind-mark (rw (ne-eqb k 38 n₁, ne-eqb k 10 n₂, ne-eqb k 23 n₃, ne-eqb k 19 n₄, ne-eqb k 40 n₅, sym next, ne-eqb after 36 no′))
+          (f .within) (f .says)
 
 -- LISTS
 

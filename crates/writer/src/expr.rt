@@ -157,9 +157,11 @@ fn compound(
         let first = word(table, columns::FIRST, row);
         return followed(table, names, code, s, numbers::NEGATE, 0, left, first, at);
     }
+    if k == kinds::PORT {
+        return located(table, names, code, s, numbers::READ_REGISTER, left, row, at);
+    }
     if k == kinds::OPEN_BRACKET {
-        let start = word(table, columns::BEGIN, row);
-        return pair(table, names, code, s, numbers::FETCH, start, left, row, at);
+        return located_pair(table, names, code, s, numbers::FETCH, left, row, at);
     }
     binary(table, names, code, s, left, row, at)
 }
@@ -237,7 +239,7 @@ pub fn located(
 }
 
 // A node's first part, and the second, followed by an instruction.
-pub fn pair(
+fn pair(
     table: &[u32],
     names: &[u32],
     code: &mut [u32],
@@ -255,6 +257,25 @@ pub fn pair(
     let a = expression(table, names, code, s, left, first, at);
     let second = word(table, columns::SECOND, row);
     followed(table, names, code, s, op, arg, left, second, a)
+}
+
+// A node's two parts, and an instruction that has the position where the node begins.
+pub fn located_pair(
+    table: &[u32],
+    names: &[u32],
+    code: &mut [u32],
+    s: Scope,
+    op: usize,
+    left: usize,
+    row: usize,
+    at: usize,
+) -> usize
+    requires { ⌜ Writable (now table) (now names) (s .tokens) left row at × (op < modulus) ⌝ }
+    ensures { λ r. ⌜ PairPost (now (table .entry)) (now (names .entry)) s op (wordAt (now (table .entry)) 3 row) left row at
+        (now (code .entry)) (now (code .exit)) r ⌝ }
+{
+    let start = word(table, columns::BEGIN, row);
+    pair(table, names, code, s, op, start, left, row, at)
 }
 
 // The left value, the right one, and before it the jump over it.

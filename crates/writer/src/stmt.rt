@@ -5,8 +5,8 @@ use crate::expr::expression;
 use crate::expr::followed;
 use crate::expr::loaded;
 use crate::expr::located;
+use crate::expr::located_pair;
 use crate::expr::mark;
-use crate::expr::pair;
 use crate::scope::Scope;
 use crate::scope::slot;
 use codegen::numbers;
@@ -55,18 +55,7 @@ fn element(
         (now (code .exit)) r ⌝ }
 {
     let i = loaded(table, names, code, s, row, at);
-    let start = word(table, columns::BEGIN, row);
-    pair(
-        table,
-        names,
-        code,
-        s,
-        numbers::STORE_ELEMENT,
-        start,
-        left,
-        row,
-        i,
-    )
+    located_pair(table, names, code, s, numbers::STORE_ELEMENT, left, row, i)
 }
 
 // A statement.
@@ -86,25 +75,29 @@ pub fn single(
     if left == 0 {
         return at;
     }
+    let rest = left - 1;
     let k = kind(table, s.tokens, row);
     let i = mark(table, code, row, at);
     if k == kinds::OPEN_BRACE {
         let first = word(table, columns::FIRST, row);
-        return list(table, names, code, s, left - 1, first, i);
+        return list(table, names, code, s, rest, first, i);
     }
     if k == kinds::IF {
-        return tested(table, names, code, s, k, left - 1, row, i);
+        return tested(table, names, code, s, k, rest, row, i);
     }
     if k == kinds::WHILE {
-        return tested(table, names, code, s, k, left - 1, row, i);
+        return tested(table, names, code, s, k, rest, row, i);
     }
     if k == kinds::SYSTEM {
-        return located(table, names, code, s, numbers::PRINT, left - 1, row, i);
+        return located(table, names, code, s, numbers::PRINT, rest, row, i);
+    }
+    if k == kinds::PORT {
+        return located_pair(table, names, code, s, numbers::WRITE_REGISTER, rest, row, i);
     }
     if kind(table, s.tokens, row + 1) == kinds::OPEN_BRACKET {
-        return element(table, names, code, s, left - 1, row, i);
+        return element(table, names, code, s, rest, row, i);
     }
-    assigned(table, names, code, s, left - 1, row, i)
+    assigned(table, names, code, s, rest, row, i)
 }
 
 // The test, then what it decides: of `if`, whose kind is k, the branches, and else the body of `while`.

@@ -16,8 +16,8 @@ use Rattle.lexer.specs.Tokens.{Token, Item, gap, unclosed, nothing, token, item
 use Rattle.parser.specs.Tree.{Element, Element.int, Element.boolean, Element.class, Ty, Ty.plain, Ty.arrayOf}
 use Rattle.parser.specs.Tree.{Name, TypeUse, Sort, Part, Expression, Variable, Method, Class, Program, Place, placeE}
 use Rattle.parser.specs.Tree.{Sort.expression, Sort.arguments, Sort.statement, Sort.statements}
-use Rattle.parser.specs.Tree.{Part.literal, Part.truth, Part.variable, Part.this, Part.newArray, Part.newObject, Part.negation, Part.binary, Part.element, Part.arrayLength, Part.call, Part.noArguments, Part.argument}
-use Rattle.parser.specs.Tree.{Part.block, Part.conditional, Part.loop, Part.print, Part.assign, Part.assignElement, Part.noStatements, Part.sequence}
+use Rattle.parser.specs.Tree.{Part.literal, Part.truth, Part.variable, Part.this, Part.newArray, Part.newObject, Part.negation, Part.binary, Part.element, Part.arrayLength, Part.call, Part.portGet, Part.noArguments, Part.argument}
+use Rattle.parser.specs.Tree.{Part.block, Part.conditional, Part.loop, Part.print, Part.assign, Part.assignElement, Part.portPut, Part.noStatements, Part.sequence}
 use Rattle.parser.specs.Parse.{Parsed, ok, bad, out, parse}
 use Rattle.parser.specs.Measure.{programDeep}
 use Rattle.parser.specs.Read.{grammatical, shallow, reading}
@@ -252,6 +252,7 @@ module _ (G : List Class) (Γ : Context) where
   of-judge (call p e m es) =
       both (judge G Γ e) _ (of-judge e)
       (λ t. of-receiver e t _ (λ c. of-invocation m (arity es) (judge G Γ es) (methodOf G c (m .text)) (of-judge es)))
+  of-judge (portGet p e) = fitting e (plain int) _ (of-judge e) accepts
   of-judge noArguments = λ vs. accepts
   of-judge (argument e es) = λ vs. of-parameter vs _ (λ v vs. fitting e (v .type .type) (judge G Γ es vs) (of-judge e) (of-judge es vs))
   of-judge (block p ss) = of-judge ss
@@ -262,6 +263,7 @@ module _ (G : List Class) (Γ : Context) where
   of-judge (assignElement p x i e) =
       both (lookUp G Γ p x) _ (of-name p x)
       (λ t. of-array (p .start) t _ (λ s. fitting i (plain int) _ (of-judge i) (fitting-last e (plain s) (of-judge e))))
+  of-judge (portPut p n e) = fitting n (plain int) _ (of-judge n) (fitting-last e (plain int) (of-judge e))
   of-judge noStatements = accepts
   of-judge (sequence s ss) = both (judge G Γ s) _ (of-judge s) (λ _. of-judge ss)
 

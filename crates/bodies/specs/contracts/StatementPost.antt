@@ -38,7 +38,7 @@ module _ (tab : List ℕ) (s : Scope) where
         → PartIn tab ts (wordAt tab 5 row) (row + 1) end a → PartIn tab ts (wordAt tab 7 row) (row + 1) end b
         → r ≡ asJudged (judge G Γ a >>= λ _. judge G Γ b)
 
-  -- index, and value of an element of this type
+  -- index, and value of an element of this type; register and value of a put
   pub record ValuePost (end row want : ℕ) (r : Judged) : Type 0 where
     pub says : (ts : List Token) (G : List Class) (Γ : Context) → InScope tab ts G Γ s → (i e : Expression)
         → PartIn tab ts (wordAt tab 4 row) (row + 1) end i → PartIn tab ts (wordAt tab 5 row) (row + 1) end e

@@ -4,6 +4,7 @@ use mathlib.Core.Bool.{true}
 use mathlib.Core.List.{List, [], _∷_}
 use mathlib.Core.Option.{none}
 use mathlib.Core.Path.{_≡_, refl}
+use lib.ListN.{replicate}
 use lib.IntN.{pos}
 use Rattle.parser.specs.Tree.{Place, Name, Element.int, Ty.plain, Variable, Method, Program, Operator.plus, Operator.minus, Operator.less, Operator.and}
 use Rattle.parser.specs.Tree.{Part.literal, Part.truth, Part.variable, Part.newObject, Part.binary, Part.call, Part.noArguments, Part.argument, Part.conditional, Part.loop, Part.assign, Part.block, Part.print, Part.noStatements, Part.sequence}
@@ -82,18 +83,18 @@ limits b = record { budget = b; calls = 1; heap = 2; printed = 1 }
 
 -- with enough budget, and with the budget spent in the loop
 abbrev whole : Report
-whole = record { ending = ended 0 0; steps = 68; climbs = 1; words = 2; printed = pos 9 ∷ [] }
+whole = record { ending = ended 0 0; steps = 68; climbs = 1; words = 2; printed = pos 9 ∷ []; registers = replicate 16 0 }
 
 abbrev cut : Report
-cut = record { ending = ended 50 30; steps = 37; climbs = 1; words = 2; printed = [] }
+cut = record { ending = ended 50 30; steps = 37; climbs = 1; words = 2; printed = []; registers = replicate 16 0 }
 
-on-tree : (run lesson (limits 100) ≡ whole) × (run lesson (limits 37) ≡ cut)
+on-tree : (run lesson (limits 100) [] ≡ whole) × (run lesson (limits 37) [] ≡ cut)
 unfolding run Limits.runWith Limits.guard Machine.plan Machine.go Machine.begin Machine.beginStatement Machine.second Machine.callMethod Machine.nextArgument Machine.nextStatement
     Machine.nextOfBody Machine.newObjectOf Machine.search Machine.readName Machine.writeName
     ClassTable.classNamed ClassTable.methodNamed ClassTable.variableNamed ClassTable.chainWithin ClassTable.chain ClassTable.layout ClassTable.fieldsOf ClassTable.nearestField ClassTable.meaning Judge.arity
 on-tree = (refl, refl)
 
-on-code : (runCode (compile lesson) (limits 100) ≡ whole) × (runCode (compile lesson) (limits 37) ≡ cut)
+on-code : (runCode (compile lesson) (limits 100) [] ≡ whole) × (runCode (compile lesson) (limits 37) [] ≡ cut)
 unfolding runCode Demand.turnsOfCode Limits.runWith Limits.guard Code.due Code.act Code.dispatch Code.climb Code.rowNamed Code.entryNamed
     compile Compile.end Compile.emit Compile.endMethods Compile.emitMethods Compile.namedOf Compile.emitClasses Compile.rowsOf
     ClassTable.classNamed ClassTable.methodNamed ClassTable.variableNamed ClassTable.chainWithin ClassTable.chain ClassTable.layout ClassTable.fieldsOf ClassTable.nearestField ClassTable.meaning Judge.arity
@@ -103,7 +104,7 @@ on-code = (refl, refl)
 abbrev onWords : Limits → Report
 onWords L =
     let P = compile lesson in
-    runWith (wordDue P (λ _. 0) (λ _ m. climb 1 (P .rows) A m)) wordSize L (4 * L .budget + 4) (wordAt 0 [] [] []) begun
+    runWith (wordDue P (λ _. 0) (λ _ m. climb 1 (P .rows) A m)) wordSize L (4 * L .budget + 4) (wordAt 0 [] [] []) (begun [])
 
 on-words : (onWords (limits 100) ≡ whole) × (onWords (limits 37) ≡ cut)
 unfolding Limits.runWith Limits.guard wordDue Words.wordAct climb Code.rowNamed Code.entryNamed

@@ -3,7 +3,8 @@ use Prim.Native.Nat.{ℕ, _-_, _≤_}
 use mathlib.Core.List.{List, []}
 use mathlib.Core.Path.{_≡_}
 use mathlib.Core.Logic.{_⊎_}
-use lib.ListN.{drop}
+use lib.ListN.{length, drop}
+use Rattle.base.specs.Codes.{registersCount}
 use Rattle.device.specs.Device.{Device, reset, registers}
 use Rattle.device.specs.laws.Samples.{samples}
 use Rattle.device.specs.declared.state.Held.{Held}
@@ -31,6 +32,14 @@ pub record Becomes (f : Device → Device) (before after : Held) : Type 0 where
 pub record CaughtUp (tape : List ℕ) (due : ℕ) (before after : Held) : Type 0 where
   pub taken : after .taken ≡ due
   pub is : deviceOf tape after ≡ samples (due - before .taken) (deviceOf tape before)
+
+-- after a look: up to date where no sample is due that was taken before
+pub record Looks (tape : List ℕ) (due : ℕ) (before after : Held) : Type 0 where
+  pub says : before .taken ≤ due → CaughtUp tape due before after
+
+-- the register strip holds what the registers hold, where there are sixteen
+pub record ShownIn (h : Held) (strip : List ℕ) : Type 0 where
+  pub says : length (registersOf h) ≡ registersCount → strip ≡ registersOf h
 
 -- the lesser of two numbers
 pub record LesserOf (a b r : ℕ) : Type 0 where

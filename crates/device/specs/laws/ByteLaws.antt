@@ -1,18 +1,14 @@
 -- Registers are bytes, whatever is done with bytes: the flags of register 0 add up to at most 131, and the others hold what was put or came
 -- from the tape.
-use Prim.Native.Nat.{ℕ, zero, suc, _+_, _<_}
+use Prim.Native.Nat.{ℕ, zero, suc, _+_, _%_, _<_}
 use mathlib.Core.Bool.{Bool, true, false}
 use mathlib.Core.List.{List, [], _∷_}
-use mathlib.Core.Path.{_≡_, refl}
 use lib.ListN.{getD}
 use lib.Dec.{lit<, eqb}
 use Rattle.base.specs.All.{All, all-nil, all-cons}
 use Rattle.base.specs.Choice.{if_then_else_}
 use Rattle.base.specs.laws.Lists.{all-set, all-replicate}
-use Rattle.device.specs.Device.{Device, reset, bitValue, alarm, registers, arrives, sampleOf, sample, got, withFlags, afterGet, afterPut}
-
-abbrev pub IsByte : ℕ → Type 0
-IsByte v = v < 256
+use Rattle.device.specs.Device.{IsByte, Device, reset, bitValue, alarm, sampleOf, sample, atStep, period, got, withFlags, afterGet, afterPut}
 
 pub record HoldsBytes (d : Device) : Type 0 where
   pub mask : IsByte (d .mask)
@@ -49,6 +45,13 @@ sample-bytes {d} B = go (d .tape) (B .tape)
     go : (t : List ℕ) → All IsByte t → HoldsBytes (sampleOf t d)
     go [] h = B
     go (b ∷ t) (all-cons p h) = record { mask = B .mask; reading = p; others = B .others; tape = h }
+
+pub step-bytes : {d : Device} (n : ℕ) → HoldsBytes d → HoldsBytes (atStep n d)
+step-bytes {d} n B = go (eqb (n % period) 0)
+  where
+    go : (b : Bool) → HoldsBytes (if b then (λ _. sample d) else λ _. d)
+    go false = B
+    go true = sample-bytes B
 
 pub get-bytes : {d : Device} (n : ℕ) → HoldsBytes d → HoldsBytes (afterGet n d)
 get-bytes {d} n B = go (eqb n 2)

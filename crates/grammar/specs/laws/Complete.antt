@@ -13,7 +13,7 @@ use lib.ListN.{length, List·getD-eq-default}
 use Rattle.base.specs.Choice.{if_then_else_, option}
 use Rattle.lexer.specs.Tokens.{Token}
 use Rattle.lexer.specs.Kinds.{kEnd, kLiteral, kClass, kFalse, kLength, kNew, kPublic, kReturn, kThis, kTrue, kAnd, kLess, kPlus, kMinus}
-use Rattle.lexer.specs.Kinds.{kTimes}
+use Rattle.lexer.specs.Kinds.{kTimes, kPort}
 use Rattle.lexer.specs.Kinds.{kNot, kDot, kOpen, kClose, kOpenBracket, kCloseBracket, kOpenBrace, kCloseBrace, isName}
 use Rattle.parser.specs.Tree.{Name, Operator, Sort, Sort.statements, Part, Expression, TypeUse, Variable, Method, Class, Program}
 use Rattle.parser.specs.Stream.{noMore, kindAt, Level, Level.conjunction, Level.comparison, Level.sum, Level.product, operatorOf}
@@ -23,9 +23,9 @@ use Rattle.parser.specs.Parse.{someParameters, parametersFrom, methodFrom, meth
 use Rattle.parser.specs.Parse.{parse}
 use Rattle.parser.specs.Grammar as Grammar
 use Rattle.parser.specs.Grammar.{Kind, Derives, operate, one-operand, negate, no-negation, make-array, no-array, index, take-length, invoke}
-use Rattle.parser.specs.Grammar.{no-suffix, a-literal, a-true, a-false, a-name, a-this, make-object, parentheses}
+use Rattle.parser.specs.Grammar.{no-suffix, a-literal, a-true, a-false, a-name, a-this, make-object, get-register, parentheses}
 use Rattle.parser.specs.Grammar.{none-given, some-given, one-argument, more-arguments, a-block, an-if, a-while, a-print, an-assignment}
-use Rattle.parser.specs.Grammar.{an-element-assignment, no-statement, more-statements}
+use Rattle.parser.specs.Grammar.{an-element-assignment, put-register, no-statement, more-statements}
 use Rattle.parser.specs.Grammar.{DerivesType, an-array, no-mark, DerivesVariable, a-variable, DerivesVariables, no-variable, more-variables}
 use Rattle.parser.specs.Grammar.{DerivesParameters, one-parameter, more-parameters, DerivesFormals, no-formal, some-formals, DerivesMethod}
 use Rattle.parser.specs.Grammar.{a-method, DerivesMethods, no-method, more-methods}
@@ -47,7 +47,7 @@ after g spent h = spent
 -- WHAT A FORM BEGINS WITH
 
 startsPrimary : ℕ → Bool
-startsPrimary k = isName k || eqb k kLiteral || eqb k kTrue || eqb k kFalse || eqb k kThis || eqb k kNew || eqb k kOpen
+startsPrimary k = isName k || eqb k kLiteral || eqb k kTrue || eqb k kFalse || eqb k kThis || eqb k kNew || eqb k kOpen || eqb k kPort
 
 startsUnary : ℕ → Bool
 startsUnary k = startsPrimary k || eqb k kNot
@@ -82,7 +82,7 @@ unfolding beginsStatement beginsVariable beginsType isName
 first-named ts i e n =
     let m = no-keyword (kindAt ts i) e in
     let l = no-basic-type (kindAt ts i) e in
-    (rw (m .0, m .1, m .2, m .3, e), rw (l .0, l .1, e, n))
+    (rw (m .0, m .1, m .2, m .3, m .4, e), rw (l .0, l .1, e, n))
 
 first : {ts : List Token} {s : Sort} {c : Kind s} {i j : ℕ} {t : Part s} → Derives ts s c i j t → First ts c i
 unfolding startsPrimary startsUnary beginsStatement beginsVariable beginsType isName
@@ -102,6 +102,7 @@ first (a-false e) = (rw e, rw e)
 first {ts} (a-name {i = i} e) = (rw e, rw (kinds-apart isName (kindAt ts i) kNew e refl))
 first (a-this e) = (rw e, rw e)
 first {ts} (make-object {i = i} e e₁ e₂ e₃) = let n = no-basic-type (kindAt ts (i + 1)) e₁ in (rw e, rw (e, n .0, n .1, e₁, e₂))
+first (get-register e e₁ e₂ e₃ d e₄) = (rw e, rw e)
 first (parentheses e d e₁) = (rw e, rw e)
 first none-given = tt
 first (some-given d) = tt
@@ -116,6 +117,7 @@ first {ts} (an-element-assignment {i = i} e e₁ d e₂ e₃ d₁ e₄) =
     let n = kinds-apart startsUnary (kindAt ts (i + 2)) kCloseBracket (first d) refl in
     let n₂ : eqb (kindAt ts (i + 1 + 1)) kCloseBracket ≡ false = simp towards-numerals n in
     first-named ts i e (rw (e₁, n₂))
+first (put-register e e₁ e₂ e₃ d e₄ d₁ e₅ e₆) = (rw e, rw e)
 first no-statement = tt
 first (more-statements d ds) = tt
 
@@ -238,6 +240,8 @@ module _ (ts : List Token) where
       unroll Mode.primary i λ f. rw (kinds-apart isName k kLiteral e refl, kinds-apart isName k kTrue e refl, kinds-apart isName k kFalse e refl, e) given
   found (a-this {i = i} e) = unroll Mode.primary i λ f. rw e given
   found (make-object {i = i} e e₁ e₂ e₃) = unroll Mode.primary i λ f. rw (e, e₁) (simp towards-numerals (rw (e₂, e₃) given))
+  found (get-register {i = i} {j = j} {e = x} e e₁ e₂ e₃ d e₄) =
+      unroll Mode.primary i λ f. rw (e, e₁) (simp towards-numerals (rw (e₂, e₃) (after _ (found-whole (i + 4) j x (found d) e₄ refl f) (rw e₄ given))))
   found (parentheses {i = i} {j = j} {e = x} e d e₁) =
       unroll Mode.primary i λ f. rw e (after _ (found-whole (i + 1) j x (found d) e₁ refl f) (rw e₁ given))
   found (none-given {i = i}) = λ e. unroll Mode.argumentList i λ f. rw e given
@@ -254,12 +258,15 @@ module _ (ts : List Token) where
       unroll Mode.aStatement i λ f. rw (e, e₁) (simp towards-numerals (rw (e₂, e₃, e₄, e₅) (after _ (found-whole (i + 6) j x (found d) e₆ refl f) (rw (e₆, e₇) given))))
   found (an-assignment {i = i} {j = j} {e = x} e e₁ d e₂) =
       let w = no-keyword (kindAt ts i) e in
-      unroll Mode.aStatement i λ f. rw (w .0, w .1, w .2, w .3, e, e₁)
+      unroll Mode.aStatement i λ f. rw (w .0, w .1, w .2, w .3, w .4, e, e₁)
       (simp towards-numerals (after _ (found-whole (i + 2) j x (found d) e₂ refl f) (rw e₂ given)))
   found (an-element-assignment {i = i} {j = j} {k = n} {n = x} {e = y} e e₁ d e₂ e₃ d₁ e₄) =
       let w = no-keyword (kindAt ts i) e in
-      unroll Mode.aStatement i λ f. rw (w .0, w .1, w .2, w .3, e, e₁)
+      unroll Mode.aStatement i λ f. rw (w .0, w .1, w .2, w .3, w .4, e, e₁)
       (after _ (found-whole (i + 2) j x (found d) e₂ refl f) (rw (e₂, e₃) (simp towards-numerals (after _ (found-whole (j + 2) n y (found d₁) e₄ refl f) (rw e₄ given)))))
+  found (put-register {i = i} {j = j} {k = n} {n = x} {e = y} e e₁ e₂ e₃ d e₄ d₁ e₅ e₆) =
+      unroll Mode.aStatement i λ f. rw (e, e₁) (simp towards-numerals (rw (e₂, e₃) (after _ (found-whole (i + 4) j x (found d) e₄ refl f)
+      (rw e₄ (after _ (found-whole (j + 1) n y (found d₁) e₅ refl f) (rw (e₅, e₆) given))))))
   found (no-statement {i = i}) = λ h. unroll Mode.statementList i λ f. rw h given
   found (more-statements {i = i} d ds) = λ h. unroll Mode.statementList i λ f. rw (first d .0) (after _ (found d f) (after _ (found ds h f) given))
 

@@ -14,7 +14,7 @@ use lib.Seq.{getD-take, length-take-le, take-at, getD-at}
 use Rattle.base.specs.Choice.{if_then_else_, option}
 use Rattle.base.specs.All.{All, all-nil, all-cons}
 use Rattle.lexer.specs.Tokens.{Token}
-use Rattle.lexer.specs.Kinds.{kEnd, kName, kBoolean, kLength, kReturn, kAnd, kLess, kPlus, kTimes, kAssign, kSemicolon, kOpen, kClose}
+use Rattle.lexer.specs.Kinds.{kEnd, kName, kBoolean, kLength, kReturn, kAnd, kLess, kPlus, kTimes, kAssign, kComma, kSemicolon, kOpen, kClose}
 use Rattle.lexer.specs.Kinds.{kCloseBracket, kOpenBrace, kCloseBrace, isName}
 use Rattle.parser.specs.Stream.{noMore, kindAt, Level, Level.conjunction, Level.comparison, Level.sum, Level.product, operatorOf}
 use Rattle.parser.specs.Tree.{Operator}
@@ -75,7 +75,7 @@ first (q ∷ w) = q
 
 -- the kinds of token that end an expression, and a list of statements
 closes : ℕ → Bool
-closes k = eqb k kClose || eqb k kCloseBracket || eqb k kSemicolon
+closes k = eqb k kClose || eqb k kCloseBracket || eqb k kSemicolon || eqb k kComma
 
 ends : ℕ → Bool
 ends k = eqb k kCloseBrace || eqb k kReturn
@@ -159,7 +159,8 @@ keeps afterNew k f h = kept-if (isBasic k) (kept-push (refl ▹ refl ▹ refl �
 keeps afterClass k f h = kept-if (eqb k _) (kept-push (refl ▹ refl ▹ refl ▹ f ▹ h)) (kept-push (refl ▹ refl ▹ f ▹ h))
 keeps primary k f h =
     kept-if (eqb k _) (kept-push (refl ▹ h)) (kept-if (eqb k _) (kept-push (refl ▹ h)) (kept-if (eqb k _) (kept-push (refl ▹ h)) (kept-if (isName k) (kept-push (refl ▹ h))
-    (kept-if (eqb k _) (kept-push (refl ▹ h)) (kept-if (eqb k _) (kept-push (refl ▹ refl ▹ refl ▹ refl ▹ h)) (kept-if (eqb k _) (kept-push (refl ▹ refl ▹ refl ▹ h)) kept-refuse))))))
+    (kept-if (eqb k _) (kept-push (refl ▹ h)) (kept-if (eqb k _) (kept-push (refl ▹ refl ▹ refl ▹ refl ▹ h)) (kept-if (eqb k _) (kept-push (refl ▹ refl ▹ refl ▹ h))
+    (kept-if (eqb k _) (kept-push (refl ▹ refl ▹ refl ▹ refl ▹ refl ▹ refl ▹ h)) kept-refuse)))))))
 keeps (suffixes b) k f h =
     kept-if (eqb k _ && b) (kept-push (refl ▹ refl ▹ refl ▹ f ▹ h)) (kept-if (eqb k _) kept-refuse (kept-if (eqb k _) (kept-push (refl ▹ f ▹ h)) (kept-push h)))
 keeps afterDot k f h = kept-if (eqb k _) (kept-push (refl ▹ f ▹ h)) (kept-push (refl ▹ refl ▹ refl ▹ f ▹ h))
@@ -169,7 +170,7 @@ keeps moreArguments k f h = kept-if (eqb k _) (kept-push (refl ▹ h)) (kept-pus
 keeps aStatement k f h =
     kept-if (eqb k _) (kept-push (refl ▹ refl ▹ refl ▹ h)) (kept-if (eqb k _) (kept-push (refl ▹ refl ▹ refl ▹ refl ▹ refl ▹ refl ▹ refl ▹ h))
     (kept-if (eqb k _) (kept-push (refl ▹ refl ▹ refl ▹ refl ▹ refl ▹ h)) (kept-if (eqb k _) (kept-push (refl ▹ refl ▹ refl ▹ refl ▹ refl ▹ refl ▹ refl ▹ refl ▹ refl ▹ h))
-    (kept-if (isName k) (kept-push (refl ▹ refl ▹ h)) kept-refuse))))
+    (kept-if (eqb k _) (kept-push (refl ▹ refl ▹ refl ▹ refl ▹ refl ▹ refl ▹ refl ▹ refl ▹ refl ▹ h)) (kept-if (isName k) (kept-push (refl ▹ refl ▹ h)) kept-refuse)))))
 keeps afterName k f h = kept-if (eqb k _) (kept-push (refl ▹ refl ▹ refl ▹ refl ▹ refl ▹ refl ▹ h)) (kept-push (refl ▹ refl ▹ refl ▹ h))
 keeps statementList k f h = kept-if (beginsStatement k) (kept-push (refl ▹ f ▹ h)) (kept-push h)
 keeps aType k f h = kept-push (refl ▹ f ▹ h)
@@ -200,15 +201,17 @@ spells-first : (us : List Token) (i : ℕ) (w : List ℕ) → KindsFrom us i w �
 spells-first us i [] h = ap (λ (t : Token). t .kind) (List·getD-eq-default us noMore {n = i} (omega arith))
 spells-first us i (q ∷ w) h = h .0
 
-closes-cases : (P : ℕ → Type 0) (k : ℕ) → closes k ≡ true → P kClose → P kCloseBracket → P kSemicolon → P k
+closes-cases : (P : ℕ → Type 0) (k : ℕ) → closes k ≡ true → P kClose → P kCloseBracket → P kSemicolon → P kComma → P k
 unfolding closes
-closes-cases P k e a b c = go (eqb k kClose) (eqb k kCloseBracket) (eqb k kSemicolon) refl refl refl e
+closes-cases P k e a b c d = go (eqb k kClose) (eqb k kCloseBracket) (eqb k kSemicolon) (eqb k kComma) refl refl refl refl e
   where
-    go : (x y z : Bool) → eqb k kClose ≡ x → eqb k kCloseBracket ≡ y → eqb k kSemicolon ≡ z → (x || y || z) ≡ true → P k
-    go true y z p q r e = subst P (sym (eqb-true k kClose p)) a
-    go false true z p q r e = subst P (sym (eqb-true k kCloseBracket q)) b
-    go false false true p q r e = subst P (sym (eqb-true k kSemicolon r)) c
-    go false false false p q r e = let z : _≡_ {A = ℕ} 0 1 = cc in absurd (omega arith)
+    go : (x y z w : Bool) → eqb k kClose ≡ x → eqb k kCloseBracket ≡ y → eqb k kSemicolon ≡ z → eqb k kComma ≡ w
+        → (x || y || z || w) ≡ true → P k
+    go true y z w p q r s e = subst P (sym (eqb-true k kClose p)) a
+    go false true z w p q r s e = subst P (sym (eqb-true k kCloseBracket q)) b
+    go false false true w p q r s e = subst P (sym (eqb-true k kSemicolon r)) c
+    go false false false true p q r s e = subst P (sym (eqb-true k kComma s)) d
+    go false false false false p q r s e = let z : _≡_ {A = ℕ} 0 1 = cc in absurd (omega arith)
 
 ends-cases : (P : ℕ → Type 0) (k : ℕ) → ends k ≡ true → P kCloseBrace → P kReturn → P k
 unfolding ends
@@ -234,10 +237,10 @@ fits-pushed {x} {S} k r h = kept-pushed (subst (λ (m : Move). Kept S m) r (keep
 -- no operator follows an expression
 no-operator : (L : Level) (k : ℕ) → closes k ≡ true → rule (operations L) k ≡ push []
 unfolding rule operatorOf
-no-operator conjunction k f = closes-cases (λ k. rule (operations conjunction) k ≡ push []) k f refl refl refl
-no-operator comparison k f = closes-cases (λ k. rule (operations comparison) k ≡ push []) k f refl refl refl
-no-operator sum k f = closes-cases (λ k. rule (operations sum) k ≡ push []) k f refl refl refl
-no-operator product k f = closes-cases (λ k. rule (operations product) k ≡ push []) k f refl refl refl
+no-operator conjunction k f = closes-cases (λ k. rule (operations conjunction) k ≡ push []) k f refl refl refl refl
+no-operator comparison k f = closes-cases (λ k. rule (operations comparison) k ≡ push []) k f refl refl refl refl
+no-operator sum k f = closes-cases (λ k. rule (operations sum) k ≡ push []) k f refl refl refl refl
+no-operator product k f = closes-cases (λ k. rule (operations product) k ≡ push []) k f refl refl refl refl
 
 word-operand : (L : Level) → word (operandOf L) ≡ kName ∷ []
 word-operand conjunction = refl
@@ -289,7 +292,7 @@ module _ (us : List Token) where
   fill-suffixes : (b : Bool) → Filled (suffixes b)
   unfolding rule
   fill-suffixes b =
-      by-rule (suffixes b) all-nil (λ S. refl) λ S f. closes-cases (λ k. rule (suffixes b) k ≡ push []) (first (words S)) f refl refl refl
+      by-rule (suffixes b) all-nil (λ S. refl) λ S f. closes-cases (λ k. rule (suffixes b) k ≡ push []) (first (words S)) f refl refl refl refl
 
   fill-primary : Filled primary
   unfolding rule isName

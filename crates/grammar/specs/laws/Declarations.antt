@@ -148,7 +148,7 @@ module _ (ts : List Token) where
   named-body (suc f) i n zs h e first =
       let here = seen ts i isName refl e in
       let w = no-keyword (kindAt ts i) e in
-      rw (w .0, w .1, w .2, w .3, e)
+      rw (w .0, w .1, w .2, w .3, w .4, e)
       (binds-all zs _ (first f (omega arith)) λ s j le d.
       binds _ (parts ts f Mode.statementList j (omega (arith, d .1))) λ ss n le₂ ds. accept (more-statements (d .0) ds))
 

@@ -14,6 +14,7 @@ use Rattle.base.specs.Choice.{if_then_else_, option}
 use Rattle.base.specs.laws.Tests.{and-true}
 use Rattle.lexer.specs.Tokens.{Token}
 use Rattle.lexer.specs.Kinds.{kEnd, kOut, kPrintln, kLiteral, kElse, kFalse, kIf, kLength, kNew, kSystem, kThis, kTrue, kWhile}
+use Rattle.lexer.specs.Kinds.{kGet, kPut, kPort}
 use Rattle.lexer.specs.Kinds.{kNot, kAssign, kDot, kComma, kSemicolon, kOpen, kClose, kOpenBracket, kCloseBracket, kOpenBrace, kCloseBrace}
 use Rattle.lexer.specs.Kinds.{isName}
 use Rattle.parser.specs.Tree.{Operator, Element, Sort, Sort.expression, Sort.arguments, Sort.statement, Sort.statements, Part, Expression}
@@ -26,9 +27,9 @@ use Rattle.parser.specs.contracts.Post.{rank}
 use Rattle.parser.specs.Grammar as Grammar
 use Rattle.parser.specs.Grammar.{DerivesElement, a-class}
 use Rattle.parser.specs.Grammar.{Kind, Derives, operate, one-operand, negate, no-negation, make-array, no-array, index, take-length, invoke}
-use Rattle.parser.specs.Grammar.{no-suffix, a-literal, a-true, a-false, a-name, a-this, make-object, parentheses}
+use Rattle.parser.specs.Grammar.{no-suffix, a-literal, a-true, a-false, a-name, a-this, make-object, get-register, parentheses}
 use Rattle.parser.specs.Grammar.{none-given, some-given, one-argument, more-arguments, a-block, an-if, a-while, a-print, an-assignment}
-use Rattle.parser.specs.Grammar.{an-element-assignment, no-statement, more-statements}
+use Rattle.parser.specs.Grammar.{an-element-assignment, put-register, no-statement, more-statements}
 use Rattle.grammar.specs.laws.Recogniser.{Symbol, push, rule, refuses, operandOf, arrayEnd, targetEnd, isBasic}
 use Rattle.grammar.specs.laws.Passing.{seen, seen-kind, no-keyword, element-found, isOperatorOf, single}
 use Rattle.grammar.specs.laws.Passing.{tests-kind, tests-next, tests-either, tests-again, pushed-by, binds-all, moved, passes-bad}
@@ -235,7 +236,12 @@ module _ (ts : List Token) (f : ℕ) (p : Below ts f) where
       (λ _. tests-kind kOpen i _ _ _ _
       (λ e. let here = seen-kind ts i kOpen refl e in
       pushed (takes kOpen e (binds _ (p .of anExpression (i + 1) (omega arith)) λ x j le d. expects kClose j _ λ e₂. accept (parentheses e d e₂))))
-      (λ _. refused))))))))
+      (λ _. tests-kind kPort i _ _ _ _
+      (λ e. let here = seen-kind ts i kPort refl e in
+      pushed (takes kPort e (expects kDot (i + 1) _ λ e₁. expects kGet (i + 1 + 1) _ λ e₂. expects kOpen (i + 1 + 1 + 1) _ λ e₃.
+      binds _ (p .of anExpression (i + 1 + 1 + 1 + 1) (omega arith)) λ x j le d. expects kClose j _ λ e₄.
+      accept (get-register e e₁ (simp towards-numerals at e₂) (simp towards-numerals at e₃) (simp towards-numerals at d) e₄))))
+      (λ _. refused)))))))))
 
   argumentList-step : (i : ℕ) → Step ts f Mode.argumentList i
   unfolding step rule
@@ -260,7 +266,7 @@ module _ (ts : List Token) (f : ℕ) (p : Below ts f) where
   named-element i e e₁ h =
       let here = seen ts i isName refl e in
       let n = no-keyword (kindAt ts i) e in
-      rw (n .0, n .1, n .2, n .3, e, e₁)
+      rw (n .0, n .1, n .2, n .3, n .4, e, e₁)
       (binds _ (p .of anExpression (i + 2) (omega arith)) λ x j le d. expects kCloseBracket j _ λ e₂. expects kAssign (j + 1) _ λ e₃.
       binds _ (p .of anExpression (j + 1 + 1) (omega arith)) λ y n le₂ d₂. expects kSemicolon n _ λ e₄.
       accept (an-element-assignment e e₁ d e₂ e₃ (simp towards-numerals at d₂) e₄, omega arith))
@@ -280,7 +286,7 @@ module _ (ts : List Token) (f : ℕ) (p : Below ts f) where
       go false b =
           let here = seen ts i isName refl e in
           let n = no-keyword (kindAt ts i) e in
-          rw (n .0, n .1, n .2, n .3, e, b)
+          rw (n .0, n .1, n .2, n .3, n .4, e, b)
           (pushed-by {xs = Symbol.one kAssign ∷ Symbol.operation conjunction ∷ Symbol.one kSemicolon ∷ []} (rw b)
           (expects kAssign (i + 1) _ λ e₁. binds _ (p .of anExpression (i + 1 + 1) (omega arith)) λ y j le d. expects kSemicolon j _ λ e₂.
           accept (an-assignment e e₁ (simp towards-numerals at d) e₂, omega arith)))
@@ -311,7 +317,16 @@ module _ (ts : List Token) (f : ℕ) (p : Below ts f) where
             (simp towards-numerals at d) e₆ e₇),
         omega arith,
       ))))
-      (λ _. rw unnamed refused)))))
+      (λ _. tests-kind kPort i _ _ _ _
+      (λ e. let here = seen-kind ts i kPort refl e in
+      pushed (takes kPort e (expects kDot (i + 1) _ λ e₁. expects kPut (i + 1 + 1) _ λ e₂. expects kOpen (i + 1 + 1 + 1) _ λ e₃.
+      binds _ (p .of anExpression (i + 1 + 1 + 1 + 1) (omega arith)) λ x j le d. expects kComma j _ λ e₄.
+      binds _ (p .of anExpression (j + 1) (omega arith)) λ y n le₂ d₂. expects kClose n _ λ e₅. expects kSemicolon (n + 1) _ λ e₆.
+      accept (
+        simp towards-numerals (put-register e e₁ (simp towards-numerals at e₂) (simp towards-numerals at e₃) (simp towards-numerals at d) e₄ d₂ e₅ e₆),
+        omega arith,
+      ))))
+      (λ _. rw unnamed refused))))))
 
   aStatement-step : (i : ℕ) → Step ts f Mode.aStatement i
   unfolding rule isName
@@ -321,7 +336,7 @@ module _ (ts : List Token) (f : ℕ) (p : Below ts f) where
           → PassesOver ts (Symbol.aStatement ∷ []) i (Meant ts Mode.aStatement i) (step ts (λ s m j. parseAs f ts m j) Mode.aStatement i)
       go true e =
           let n = no-keyword (kindAt ts i) e in
-          pushed-by {xs = Symbol.aName ∷ Symbol.afterName ∷ []} (rw (n .0, n .1, n .2, n .3, e)) (takes-name e (named i e (omega arith)))
+          pushed-by {xs = Symbol.aName ∷ Symbol.afterName ∷ []} (rw (n .0, n .1, n .2, n .3, n .4, e)) (takes-name e (named i e (omega arith)))
       go false n = other-statement i n h
 
   statementList-step : (i : ℕ) → Step ts f Mode.statementList i

@@ -9,12 +9,13 @@ use mathlib.Core.Bool.{Bool, true, false, _&&_, _||_}
 use mathlib.Core.Option.{Option, none, some}
 use native.Mathlib.Omega.{arith}
 use native.Mathlib.Decide.{decLt}
-use borrow.Author.Tests.{eqb-true, eq-eqb, ne-eqb}
+use borrow.Author.Tests.{eqb-true, eq-eqb}
 use lib.Dec.{eqb}
 use lib.ListN.{length, List·getD-eq-default}
 use Rattle.base.specs.Choice.{if_then_else_, option}
 use Rattle.lexer.specs.Tokens.{Token}
-use Rattle.lexer.specs.Kinds.{kEnd, kBoolean, kIf, kInt, kSystem, kWhile, kOpenBrace, isName}
+use Rattle.lexer.specs.Kinds.{kEnd, kBoolean, kIf, kInt, kPort, kSystem, kWhile, kOpenBrace, isName}
+pub use Rattle.lexer.specs.laws.ItemLaws.{kinds-apart}
 use Rattle.parser.specs.Stream.{noMore, tokenAt, kindAt, Level, operatorOf}
 use Rattle.parser.specs.Tree.{Operator, Element, Element.int, Element.boolean, Element.class}
 use Rattle.parser.specs.Parse.{Parsed, ok, bad, bind, expect, expectName, elementType, beginsType}
@@ -36,15 +37,17 @@ seen ts i test no-end e =
 pub seen-kind : (ts : List Token) (i q : ℕ) → eqb kEnd q ≡ false → kindAt ts i ≡ q → i < length ts
 seen-kind ts i q no-end e = seen ts i (λ k. eqb k q) no-end (eq-eqb (kindAt ts i) q e)
 
--- a test tells two kinds of token apart
-pub kinds-apart : (test : ℕ → Bool) (k q : ℕ) → test k ≡ true → test q ≡ false → eqb k q ≡ false
-kinds-apart test k q e n = ne-eqb k q λ z. let z₂ : true ≡ false = sym e ∙ ap test z ∙ n in let z₃ : _≡_ {A = ℕ} 0 1 = cc in omega arith
-
 -- a name is none of the other tokens that begin a statement or a type
 pub no-keyword : (k : ℕ) → isName k ≡ true
-    → (eqb k kOpenBrace ≡ false) × (eqb k kIf ≡ false) × (eqb k kWhile ≡ false) × (eqb k kSystem ≡ false)
+    → (eqb k kOpenBrace ≡ false) × (eqb k kIf ≡ false) × (eqb k kWhile ≡ false) × (eqb k kSystem ≡ false) × (eqb k kPort ≡ false)
 unfolding isName
-no-keyword k e = (kinds-apart isName k kOpenBrace e refl, kinds-apart isName k kIf e refl, kinds-apart isName k kWhile e refl, kinds-apart isName k kSystem e refl)
+no-keyword k e = (
+  kinds-apart isName k kOpenBrace e refl,
+  kinds-apart isName k kIf e refl,
+  kinds-apart isName k kWhile e refl,
+  kinds-apart isName k kSystem e refl,
+  kinds-apart isName k kPort e refl,
+)
 
 pub no-basic-type : (k : ℕ) → isName k ≡ true → (eqb k kInt ≡ false) × (eqb k kBoolean ≡ false)
 unfolding isName

@@ -9,7 +9,7 @@ use lib.Dec.{eqb}
 use Rattle.base.specs.Choice.{if_then_else_, option}
 use Rattle.lexer.specs.Tokens.{Token}
 use Rattle.lexer.specs.Kinds.{kEnd, kOut, kPrintln, kLiteral, kBoolean, kClass, kElse, kExtends, kFalse, kIf, kInt, kLength, kMain, kNew}
-use Rattle.lexer.specs.Kinds.{kPublic, kReturn, kStatic, kString, kSystem, kThis, kTrue, kVoid, kWhile}
+use Rattle.lexer.specs.Kinds.{kGet, kPut, kPort, kPublic, kReturn, kStatic, kString, kSystem, kThis, kTrue, kVoid, kWhile}
 use Rattle.lexer.specs.Kinds.{kNot, kAssign, kDot, kComma, kSemicolon, kOpen, kClose, kOpenBracket, kCloseBracket, kOpenBrace, kCloseBrace}
 use Rattle.lexer.specs.Kinds.{isName}
 use Rattle.parser.specs.Stream.{kindAt, Level, Level.conjunction, Level.comparison, Level.sum, Level.product, operatorOf}
@@ -75,6 +75,7 @@ rule primary k =
     if eqb k kThis then (λ _. push (one kThis ∷ [])) else λ _.
     if eqb k kNew then (λ _. push (one kNew ∷ aName ∷ one kOpen ∷ one kClose ∷ [])) else λ _.
     if eqb k kOpen then (λ _. push (one kOpen ∷ expression ∷ one kClose ∷ [])) else λ _.
+    if eqb k kPort then (λ _. push (one kPort ∷ one kDot ∷ one kGet ∷ one kOpen ∷ expression ∷ one kClose ∷ [])) else λ _.
     refuse
 rule (suffixes b) k =
     if eqb k kOpenBracket && b then (λ _. push (one kOpenBracket ∷ expression ∷ one kCloseBracket ∷ suffixes true ∷ [])) else λ _.
@@ -91,6 +92,7 @@ rule aStatement k =
     if eqb k kIf then (λ _. push (one kIf ∷ one kOpen ∷ expression ∷ one kClose ∷ aStatement ∷ one kElse ∷ aStatement ∷ [])) else λ _.
     if eqb k kWhile then (λ _. push (one kWhile ∷ one kOpen ∷ expression ∷ one kClose ∷ aStatement ∷ [])) else λ _.
     if eqb k kSystem then (λ _. push (one kSystem ∷ one kDot ∷ one kOut ∷ one kDot ∷ one kPrintln ∷ one kOpen ∷ expression ∷ one kClose ∷ one kSemicolon ∷ [])) else λ _.
+    if eqb k kPort then (λ _. push (one kPort ∷ one kDot ∷ one kPut ∷ one kOpen ∷ expression ∷ one kComma ∷ expression ∷ one kClose ∷ one kSemicolon ∷ [])) else λ _.
     if isName k then (λ _. push (aName ∷ afterName ∷ [])) else λ _.
     refuse
 rule afterName k =

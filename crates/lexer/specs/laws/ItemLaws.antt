@@ -4,13 +4,13 @@ use Prim.Native.Nat.{ℕ, suc, _+_, _-_, _≤_, _<_}
 use native.Mathlib.Omega.{arith}
 use mathlib.Core.List.{List, [], _∷_}
 use mathlib.Core.Logic.{_≢_}
-use mathlib.Core.Bool.{Bool, true, false, _&&_, _||_, not, false≢true}
+use mathlib.Core.Bool.{Bool, true, false, _&&_, _||_, not, true≢false, false≢true}
 use mathlib.Core.Option.{Option, none, some}
 use mathlib.Core.Path.{_≡_, refl, sym, ap, _∙_}
 use lib.ListN.{length, getD, take, drop, length-drop}
 use lib.Dec.{eqb, ltb, lit<}
 use lib.Seq.{drop-cons}
-use borrow.Author.Tests.{ltb-true, eqb-true, eqb-false, not-true}
+use borrow.Author.Tests.{ltb-true, eqb-true, ne-eqb, eqb-false, not-true}
 use Rattle.base.specs.Bytes.{same}
 use Rattle.base.specs.Choice.{if_then_else_}
 use Rattle.base.specs.All.{All, all-nil, all-cons}
@@ -76,9 +76,17 @@ run-some p b l e = rw e (omega arith)
 
 -- ---- the kinds of words and marks
 
+-- a test tells two kinds apart
+pub kinds-apart : (test : ℕ → Bool) (k q : ℕ) → test k ≡ true → test q ≡ false → eqb k q ≡ false
+kinds-apart test k q e n = ne-eqb k q λ z. absurd (true≢false (sym e ∙ ap test z ∙ n))
+
+-- every kind is below this number
+abbrev pub kindsEnd : ℕ
+kindsEnd = 43
+
 -- a kind of a word or a mark, which is no literal's; 0 is the kind of no mark
 abbrev kindFits : ℕ → Bool
-kindFits k = ltb k 40 && not (eqb k kLiteral)
+kindFits k = ltb k kindsEnd && not (eqb k kLiteral)
 
 abbrev kindsFit : List Word → Bool
 kindsFit [] = true
@@ -92,12 +100,12 @@ word-fits (w ∷ ws) t e =
 
 -- the same as facts
 abbrev KindFits : ℕ → Type 0
-KindFits k = (k < 40) × (k ≢ kLiteral)
+KindFits k = (k < kindsEnd) × (k ≢ kLiteral)
 
 kind-fits : (k : ℕ) → kindFits k ≡ true → KindFits k
 kind-fits k e =
-    let q = and-true (ltb k 40) (not (eqb k kLiteral)) e in
-    (ltb-true k 40 (q .0), eqb-false k kLiteral (not-true (eqb k kLiteral) (q .1)))
+    let q = and-true (ltb k kindsEnd) (not (eqb k kLiteral)) e in
+    (ltb-true k kindsEnd (q .0), eqb-false k kLiteral (not-true (eqb k kLiteral) (q .1)))
 
 pub word-kind-fits : (t : List ℕ) → (0 < wordKind t) × KindFits (wordKind t)
 unfolding wordKind words
@@ -166,7 +174,7 @@ Digits t = All (λ b. isDigit b ≡ true) t
 -- a token's kind and its text, which the bytes begin with
 pub record Shape (kind : ℕ) (text bs : List ℕ) : Type 0 where
   pub positive : 0 < kind
-  pub below : kind < 40
+  pub below : kind < kindsEnd
   pub nonempty : 0 < length text
   pub short : length text ≤ length bs
   pub front : take (length text) bs ≡ text
@@ -202,7 +210,7 @@ module _ (i b : ℕ) (r : List ℕ) where
   good-comment none e w = tt
   good-comment (some j) e w = omega (arith, length-drop 1 r, ap length (w .second))
 
-  good-run : (p : ℕ → Bool) (k : ℕ) → 0 < k → k < 40 → (k ≡ kLiteral → Digits (longestRun p (b ∷ r)))
+  good-run : (p : ℕ → Bool) (k : ℕ) → 0 < k → k < kindsEnd → (k ≡ kLiteral → Digits (longestRun p (b ∷ r)))
       → (isName k ≡ true → longestRun p (b ∷ r) ≡ longestRun isNamePart (b ∷ r))
       → p b ≡ true → Good i (b ∷ r) (token k (longestRun p (b ∷ r)))
   good-run p k l h d n e = record {

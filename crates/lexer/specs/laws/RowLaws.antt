@@ -20,7 +20,7 @@ use Rattle.lexer.specs.Bytes.{isNamePart}
 use Rattle.lexer.specs.Kinds.{kEnd, kLiteral, isName}
 use Rattle.lexer.specs.Tokens.{Token, Item, gap, unclosed, nothing, token, longestRun, decimal, startsWithZero, item, tooLong, zeroFirst, tooLarge, turn, tokensFrom, tokens}
 use Rattle.base.specs.laws.Tests.{apart, and-true, and-right, same-refl, same-equal}
-use Rattle.lexer.specs.laws.ItemLaws.{Good, Shape, Digits, good}
+use Rattle.lexer.specs.laws.ItemLaws.{kindsEnd, Good, Shape, Digits, good}
 use Rattle.lexer.specs.contracts.Rows.{firstNamed, Rows, Lexes}
 use Rattle.lexer.specs.declared.Lexed.the-variants.{Tokens, Refused}
 
@@ -116,7 +116,7 @@ module _ (ts : List Token) (i : ℕ) (t : Token) (at : getElem? ts i ≡ some t)
 -- a token of s
 pub record TokenOf (s : List ℕ) (t : Token) : Type 0 where
   pub positive : 0 < t .kind
-  pub below : t .kind < 40
+  pub below : t .kind < kindsEnd
   pub nonempty : 0 < length (t .text)
   pub inside : t .start + length (t .text) ≤ length s
   pub front : take (length (t .text)) (drop (t .start) s) ≡ t .text

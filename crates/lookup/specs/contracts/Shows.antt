@@ -6,14 +6,15 @@ use mathlib.Core.List.{List}
 use mathlib.Core.Bool.{Bool, true, false}
 use lib.Dec.{eqb}
 use Rattle.base.specs.Choice.{if_then_else_}
-use Rattle.lexer.specs.Kinds.{kLiteral, kTrue, kFalse, kThis, kNew, kDot, kLength, kNot}
+use Rattle.lexer.specs.Kinds.{kLiteral, kTrue, kFalse, kThis, kNew, kDot, kLength, kNot, kPort}
 use Rattle.lexer.specs.Kinds.{kOpenBracket, kOpenBrace, kIf, kWhile, kSystem}
 use Rattle.lexer.specs.Tokens.{Token}
 use Rattle.parser.specs.Tree.{Place, Name, Operator, ElementUse, Ty.arrayOf}
 use Rattle.parser.specs.Tree.{Sort, Sort.expression, Sort.arguments, Sort.statement, Sort.statements, Part, Expression, Statement}
 use Rattle.parser.specs.Tree.{Part.literal, Part.truth, Part.variable, Part.this, Part.newArray, Part.newObject, Part.negation, Part.binary}
-use Rattle.parser.specs.Tree.{Part.element, Part.arrayLength, Part.call, Part.argument}
-use Rattle.parser.specs.Tree.{Part.block, Part.conditional, Part.loop, Part.print, Part.assign, Part.assignElement, Part.sequence}
+use Rattle.parser.specs.Tree.{Part.element, Part.arrayLength, Part.call, Part.portGet, Part.argument}
+use Rattle.parser.specs.Tree.{Part.block, Part.conditional, Part.loop, Part.print, Part.assign, Part.assignElement, Part.portPut}
+use Rattle.parser.specs.Tree.{Part.sequence}
 use Rattle.parser.specs.contracts.Layout.{rowOf}
 use Rattle.parser.specs.contracts.Post.{kindInTable, isAtom}
 use Rattle.reader.specs.contracts.Holds.{Holds}
@@ -34,9 +35,9 @@ Bound = (s : Sort) → Part s → Type 0
 -- FORMS BY KINDS
 
 pub data Form : Type 0 where
-  aLiteral aVariable aThis aNewArray aNewObject aNegation aBinary anElement aLength aCall : Form
+  aLiteral aVariable aThis aNewArray aNewObject aNegation aBinary anElement aLength aCall aPortGet : Form
   aTruth : Bool → Form
-  aBlock aConditional aLoop aPrint anAssignment anElementStore : Form
+  aBlock aConditional aLoop aPrint anAssignment anElementStore aPortPut : Form
 
 unfoldable pub formAtom : ℕ → Form
 formAtom k =
@@ -52,6 +53,7 @@ formCompound k next third =
     if eqb k kNew then (λ _. if eqb third kOpenBracket then (λ _. aNewArray) else λ _. aNewObject) else λ _.
     if eqb k kDot then (λ _. if eqb next kLength then (λ _. aLength) else λ _. aCall) else λ _.
     if eqb k kNot then (λ _. aNegation) else λ _.
+    if eqb k kPort then (λ _. aPortGet) else λ _.
     if eqb k kOpenBracket then (λ _. anElement) else λ _.
     aBinary
 
@@ -68,6 +70,7 @@ formS k next =
     if eqb k kIf then (λ _. aConditional) else λ _.
     if eqb k kWhile then (λ _. aLoop) else λ _.
     if eqb k kSystem then (λ _. aPrint) else λ _.
+    if eqb k kPort then (λ _. aPortPut) else λ _.
     if eqb next kOpenBracket then (λ _. anElementStore) else λ _.
     anAssignment
 
@@ -99,6 +102,8 @@ module _ (tab : List ℕ) (ts : List Token) (n row : ℕ) (Before Behind : Bound
         → NameNumber ts (m .text) (wordAt tab 2 (row + 1)) → wordAt tab 1 (row + 1) ≡ m .start
         → PartAt tab ts (wordAt tab 4 row) (Before expression) e
         → PartAt tab ts (wordAt tab 5 row) (Behind arguments) es → Shows aCall (call p e m es)
+    shows-port-get : {p : Place} {e : Expression} → wordAt tab 3 row ≡ p .start → PartAt tab ts (wordAt tab 4 row) (Behind expression) e
+        → Shows aPortGet (portGet p e)
 
 -- all parts of a statement stand behind its first token
 module _ (tab : List ℕ) (ts : List Token) (row : ℕ) (Behind : Bound) where
@@ -119,6 +124,9 @@ module _ (tab : List ℕ) (ts : List Token) (row : ℕ) (Behind : Bound) where
     shows-element-store : {p : Place} {x : List ℕ} {i e : Expression} → wordAt tab 3 row ≡ p .start → NameNumber ts x (wordAt tab 2 row)
         → PartAt tab ts (wordAt tab 4 row) (Behind expression) i → PartAt tab ts (wordAt tab 5 row) (Behind expression) e
         → ShowsS anElementStore (assignElement p x i e)
+    shows-port-put : {p : Place} {n e : Expression} → wordAt tab 3 row ≡ p .start
+        → PartAt tab ts (wordAt tab 4 row) (Behind expression) n → PartAt tab ts (wordAt tab 5 row) (Behind expression) e
+        → ShowsS aPortPut (portPut p n e)
 
 -- LISTS
 

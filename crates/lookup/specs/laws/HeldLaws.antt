@@ -4,11 +4,10 @@ use Prim.Native.Nat.{ℕ, _≤_, _<_, _+_}
 use native.Mathlib.Omega.{arith}
 use mathlib.Core.Path.{_≡_, refl, sym, ap, _∙_, subst}
 use mathlib.Core.List.{List, [], _∷_}
-use mathlib.Core.Bool.{true, false}
+use mathlib.Core.Bool.{true, false, true≢false}
 use mathlib.Core.Option.{Option, none, some, Option·some-injective}
 use lib.ListN.{length, getElem?}
-use lib.Dec.{leb}
-use borrow.Author.Tests.{leb-true, lt-ltb, le-ltb}
+use borrow.Author.Tests.{lt-ltb, le-ltb}
 use Rattle.base.specs.Bytes.{same}
 use Rattle.base.specs.All.{All, all-nil, all-cons}
 use Rattle.base.specs.laws.Lists.{get-getD}
@@ -23,7 +22,7 @@ use Rattle.parser.specs.contracts.Post.{kindInTable}
 use Rattle.reader.specs.contracts.Matches.{NameIs, ElementMatches}
 use Rattle.reader.specs.laws.ReadingLaws.{tokens-in}
 use Rattle.typesystem.specs.ClassTable.{classNamed, sameType}
-use Rattle.base.specs.laws.Tests.{and-true, same-of, apart-same}
+use Rattle.base.specs.laws.Tests.{same-of, apart-same}
 use Rattle.typing.specs.laws.Tests.{sameType-of, apart-sameType}
 use Rattle.typing.specs.laws.Chains.{class-name, all-classes}
 use Rattle.parser.specs.contracts.Layout.{absent}
@@ -46,9 +45,8 @@ unfolding wordAt
 word-out tab k row h = rw (le-ltb row absent h)
 
 -- the kind of a name is none of the other tokens'
-pub name-kind : (k : ℕ) → isName k ≡ true → k ≤ 3
-unfolding isName
-name-kind k e = leb-true k 3 (and-true (leb 1 k) (leb k 3) e .1)
+pub name-kind : (k q : ℕ) → isName k ≡ true → isName q ≡ false → k ≡ q → ⊥
+name-kind k q e n z = true≢false (sym e ∙ ap isName z ∙ n)
 
 module _ {tab : List ℕ} {n : ℕ} {ts : List Token} (lx : Lexemes tab n ts) where
   pub kinds : (i : ℕ) → kindInTable tab n i ≡ kindAt ts i

@@ -6,17 +6,18 @@ use mathlib.Core.Path.{_≡_, refl, sym, ap, _∙_, subst}
 use mathlib.Core.List.{List}
 use mathlib.Core.Bool.{true, false}
 use lib.ListN.{length}
+use lib.Dec.{eqb}
 use borrow.Author.Tests.{ne-eqb}
 use Rattle.base.specs.laws.Lists.{get-getD}
 use Rattle.base.specs.contracts.Table.{col}
-use Rattle.lexer.specs.Kinds.{isName, kLiteral}
+use Rattle.lexer.specs.Kinds.{isName, kLiteral, kTrue, kFalse, kThis, kLength, kOpenBrace, kIf, kWhile, kSystem, kPort}
 use Rattle.lexer.specs.Tokens.{Token, decimal}
 use Rattle.parser.specs.Tree.{ElementUse, Ty.arrayOf}
 use Rattle.parser.specs.Tree.{Place, Name, Operator, Operator.and, Operator.less, Operator.plus, Operator.minus, Operator.times}
 use Rattle.parser.specs.Tree.{Sort, Sort.expression, Sort.arguments, Sort.statement, Sort.statements, Part, Expression, Statement, placeE}
 use Rattle.parser.specs.Tree.{Part.literal, Part.truth, Part.variable, Part.this, Part.newArray, Part.newObject, Part.negation, Part.binary}
-use Rattle.parser.specs.Tree.{Part.element, Part.arrayLength, Part.call, Part.noArguments, Part.argument}
-use Rattle.parser.specs.Tree.{Part.block, Part.conditional, Part.loop, Part.print, Part.assign, Part.assignElement}
+use Rattle.parser.specs.Tree.{Part.element, Part.arrayLength, Part.call, Part.portGet, Part.noArguments, Part.argument}
+use Rattle.parser.specs.Tree.{Part.block, Part.conditional, Part.loop, Part.print, Part.assign, Part.assignElement, Part.portPut}
 use Rattle.parser.specs.Tree.{Part.noStatements, Part.sequence}
 use Rattle.parser.specs.contracts.Layout.{absent, rowOf}
 use Rattle.parser.specs.Stream.{noMore, tokenAt, kindAt}
@@ -29,8 +30,9 @@ use Rattle.lookup.specs.contracts.Shows.{PartAt, Bound, Form, aVariable,
 use Rattle.lookup.specs.contracts.Shows.{formAtom, formCompound, formE, formAt, formS}
 use Rattle.lookup.specs.contracts.Shows.{Shows, shows-literal, shows-truth, shows-variable, shows-this, shows-new-array}
 use Rattle.lookup.specs.contracts.Shows.{shows-new-object, shows-negation, shows-binary, shows-element, shows-length, shows-call}
+use Rattle.lookup.specs.contracts.Shows.{shows-port-get}
 use Rattle.lookup.specs.contracts.Shows.{ShowsS, shows-block, shows-conditional, shows-loop, shows-print, shows-assignment}
-use Rattle.lookup.specs.contracts.Shows.{shows-element-store, GoesOn, one-more-argument, GoesOnS, one-more-statement}
+use Rattle.lookup.specs.contracts.Shows.{shows-element-store, shows-port-put, GoesOn, one-more-argument, GoesOnS, one-more-statement}
 
 -- the token of a node is there
 pub there : (ts : List Token) (e : Expression) → Matches ts e → rowOf e < length ts
@@ -46,6 +48,7 @@ there ts (binary p o l r) m = m .0 .there
 there ts (element p a i) m = m .0 .there
 there ts (arrayLength p a) m = m .0 .there
 there ts (call p e n es) m = m .0 .there
+there ts (portGet p e) m = m .0 .there
 
 pub there-statement : (ts : List Token) (t : Statement) → Matches ts t → rowOf t < length ts
 unfolding Matches
@@ -55,6 +58,7 @@ there-statement ts (loop p e s) m = m .0 .there
 there-statement ts (print p e) m = m .0 .there
 there-statement ts (assign p x e) m = m .0 .there
 there-statement ts (assignElement p x i e) m = m .0 .there
+there-statement ts (portPut p n e) m = m .0 .there
 
 -- what stands in a row
 module _ {tab : List ℕ} {n : ℕ} {ts : List Token} (lx : Lexemes tab n ts) {row r : ℕ} (at : r ≡ row) (low : r < length ts) where
@@ -92,20 +96,23 @@ module _ {tab : List ℕ} {n : ℕ} {ts : List Token} (lx : Lexemes tab n ts) {r
   after-start : wordAt tab 1 (row + 1) ≡ x .start
   after-start = ap (wordAt tab 1) (sym after-row) ∙ start-word lx (x .row) (m .token .there) ∙ m .start
 
-  after-kind : kindInTable tab n (row + 1) ≤ 3
-  after-kind = name-kind (kindInTable tab n (row + 1)) (ap isName (kinds lx (row + 1) ∙ ap (kindAt ts) (sym after-row)) ∙ m .token .named)
+  after-kind : isName (kindInTable tab n (row + 1)) ≡ true
+  after-kind = ap isName (kinds lx (row + 1) ∙ ap (kindAt ts) (sym after-row)) ∙ m .token .named
 
 -- FORMS BY KINDS
 
-form-name : (k next third : ℕ) → isName k ≡ true → formE k next third ≡ aVariable
-unfolding formE formAtom isAtom
-form-name k next third e =
-    let low : k ≤ 3 = name-kind k e in
-    rw (ne-eqb k 4 (λ q. omega arith), ne-eqb k 21 (λ q. omega arith), ne-eqb k 9 (λ q. omega arith), ne-eqb k 20 (λ q. omega arith), e)
+-- a name's kind is not this one, which is no name's
+no-name : (k q : ℕ) → isName k ≡ true → isName q ≡ false → eqb k q ≡ false
+no-name k q e n = ne-eqb k q (name-kind k q e n)
 
-form-dot : (k next third : ℕ) → k ≡ 31 → next ≤ 3 → formE k next third ≡ aCall
+form-name : (k next third : ℕ) → isName k ≡ true → formE k next third ≡ aVariable
+unfolding formE formAtom isAtom isName
+form-name k next third e =
+    rw (no-name k kLiteral e refl, no-name k kTrue e refl, no-name k kFalse e refl, no-name k kThis e refl, e)
+
+form-dot : (k next third : ℕ) → k ≡ 31 → isName next ≡ true → formE k next third ≡ aCall
 unfolding formE formCompound isAtom isName
-form-dot k next third e o = ap (λ (j : ℕ). formE j next third) e ∙ rw (ne-eqb next 12 (λ q. omega arith))
+form-dot k next third e o = ap (λ (j : ℕ). formE j next third) e ∙ rw (no-name next kLength o refl)
 
 form-binary : (o : Operator) (next third : ℕ) → formE (operatorKind o) next third ≡ aBinary
 unfolding formE formCompound isAtom isName
@@ -116,10 +123,9 @@ form-binary minus next third = refl
 form-binary times next third = refl
 
 form-target : (k next : ℕ) {F : Form} → isName k ≡ true → formS 1 next ≡ F → formS k next ≡ F
-unfolding formS
+unfolding formS isName
 form-target k next e f =
-    let low : k ≤ 3 = name-kind k e in
-    rw (ne-eqb k 38 (λ q. omega arith), ne-eqb k 10 (λ q. omega arith), ne-eqb k 23 (λ q. omega arith), ne-eqb k 19 (λ q. omega arith)) f
+    rw (no-name k kOpenBrace e refl, no-name k kIf e refl, no-name k kWhile e refl, no-name k kSystem e refl, no-name k kPort e refl) f
 
 -- WHAT A ROW SHOWS
 
@@ -135,6 +141,7 @@ pub record Bounds (row : ℕ) (Within Before Behind : Bound) : Type 0 where
   pub of-length : {p : Place} {e : Expression} → p .row ≡ row → Within expression (arrayLength p e) → Before expression e
   pub of-call : {p : Place} {e : Expression} {m : Name} {es : Part arguments} → p .row ≡ row → Within expression (call p e m es)
       → Before expression e × Behind arguments es
+  pub of-port-get : {p : Place} {e : Expression} → p .row ≡ row → Within expression (portGet p e) → Behind expression e
 
 pub record BoundsS (row : ℕ) (Within Behind : Bound) : Type 0 where
   pub of-block : {p : Place} {ss : Part statements} → p .row ≡ row → Within statement (block p ss) → Behind statements ss
@@ -146,6 +153,8 @@ pub record BoundsS (row : ℕ) (Within Behind : Bound) : Type 0 where
   pub of-assignment : {p : Place} {x : List ℕ} {e : Expression} → p .row ≡ row → Within statement (assign p x e) → Behind expression e
   pub of-element-store : {p : Place} {x : List ℕ} {i e : Expression} → p .row ≡ row → Within statement (assignElement p x i e)
       → Behind expression i × Behind expression e
+  pub of-port-put : {p : Place} {n e : Expression} → p .row ≡ row → Within statement (portPut p n e)
+      → Behind expression n × Behind expression e
 
 -- one kind tells the form, or two do
 module _ (tab : List ℕ) (n row : ℕ) where
@@ -230,6 +239,10 @@ module _ {tab : List ℕ} {n : ℕ} {ts : List Token} (lx : Lexemes tab n ts) (r
       (after-kind lx at f (m .1) (m .2)))
       (shows-call (word lx at low 3 (h .0 .start)) (after lx at f (m .1) (m .2)) (after-start lx at f (m .1) (m .2))
       (part lx at low 4 (h .0 .first) (h .1) (m .3) (v .0)) (part lx at low 5 (h .0 .second) (h .2) (m .4) (v .1)))
+  see (portGet p e) at h m w =
+      let low = m .0 .there in
+      shows (by tab n row kPort (kind-of lx at low (m .0 .is)) (λ _ _. refl))
+      (shows-port-get (word lx at low 3 (h .0 .start)) (part lx at low 4 (h .0 .first) (h .1) (m .1) (b .of-port-get at w)))
 
   -- the code has read the kinds, which tell the form F
   pub shown : {F : Form} → formAt tab n row ≡ F → (e : Expression)
@@ -283,6 +296,12 @@ module _ {tab : List ℕ} {n : ℕ} {ts : List Token} (lx : Lexemes tab n ts) (r
       showsS (target at (m .0) (m .1) refl)
       (shows-element-store (word lx at low 3 (h .0 .start)) (spelt lx at low (m .0)) (part lx at low 4 (h .0 .first) (h .1) (m .2) (v .0))
       (part lx at low 5 (h .0 .second) (h .2) (m .3) (v .1)))
+  seeS (portPut p i e) at h m w =
+      let low = m .0 .there in
+      let v = b .of-port-put at w in
+      showsS (byS tab n row kPort (kind-of lx at low (m .0 .is)) (λ x. refl))
+      (shows-port-put (word lx at low 3 (h .0 .start)) (part lx at low 4 (h .0 .first) (h .1) (m .1) (v .0))
+      (part lx at low 5 (h .0 .second) (h .2) (m .2) (v .1)))
 
   pub shownS : {F : Form} → formS (kindInTable tab n row) (kindInTable tab n (row + 1)) ≡ F → (t : Statement)
       → PartAt tab ts row (Within statement) t
@@ -303,6 +322,7 @@ starts (shows-binary s k x y) = s
 starts (shows-element s x y) = s
 starts (shows-length s x) = s
 starts (shows-call s m q x y) = s
+starts (shows-port-get s x) = s
 
 -- LISTS
 

@@ -6,8 +6,8 @@ use mathlib.Core.Option.{Option, none, some}
 use lib.ListN.{take}
 use Rattle.base.specs.contracts.Table.{put}
 use Rattle.parser.specs.Tree.{Name, Sort, Part, Variable, Method, Class, Program}
-use Rattle.parser.specs.Tree.{Part.literal, Part.truth, Part.variable, Part.this, Part.newArray, Part.newObject, Part.negation, Part.binary, Part.element, Part.arrayLength, Part.call, Part.noArguments, Part.argument}
-use Rattle.parser.specs.Tree.{Part.block, Part.conditional, Part.loop, Part.print, Part.assign, Part.assignElement, Part.noStatements, Part.sequence}
+use Rattle.parser.specs.Tree.{Part.literal, Part.truth, Part.variable, Part.this, Part.newArray, Part.newObject, Part.negation, Part.binary, Part.element, Part.arrayLength, Part.call, Part.portGet, Part.noArguments, Part.argument}
+use Rattle.parser.specs.Tree.{Part.block, Part.conditional, Part.loop, Part.print, Part.assign, Part.assignElement, Part.portPut, Part.noStatements, Part.sequence}
 
 -- no row: an empty list, or no such part
 abbrev pub absent : ℕ
@@ -26,6 +26,7 @@ rowOf (binary p o l r) = p .row
 rowOf (element p a i) = p .row
 rowOf (arrayLength p a) = p .row
 rowOf (call p e m es) = p .row
+rowOf (portGet p e) = p .row
 rowOf noArguments = absent
 rowOf (argument e es) = rowOf e
 rowOf (block p ss) = p .row
@@ -34,6 +35,7 @@ rowOf (loop p e s) = p .row
 rowOf (print p e) = p .row
 rowOf (assign p x e) = p .row
 rowOf (assignElement p x i e) = p .row
+rowOf (portPut p n e) = p .row
 rowOf noStatements = absent
 rowOf (sequence s ss) = rowOf s
 
@@ -58,6 +60,7 @@ store (binary p o l r) tab = node (store r (store l tab)) (p .row) (p .start) (r
 store (element p a i) tab = node (store i (store a tab)) (p .row) (p .start) (rowOf a) (rowOf i)
 store (arrayLength p a) tab = node (store a tab) (p .row) (p .start) (rowOf a) absent
 store (call p e m es) tab = node (store es (store e tab)) (p .row) (p .start) (rowOf e) (rowOf es)
+store (portGet p e) tab = node (store e tab) (p .row) (p .start) (rowOf e) absent
 store noArguments tab = tab
 store (argument e es) tab = put (store es (store e tab)) 6 (rowOf e) (rowOf es)
 store (block p ss) tab = node (store ss tab) (p .row) (p .start) (rowOf ss) absent
@@ -66,6 +69,7 @@ store (loop p e s) tab = node (store s (store e tab)) (p .row) (p .start) (rowOf
 store (print p e) tab = node (store e tab) (p .row) (p .start) (rowOf e) absent
 store (assign p x e) tab = node (store e tab) (p .row) (p .start) (rowOf e) absent
 store (assignElement p x i e) tab = node (store e (store i tab)) (p .row) (p .start) (rowOf i) (rowOf e)
+store (portPut p n e) tab = node (store e (store n tab)) (p .row) (p .start) (rowOf n) (rowOf e)
 store noStatements tab = tab
 store (sequence s ss) tab = put (store ss (store s tab)) 6 (rowOf s) (rowOf ss)
 

@@ -4,8 +4,8 @@ use mathlib.Core.Path.{_≡_}
 use mathlib.Core.List.{List, [], _∷_}
 use Rattle.base.specs.contracts.Table.{col}
 use Rattle.parser.specs.Tree.{Place, Sort, Part, Variable, Method, Class, Program}
-use Rattle.parser.specs.Tree.{Part.literal, Part.truth, Part.variable, Part.this, Part.newArray, Part.newObject, Part.negation, Part.binary, Part.element, Part.arrayLength, Part.call, Part.noArguments, Part.argument}
-use Rattle.parser.specs.Tree.{Part.block, Part.conditional, Part.loop, Part.print, Part.assign, Part.assignElement, Part.noStatements, Part.sequence}
+use Rattle.parser.specs.Tree.{Part.literal, Part.truth, Part.variable, Part.this, Part.newArray, Part.newObject, Part.negation, Part.binary, Part.element, Part.arrayLength, Part.call, Part.portGet, Part.noArguments, Part.argument}
+use Rattle.parser.specs.Tree.{Part.block, Part.conditional, Part.loop, Part.print, Part.assign, Part.assignElement, Part.portPut, Part.noStatements, Part.sequence}
 use Rattle.parser.specs.contracts.Layout.{absent, rowOf, rowVariables, rowMethods, rowParent, rowClasses}
 
 -- a node's row: where it begins and its first two parts
@@ -26,6 +26,7 @@ Holds tab (binary p o l r) = NodeRow tab p (rowOf l) (rowOf r) × Holds tab l ×
 Holds tab (element p a i) = NodeRow tab p (rowOf a) (rowOf i) × Holds tab a × Holds tab i
 Holds tab (arrayLength p a) = NodeRow tab p (rowOf a) absent × Holds tab a
 Holds tab (call p e m es) = NodeRow tab p (rowOf e) (rowOf es) × Holds tab e × Holds tab es
+Holds tab (portGet p e) = NodeRow tab p (rowOf e) absent × Holds tab e
 Holds tab noArguments = Unit {0}
 Holds tab (argument e es) = Holds tab e × (col tab 6 (rowOf e) ≡ rowOf es) × Holds tab es
 Holds tab (block p ss) = NodeRow tab p (rowOf ss) absent × Holds tab ss
@@ -35,6 +36,7 @@ Holds tab (loop p e s) = NodeRow tab p (rowOf e) (rowOf s) × Holds tab e × Hol
 Holds tab (print p e) = NodeRow tab p (rowOf e) absent × Holds tab e
 Holds tab (assign p x e) = NodeRow tab p (rowOf e) absent × Holds tab e
 Holds tab (assignElement p x i e) = NodeRow tab p (rowOf i) (rowOf e) × Holds tab i × Holds tab e
+Holds tab (portPut p n e) = NodeRow tab p (rowOf n) (rowOf e) × Holds tab n × Holds tab e
 Holds tab noStatements = Unit {0}
 Holds tab (sequence s ss) = Holds tab s × (col tab 6 (rowOf s) ≡ rowOf ss) × Holds tab ss
 

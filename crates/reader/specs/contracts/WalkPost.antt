@@ -13,8 +13,8 @@ use Rattle.base.specs.Choice.{if_then_else_}
 use Rattle.base.specs.contracts.Table.{col}
 use Rattle.lexer.specs.Tokens.{Token}
 use Rattle.parser.specs.Tree.{Sort, Sort.expression, Sort.arguments, Sort.statement, Sort.statements, Part, Method, Class, Program}
-use Rattle.parser.specs.Tree.{Part.literal, Part.truth, Part.variable, Part.this, Part.newArray, Part.newObject, Part.negation, Part.binary, Part.element, Part.arrayLength, Part.call, Part.noArguments, Part.argument}
-use Rattle.parser.specs.Tree.{Part.block, Part.conditional, Part.loop, Part.print, Part.assign, Part.assignElement, Part.noStatements, Part.sequence}
+use Rattle.parser.specs.Tree.{Part.literal, Part.truth, Part.variable, Part.this, Part.newArray, Part.newObject, Part.negation, Part.binary, Part.element, Part.arrayLength, Part.call, Part.portGet, Part.noArguments, Part.argument}
+use Rattle.parser.specs.Tree.{Part.block, Part.conditional, Part.loop, Part.print, Part.assign, Part.assignElement, Part.portPut, Part.noStatements, Part.sequence}
 use Rattle.parser.specs.contracts.Layout.{absent, rowOf, rowMethods, rowClasses}
 use Rattle.parser.specs.Measure.{nodes, deep, methodsNodes, methodsDeep, classesNodes, classesDeep, programNodes, programDeep}
 use Rattle.parser.specs.contracts.Post.{TokensIn}
@@ -37,6 +37,7 @@ Ordered low (binary p o l r) = (low ≤ p .start) × Ordered (p .start) l × Ord
 Ordered low (element p a i) = (low ≤ p .start) × Ordered (p .start) a × Ordered (p .start) i
 Ordered low (arrayLength p a) = (low ≤ p .start) × Ordered (p .start) a
 Ordered low (call p e m es) = (low ≤ p .start) × Ordered (p .start) e × Ordered (p .start) es
+Ordered low (portGet p e) = (low ≤ p .start) × Ordered (p .start) e
 Ordered low noArguments = Unit {0}
 Ordered low (argument e es) = (rowOf e < rowOf es) × Ordered low e × Ordered low es
 Ordered low (block p ss) = (low ≤ p .start) × Ordered (p .start) ss
@@ -45,6 +46,7 @@ Ordered low (loop p e s) = (low ≤ p .start) × Ordered (p .start) e × Ordered
 Ordered low (print p e) = (low ≤ p .start) × Ordered (p .start) e
 Ordered low (assign p x e) = (low ≤ p .start) × Ordered (p .start) e
 Ordered low (assignElement p x i e) = (low ≤ p .start) × Ordered (p .start) i × Ordered (p .start) e
+Ordered low (portPut p n e) = (low ≤ p .start) × Ordered (p .start) n × Ordered (p .start) e
 Ordered low noStatements = Unit {0}
 Ordered low (sequence s ss) = (rowOf s < rowOf ss) × Ordered low s × Ordered low ss
 

@@ -9,8 +9,8 @@ use Rattle.parser.specs.Tree.{Sort, Part, Method, Class, Program}
 use Rattle.parser.specs.Measure.{nodes, methodsNodes, classesNodes, programNodes}
 use Rattle.parser.specs.Grammar.{Kind, Derives, DerivesMethod, DerivesMethods, DerivesClass, DerivesClasses, DerivesProgram}
 use Rattle.parser.specs.Grammar.{Derives.operate, Derives.one-operand, Derives.negate, Derives.no-negation, Derives.make-array, Derives.no-array, Derives.index, Derives.take-length, Derives.invoke, Derives.no-suffix}
-use Rattle.parser.specs.Grammar.{Derives.a-literal, Derives.a-true, Derives.a-false, Derives.a-name, Derives.a-this, Derives.make-object, Derives.parentheses, Derives.none-given, Derives.some-given, Derives.one-argument, Derives.more-arguments}
-use Rattle.parser.specs.Grammar.{Derives.a-block, Derives.an-if, Derives.a-while, Derives.a-print, Derives.an-assignment, Derives.an-element-assignment, Derives.no-statement, Derives.more-statements}
+use Rattle.parser.specs.Grammar.{Derives.a-literal, Derives.a-true, Derives.a-false, Derives.a-name, Derives.a-this, Derives.make-object, Derives.get-register, Derives.parentheses, Derives.none-given, Derives.some-given, Derives.one-argument, Derives.more-arguments}
+use Rattle.parser.specs.Grammar.{Derives.a-block, Derives.an-if, Derives.a-while, Derives.a-print, Derives.an-assignment, Derives.an-element-assignment, Derives.put-register, Derives.no-statement, Derives.more-statements}
 use Rattle.parser.specs.Grammar.{DerivesMethod.a-method, DerivesMethods.no-method, DerivesMethods.more-methods}
 use Rattle.parser.specs.Grammar.{DerivesClass.a-class-declaration, DerivesClasses.no-class, DerivesClasses.more-classes, DerivesProgram.a-program}
 use Rattle.reader.specs.laws.Stored.{variable-lies, variables-lie, formals-lie, parent-order}
@@ -34,6 +34,7 @@ module _ {ts : List Token} where
   tree-nodes (a-name _) = omega arith
   tree-nodes (a-this _) = omega arith
   tree-nodes (make-object _ _ _ _) = omega arith
+  tree-nodes (get-register _ _ _ _ d _) = omega (arith, tree-nodes d)
   tree-nodes (parentheses _ d _) = omega (arith, tree-nodes d)
   tree-nodes none-given = omega arith
   tree-nodes (some-given d) = tree-nodes d
@@ -45,6 +46,7 @@ module _ {ts : List Token} where
   tree-nodes (a-print _ _ _ _ _ _ d _ _) = omega (arith, tree-nodes d)
   tree-nodes (an-assignment _ _ d _) = omega (arith, tree-nodes d)
   tree-nodes (an-element-assignment _ _ d _ _ d′ _) = omega (arith, tree-nodes d, tree-nodes d′)
+  tree-nodes (put-register _ _ _ _ d _ d′ _ _) = omega (arith, tree-nodes d, tree-nodes d′)
   tree-nodes no-statement = omega arith
   tree-nodes (more-statements d d′) = omega (arith, tree-nodes d, tree-nodes d′)
 

@@ -9,8 +9,8 @@ use Rattle.base.specs.contracts.Table.{rows, col, SameColumn}
 use Rattle.lexer.specs.Kinds.{kIf}
 use Rattle.lexer.specs.Tokens.{Token}
 use Rattle.parser.specs.Tree.{Place, Sort, Part, Expression, Statement, Variable, Method, Class, Program}
-use Rattle.parser.specs.Tree.{Part.literal, Part.truth, Part.variable, Part.this, Part.newArray, Part.newObject, Part.negation, Part.binary, Part.element, Part.arrayLength, Part.call, Part.noArguments, Part.argument}
-use Rattle.parser.specs.Tree.{Part.block, Part.conditional, Part.loop, Part.print, Part.assign, Part.assignElement, Part.noStatements, Part.sequence}
+use Rattle.parser.specs.Tree.{Part.literal, Part.truth, Part.variable, Part.this, Part.newArray, Part.newObject, Part.negation, Part.binary, Part.element, Part.arrayLength, Part.call, Part.portGet, Part.noArguments, Part.argument}
+use Rattle.parser.specs.Tree.{Part.block, Part.conditional, Part.loop, Part.print, Part.assign, Part.assignElement, Part.portPut, Part.noStatements, Part.sequence}
 use Rattle.parser.specs.Stream.{kindAt}
 use Rattle.parser.specs.contracts.Layout.{rowOf}
 use Rattle.reader.specs.contracts.Holds.{NodeRow, Holds, HoldsVariables, HoldsMethod, HoldsMethods, HoldsClass, HoldsClasses, HoldsProgram}
@@ -35,6 +35,7 @@ expression-there ts (binary p o l r) m = m .0 .there
 expression-there ts (element p a i) m = m .0 .there
 expression-there ts (arrayLength p a) m = m .0 .there
 expression-there ts (call p e n es) m = m .0 .there
+expression-there ts (portGet p e) m = m .0 .there
 
 statement-there : (ts : List Token) (s : Statement) → Matches ts s → rowOf s < length ts
 unfolding Matches
@@ -44,6 +45,7 @@ statement-there ts (loop p e s) m = m .0 .there
 statement-there ts (print p e) m = m .0 .there
 statement-there ts (assign p x e) m = m .0 .there
 statement-there ts (assignElement p x i e) m = m .0 .there
+statement-there ts (portPut p n e) m = m .0 .there
 
 module _ {ts : List Token} {tab tab′ : List ℕ} (short : length ts ≤ rows) (same : SameTree ts tab tab′) where
   -- a word of column 3, 4, 5 or 6
@@ -74,6 +76,7 @@ module _ {ts : List Token} {tab tab′ : List ℕ} (short : length ts ≤ rows) 
   tree-kept (element p a i) m h = (row p (m .0 .there) (h .0), tree-kept a (m .1) (h .1), tree-kept i (m .2) (h .2))
   tree-kept (arrayLength p a) m h = (row p (m .0 .there) (h .0), tree-kept a (m .2) (h .1))
   tree-kept (call p e n es) m h = (row p (m .0 .there) (h .0), tree-kept e (m .3) (h .1), tree-kept es (m .4) (h .2))
+  tree-kept (portGet p e) m h = (row p (m .0 .there) (h .0), tree-kept e (m .1) (h .1))
   tree-kept noArguments m h = tt
   tree-kept (argument e es) m h =
       (tree-kept e (m .0) (h .0), next (rowOf e) (expression-there ts e (m .0)) (h .1), tree-kept es (m .1) (h .2))
@@ -90,6 +93,7 @@ module _ {ts : List Token} {tab tab′ : List ℕ} (short : length ts ≤ rows) 
   tree-kept (print p e) m h = (row p (m .0 .there) (h .0), tree-kept e (m .1) (h .1))
   tree-kept (assign p x e) m h = (row p (m .0 .there) (h .0), tree-kept e (m .2) (h .1))
   tree-kept (assignElement p x i e) m h = (row p (m .0 .there) (h .0), tree-kept i (m .2) (h .1), tree-kept e (m .3) (h .2))
+  tree-kept (portPut p n e) m h = (row p (m .0 .there) (h .0), tree-kept n (m .1) (h .1), tree-kept e (m .2) (h .2))
   tree-kept noStatements m h = tt
   tree-kept (sequence s ss) m h =
       (tree-kept s (m .0) (h .0), next (rowOf s) (statement-there ts s (m .0)) (h .1), tree-kept ss (m .1) (h .2))

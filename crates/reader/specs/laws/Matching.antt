@@ -19,9 +19,10 @@ use Rattle.parser.specs.Grammar.{DerivesMethods, DerivesParent, DerivesClass, D
 use Rattle.parser.specs.Grammar.{Derives.operate, Derives.one-operand, Derives.negate, Derives.no-negation, Derives.make-array}
 use Rattle.parser.specs.Grammar.{Derives.no-array, Derives.index, Derives.take-length, Derives.invoke, Derives.no-suffix}
 use Rattle.parser.specs.Grammar.{Derives.a-literal, Derives.a-true, Derives.a-false, Derives.a-name, Derives.a-this, Derives.make-object}
+use Rattle.parser.specs.Grammar.{Derives.get-register}
 use Rattle.parser.specs.Grammar.{Derives.parentheses, Derives.none-given, Derives.some-given, Derives.one-argument, Derives.more-arguments}
 use Rattle.parser.specs.Grammar.{Derives.a-block, Derives.an-if, Derives.a-while, Derives.a-print, Derives.an-assignment}
-use Rattle.parser.specs.Grammar.{Derives.an-element-assignment, Derives.no-statement, Derives.more-statements}
+use Rattle.parser.specs.Grammar.{Derives.an-element-assignment, Derives.put-register, Derives.no-statement, Derives.more-statements}
 use Rattle.parser.specs.Grammar.{DerivesElement, DerivesElement.an-int, DerivesElement.a-boolean, DerivesElement.a-class}
 use Rattle.parser.specs.Grammar.{DerivesType.an-array, DerivesType.no-mark, DerivesVariable.a-variable, DerivesVariables.no-variable}
 use Rattle.parser.specs.Grammar.{DerivesVariables.more-variables}
@@ -98,6 +99,7 @@ module _ {ts : List Token} where
   tree-matches (a-name {i = i} n) = named i n
   tree-matches (a-this e) = token refl e
   tree-matches (make-object {i = i} e n o _) = (token refl e, refl, name (i + 1) n, token refl o)
+  tree-matches (get-register e _ _ _ d _) = (token refl e, tree-matches d)
   tree-matches (parentheses _ d _) = tree-matches d
   tree-matches none-given = tt
   tree-matches (some-given d) = tree-matches d
@@ -109,6 +111,7 @@ module _ {ts : List Token} where
   tree-matches (a-print e _ _ _ _ _ d _ _) = (token refl e, tree-matches d)
   tree-matches (an-assignment {i = i} n e d _) = (named i n, token refl e, tree-matches d)
   tree-matches (an-element-assignment {i = i} n e d _ _ d′ _) = (named i n, token refl e, tree-matches d, tree-matches d′)
+  tree-matches (put-register e _ _ _ d _ d′ _ _) = (token refl e, tree-matches d, tree-matches d′)
   tree-matches no-statement = tt
   tree-matches (more-statements d d′) = (tree-matches d, tree-matches d′)
 

@@ -16,9 +16,10 @@ use Rattle.parser.specs.Tree.{Variable, Method, Class, Program}
 use Rattle.parser.specs.Stream.{kindAt, startAt, noMore, Level, Level.conjunction, Level.comparison, Level.sum, Level.product, operatorOf}
 use Rattle.parser.specs.contracts.Layout.{rowOf, rowMethods, rowClasses}
 use Rattle.parser.specs.Grammar.{Kind, Derives, operate, one-operand, negate, no-negation, make-array, no-array, index, take-length, invoke}
-use Rattle.parser.specs.Grammar.{no-suffix, a-literal, a-true, a-false, a-name, a-this, make-object, parentheses, none-given, some-given}
+use Rattle.parser.specs.Grammar.{no-suffix, a-literal, a-true, a-false, a-name, a-this, make-object, get-register, parentheses, none-given}
+use Rattle.parser.specs.Grammar.{some-given}
 use Rattle.parser.specs.Grammar.{one-argument, more-arguments, a-block, an-if, a-while, a-print, an-assignment, an-element-assignment}
-use Rattle.parser.specs.Grammar.{no-statement, more-statements}
+use Rattle.parser.specs.Grammar.{put-register, no-statement, more-statements}
 use Rattle.parser.specs.Grammar.{DerivesType, an-array, no-mark, DerivesVariable, a-variable, DerivesVariables, no-variable, more-variables}
 use Rattle.parser.specs.Grammar.{DerivesParameters, one-parameter, more-parameters, DerivesFormals, no-formal, some-formals}
 use Rattle.parser.specs.Grammar.{DerivesMethod, a-method, DerivesMethods, no-method, more-methods, DerivesParent, no-parent, a-parent}
@@ -61,6 +62,7 @@ first-row (a-false e) = tt
 first-row (a-name e) = tt
 first-row (a-this e) = tt
 first-row (make-object e₁ e₂ e₃ e₄) = tt
+first-row (get-register e₁ e₂ e₃ e₄ d e₅) = tt
 first-row (parentheses e₁ d e₂) = tt
 first-row none-given = tt
 first-row (some-given d) = tt
@@ -72,6 +74,7 @@ first-row (a-while e₁ e₂ d e₃ s) = refl
 first-row (a-print e₁ e₂ e₃ e₄ e₅ e₆ d e₇ e₈) = refl
 first-row (an-assignment e₁ e₂ d e₃) = refl
 first-row (an-element-assignment e₁ e₂ a e₃ e₄ d e₅) = refl
+first-row (put-register e₁ e₂ e₃ e₄ n e₅ d e₆ e₇) = refl
 first-row no-statement = tt
 first-row (more-statements s ss) = tt
 
@@ -125,6 +128,9 @@ module _ (ts : List Token) (few : length ts ≤ 2048) where
   range (a-name {i = i} e) h = let n = name-there ts i e in (omega arith, omega arith, omega arith)
   range (a-this {i = i} e) h = let n = there ts i e (lit< tt) in (omega arith, omega arith, omega arith)
   range (make-object {i = i} e₁ e₂ e₃ e₄) h = let n = there ts (i + 3) e₄ (lit< tt) in (omega arith, omega arith, omega arith)
+  range (get-register {i = i} {j = j} e₁ e₂ e₃ e₄ d e₅) h =
+      let n = there ts (i + 3) e₄ (lit< tt) in let v = range d (omega arith) in let q = there ts j e₅ (lit< tt) in
+      (omega arith, omega (arith, v), omega arith)
   range (parentheses {i = i} {j = j} e₁ d e₂) h =
       let n = there ts i e₁ (lit< tt) in let v = range d (omega arith) in let q = there ts j e₂ (lit< tt) in (omega (arith, v), omega (arith, v), omega arith)
   range none-given h = (omega arith, omega arith, h)
@@ -147,6 +153,9 @@ module _ (ts : List Token) (few : length ts ≤ 2048) where
   range (an-element-assignment {i = i} {j = j} {k = k} e₁ e₂ a e₃ e₄ d e₅) h =
       let n = there ts (i + 1) e₂ (lit< tt) in let u = range a (omega arith) in let q = there ts (j + 1) e₄ (lit< tt) in let v = range d (omega arith) in
       let z = there ts k e₅ (lit< tt) in (omega arith, omega (arith, u, v), omega arith)
+  range (put-register {i = i} {j = j} {k = k} e₁ e₂ e₃ e₄ a e₅ d e₆ e₇) h =
+      let n = there ts (i + 3) e₄ (lit< tt) in let u = range a (omega arith) in let q = there ts j e₅ (lit< tt) in
+      let v = range d (omega arith) in let z = there ts (k + 1) e₇ (lit< tt) in (omega arith, omega (arith, u, v), omega arith)
   range no-statement h = (omega arith, omega arith, h)
   range (more-statements {m = m} s ss) h = let u = range s h in let v = range ss (u .2) in (omega (arith, u, v), u .0, v .2)
 
@@ -187,6 +196,8 @@ module _ (ts : List Token) (few : length ts ≤ 2048) (rising : TokensRise ts) w
   order (a-name {i = i} e) h f = f (name-there ts i e)
   order (a-this {i = i} e) h f = f (there ts i e (lit< tt))
   order (make-object {i = i} e₁ e₂ e₃ e₄) h f = f (there ts i e₁ (lit< tt))
+  order (get-register {i = i} e₁ e₂ e₃ e₄ d e₅) h f =
+      let n = there ts (i + 3) e₄ (lit< tt) in (f (omega arith), order d (omega arith) (later i (i + 4) (at i) (omega arith)))
   order (parentheses {i = i} e₁ d e₂) h f = let n = there ts i e₁ (lit< tt) in order d (omega arith) (later i (i + 1) f (omega arith))
   order none-given h f = tt
   order (some-given d) h f = order d h f
@@ -213,6 +224,12 @@ module _ (ts : List Token) (few : length ts ≤ 2048) (rising : TokensRise ts) w
   order (an-element-assignment {i = i} {j = j} e₁ e₂ a e₃ e₄ d e₅) h f =
       let n = there ts (i + 1) e₂ (lit< tt) in let u = range ts few a (omega arith) in let q = there ts (j + 1) e₄ (lit< tt) in
       (f (omega arith), order a (omega arith) (later i (i + 2) (at i) (omega arith)), order d (omega arith) (later i (j + 2) (at i) (omega (arith, u))))
+  order (put-register {i = i} {j = j} e₁ e₂ e₃ e₄ a e₅ d e₆ e₇) h f =
+      let n = there ts (i + 3) e₄ (lit< tt) in let u = range ts few a (omega arith) in let q = there ts j e₅ (lit< tt) in (
+        f (omega arith),
+        order a (omega arith) (later i (i + 4) (at i) (omega arith)),
+        order d (omega arith) (later i (j + 1) (at i) (omega (arith, u))),
+      )
   order no-statement h f = tt
   order (more-statements {i = i} {m = m} s ss) h f =
       let u = range ts few s h in let v = range ts few ss (u .2) in (omega (arith, u, v), order s h f, order ss (u .2) (later i m f (omega (arith, u))))

@@ -5,17 +5,17 @@ use mathlib.Core.List.{List}
 use Rattle.lexer.specs.Tokens.{Token}
 use Rattle.parser.specs.Tree.{Sort, Part, Expression, Statement}
 use Rattle.parser.specs.Tree.{Part.literal, Part.truth, Part.variable, Part.this, Part.newArray, Part.newObject, Part.negation, Part.binary}
-use Rattle.parser.specs.Tree.{Part.element, Part.arrayLength, Part.call, Part.noArguments, Part.argument}
-use Rattle.parser.specs.Tree.{Part.block, Part.conditional, Part.loop, Part.print, Part.assign, Part.assignElement}
+use Rattle.parser.specs.Tree.{Part.element, Part.arrayLength, Part.call, Part.portGet, Part.noArguments, Part.argument}
+use Rattle.parser.specs.Tree.{Part.block, Part.conditional, Part.loop, Part.print, Part.assign, Part.assignElement, Part.portPut}
 use Rattle.parser.specs.Tree.{Part.noStatements, Part.sequence}
 use Rattle.parser.specs.contracts.Layout.{rowOf}
 use Rattle.parser.specs.Grammar.{Kind, Derives, Derives.operate, Derives.one-operand, Derives.negate, Derives.no-negation}
 use Rattle.parser.specs.Grammar.{Derives.make-array, Derives.no-array, Derives.index, Derives.take-length, Derives.invoke}
 use Rattle.parser.specs.Grammar.{Derives.no-suffix, Derives.a-literal, Derives.a-true, Derives.a-false, Derives.a-name}
-use Rattle.parser.specs.Grammar.{Derives.a-this, Derives.make-object, Derives.parentheses, Derives.none-given}
+use Rattle.parser.specs.Grammar.{Derives.a-this, Derives.make-object, Derives.get-register, Derives.parentheses, Derives.none-given}
 use Rattle.parser.specs.Grammar.{Derives.some-given, Derives.one-argument, Derives.more-arguments}
 use Rattle.parser.specs.Grammar.{Derives.a-block, Derives.an-if, Derives.a-while, Derives.a-print, Derives.an-assignment}
-use Rattle.parser.specs.Grammar.{Derives.an-element-assignment, Derives.no-statement, Derives.more-statements}
+use Rattle.parser.specs.Grammar.{Derives.an-element-assignment, Derives.put-register, Derives.no-statement, Derives.more-statements}
 use Rattle.reader.specs.contracts.Spans.{Among, Spans}
 use Rattle.reader.specs.laws.Counting.{tree-nodes}
 
@@ -33,6 +33,7 @@ inside (binary p o l r) h = h .0
 inside (element p l r) h = h .0
 inside (arrayLength p e) h = h .0
 inside (call p e m es) h = h .0
+inside (portGet p e) h = h .0
 
 pub inside-statement : {i j : ℕ} (t : Statement) → Spans i j t → Among i j (rowOf t)
 unfolding Spans
@@ -42,6 +43,7 @@ inside-statement (loop p e s) h = h .0
 inside-statement (print p e) h = h .0
 inside-statement (assign p x e) h = h .0
 inside-statement (assignElement p x l e) h = h .0
+inside-statement (portPut p n e) h = h .0
 
 -- a wider range spans too
 among : {i j i′ j′ row : ℕ} → i′ ≤ i → j ≤ j′ → Among i j row → Among i′ j′ row
@@ -75,6 +77,8 @@ wider (call p e m es) i j i′ j′ a b h = (
   wider e i (p .row) i′ (p .row) a (omega arith) (h .1),
   wider es (p .row + 1) j (p .row + 1) j′ (omega arith) b (h .2),
 )
+wider (portGet p e) i j i′ j′ a b h =
+    (among a b (h .0), wider e (p .row + 1) j (p .row + 1) j′ (omega arith) b (h .1))
 wider noArguments i j i′ j′ a b h = tt
 wider (argument e es) i j i′ j′ a b h =
     (wider e i j i′ j′ a b (h .0), wider es (rowOf e + 1) j (rowOf e + 1) j′ (omega arith) b (h .1))
@@ -98,6 +102,11 @@ wider (assign p x e) i j i′ j′ a b h =
 wider (assignElement p x l e) i j i′ j′ a b h = (
   among a b (h .0),
   wider l (p .row + 1) j (p .row + 1) j′ (omega arith) b (h .1),
+  wider e (p .row + 1) j (p .row + 1) j′ (omega arith) b (h .2),
+)
+wider (portPut p n e) i j i′ j′ a b h = (
+  among a b (h .0),
+  wider n (p .row + 1) j (p .row + 1) j′ (omega arith) b (h .1),
   wider e (p .row + 1) j (p .row + 1) j′ (omega arith) b (h .2),
 )
 wider noStatements i j i′ j′ a b h = tt
@@ -139,6 +148,10 @@ module _ {ts : List Token} where
   tree-spans (a-name {i = i} _) = own i i (i + 1) (omega arith) (omega arith)
   tree-spans (a-this {i = i} _) = own i i (i + 1) (omega arith) (omega arith)
   tree-spans (make-object {i = i} _ _ _ _) = own i i (i + 4) (omega arith) (omega arith)
+  tree-spans (get-register {i = i} {j = j} {e = e} _ _ _ _ d _) = (
+    own i i (j + 1) (omega arith) (omega (arith, tree-nodes d)),
+    wider e (i + 4) j (i + 1) (j + 1) (omega arith) (omega arith) (tree-spans d),
+  )
   tree-spans (parentheses {i = i} {j = j} {e = e} _ d _) = wider e (i + 1) j i (j + 1) (omega arith) (omega arith) (tree-spans d)
   tree-spans none-given = tt
   tree-spans (some-given d) = tree-spans d
@@ -181,6 +194,13 @@ module _ {ts : List Token} where
         own i i (k + 1) (omega arith) (omega arith),
         wider n (i + 2) j (i + 1) (k + 1) (omega arith) (omega arith) (tree-spans d),
         wider e (j + 2) k (i + 1) (k + 1) (omega arith) (omega arith) (tree-spans d′),
+      )
+  tree-spans (put-register {i = i} {j = j} {k = k} {n = n} {e = e} _ _ _ _ d _ d′ _ _) =
+      let a = tree-nodes d in
+      let b = tree-nodes d′ in (
+        own i i (k + 2) (omega arith) (omega arith),
+        wider n (i + 4) j (i + 1) (k + 2) (omega arith) (omega arith) (tree-spans d),
+        wider e (j + 1) k (i + 1) (k + 2) (omega arith) (omega arith) (tree-spans d′),
       )
   tree-spans no-statement = tt
   tree-spans (more-statements {i = i} {m = m} {j = j} {s = s} {ss = ss} d d′) = (

@@ -16,9 +16,10 @@ use Rattle.parser.specs.Grammar.{DerivesMethod, DerivesMethods, DerivesParent, 
 use Rattle.parser.specs.Grammar.{Derives.operate, Derives.one-operand, Derives.negate, Derives.no-negation, Derives.make-array}
 use Rattle.parser.specs.Grammar.{Derives.no-array, Derives.index, Derives.take-length, Derives.invoke, Derives.no-suffix}
 use Rattle.parser.specs.Grammar.{Derives.a-literal, Derives.a-true, Derives.a-false, Derives.a-name, Derives.a-this, Derives.make-object}
+use Rattle.parser.specs.Grammar.{Derives.get-register}
 use Rattle.parser.specs.Grammar.{Derives.parentheses, Derives.none-given, Derives.some-given, Derives.one-argument, Derives.more-arguments}
 use Rattle.parser.specs.Grammar.{Derives.a-block, Derives.an-if, Derives.a-while, Derives.a-print, Derives.an-assignment}
-use Rattle.parser.specs.Grammar.{Derives.an-element-assignment, Derives.no-statement, Derives.more-statements}
+use Rattle.parser.specs.Grammar.{Derives.an-element-assignment, Derives.put-register, Derives.no-statement, Derives.more-statements}
 use Rattle.parser.specs.Grammar.{DerivesType.an-array, DerivesType.no-mark, DerivesVariable.a-variable, DerivesVariables.no-variable}
 use Rattle.parser.specs.Grammar.{DerivesVariables.more-variables}
 use Rattle.parser.specs.Grammar.{DerivesParameters.one-parameter, DerivesParameters.more-parameters, DerivesFormals.no-formal}
@@ -95,6 +96,8 @@ module _ {ts : List Token} where
   lies (a-name {i = i} _) = leaf i (i + 1) (placeAt ts i i) (omega arith)
   lies (a-this {i = i} _) = leaf i (i + 1) (placeAt ts i i) (omega arith)
   lies (make-object {i = i} _ _ _ _) = leaf i (i + 4) (placeAt ts i i) (omega arith)
+  lies (get-register {i = i} {j = j} _ _ _ _ d _) =
+      let x = lies d in one-part i (j + 1) (placeAt ts i i) _ _ (x .2) (omega arith) (omega arith)
   lies (parentheses {i = i} {j = j} {e = e} _ d _) =
       let x = lies d in (omega arith, omega arith, reshape i (j + 1) (nextOf (rowOf e)) (x .2) (omega arith) (λ k r _ h. h) (λ tab h. h))
   lies (none-given {i = i}) = writes-nothing i i nowhere (omega arith)
@@ -118,6 +121,8 @@ module _ {ts : List Token} where
   lies (an-assignment {i = i} {j = j} _ _ d _) = let x = lies d in one-part i (j + 1) (placeAt ts i i) _ _ (x .2) (omega arith) (omega arith)
   lies (an-element-assignment {i = i} {k = k} _ _ d _ _ d′ _) =
       let x = lies d in let y = lies d′ in two-parts i (k + 1) (placeAt ts i i) _ _ (x .2) (y .2) (omega arith) (omega arith)
+  lies (put-register {i = i} {k = k} _ _ _ _ d _ d′ _ _) =
+      let x = lies d in let y = lies d′ in two-parts i (k + 2) (placeAt ts i i) _ _ (x .2) (y .2) (omega arith) (omega arith)
   lies (no-statement {i = i}) = writes-nothing i i nowhere (omega arith)
   lies (more-statements d d′) = link _ (lies d) (lies d′) (omega arith)
 

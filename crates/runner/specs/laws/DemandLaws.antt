@@ -31,27 +31,32 @@ one-answer {a = a} {a′ = a′} e R R′ =
       printed = (R′ .printed ∙ ap (λ (x : Report). length (x .printed)) e ∙ sym (R .printed)) j;
     }
 
--- one of the eight numbers, where the run ends well
+-- one of the ten numbers, where the run ends well
 pub ends-as : {r : Report} {a : RunAnswer} → EndsWell (r .ending) → Reports r a → Finish (a .number) ⊎ ByLimit (a .number)
 ends-as {a = a} e R =
     let q : ended (e .number) (e .position) ≡ ended (a .number) (a .position) = sym (e .is) ∙ R .ending in
     let n : e .number ≡ a .number = cc in
     subst (λ k. Finish k ⊎ ByLimit k) n (e .cause)
 
-module _ (p : Program) (budget calls : ℕ) (before : Strips) (a : RunAnswer) (after : Strips) where
+module _ (p : Program) (budget calls : ℕ) (tape : List ℕ) (before : Strips) (a : RunAnswer) (after : Strips) where
   -- an accepted lesson is run where no argument is refused
-  pub meets : (s : List ℕ) → checking s ≡ accepted p → unfit calls before ≡ none → Runs s budget calls before a after
-      → RunMeets (accepted p) budget calls before a after
+  pub meets : (s : List ℕ) → checking s ≡ accepted p → unfit calls before ≡ none → Runs s budget calls tape before a after
+      → RunMeets (accepted p) budget calls tape before a after
   unfolding Runs
   meets s found u R =
-      let M : Outcome Program → Type 0 = λ v. RunMeets v budget calls before a after in
+      let M : Outcome Program → Type 0 = λ v. RunMeets v budget calls tape before a after in
       let m : M (checking s) = subst (λ (x : Option ℕ). option x (M (checking s)) λ n. (a ≡ refusal n 0) × (after ≡ before)) u R in
       subst M found m
 
   -- the numbers that lead the output strip are those that the run prints
-  pub shown-is : RunMeets (accepted p) budget calls before a after
-      → take (a .printed) (after .output) ≡ run p (limitsOf budget calls before) .printed
+  pub shown-is : RunMeets (accepted p) budget calls tape before a after
+      → take (a .printed) (after .output) ≡ run p (limitsOf budget calls before) tape .printed
   shown-is R =
-      let o = run p (limitsOf budget calls before) .printed in
+      let o = run p (limitsOf budget calls before) tape .printed in
       ap (λ (n : ℕ). take n (after .output)) (R .0 .printed) ∙ ap (λ (m : Strips). take (length o) (m .output)) (R .1)
       ∙ take-append-seam o (drop (length o) (before .output))
+
+  -- the register strip holds the registers of the run
+  pub registers-are : RunMeets (accepted p) budget calls tape before a after
+      → after .registers ≡ run p (limitsOf budget calls before) tape .registers
+  registers-are R = ap (λ (m : Strips). m .registers) (R .1)

@@ -6,10 +6,11 @@ use native.Mathlib.Omega.{arith}
 use mathlib.Core.List.{List}
 use lib.ListN.{length}
 use lib.Dec.{ltb, leb}
+use Rattle.device.specs.Device.{got}
 use Rattle.parser.specs.Tree.{Class, Program}
 use Rattle.typing.specs.laws.Choices.{by-test}
-use Rattle.semantics.specs.Machine.{Core, Request, Request.charge, Request.allocate, Request.enter, Request.output, Request.move}
-use Rattle.semantics.specs.Machine.{Request.fault, Request.done, Request.stuck, plan, start}
+use Rattle.semantics.specs.Machine.{Core, Request, Request.charge, Request.allocate, Request.enter, Request.output, Request.receive, Request.send}
+use Rattle.semantics.specs.Machine.{Request.move, Request.fault, Request.done, Request.stuck, plan, start}
 use Rattle.semantics.specs.Limits.{Limits, Meters, begun, Progress, next, stop, guard, Report, sizeOf, runWith, run}
 use Rattle.soundness.specs.laws.Continuations.{after-by}
 use Rattle.soundness.specs.laws.Ending.{loadOf, waitingOf, Pays, plan-pays}
@@ -43,6 +44,10 @@ guard-counts G L m c (enter p n k d) h i =
 guard-counts G L m c (output p z d) h i =
     by-test (Counts G) (ltb (length (m .printed)) (L .printed)) _ _
     (λ _. record { opened = i .opened; few = i .few; begun = omega (arith, h .1, i .begun) }) (λ _. tt)
+guard-counts G L m c (receive n d) h i =
+    let q = h (got n (m .device)) in
+    record { opened = i .opened; few = i .few; begun = omega (arith, q .1, i .begun) }
+guard-counts G L m c (send n b d) h i = record { opened = i .opened; few = i .few; begun = omega (arith, h .1, i .begun) }
 guard-counts G L m c (move d) h i = record { opened = i .opened; few = i .few; begun = omega (arith, h .1, i .begun) }
 guard-counts G L m c (fault k p) h i = tt
 guard-counts G L m c done h i = tt
@@ -64,7 +69,7 @@ runs-climb (suc f) G L c m i =
     after-by (Counts G) (ClimbsFew G) (λ d n. runWith (plan G) sizeOf L f d n) c m (λ d n j. runs-climb f G L d n j) (λ e _. counted-few i)
     (guard L m (plan G c)) (guard-counts G L m c (plan G c) (plan-pays G c) i)
 
-pub run-climbs : (p : Program) (L : Limits) → ClimbsFew (p .classes) (run p L)
+pub run-climbs : (p : Program) (L : Limits) (tape : List ℕ) → ClimbsFew (p .classes) (run p L tape)
 unfolding run
-run-climbs p L =
-    runs-climb (4 * L .budget + 4) (p .classes) L (start p) begun (record { opened = 0; few = omega arith; begun = omega arith })
+run-climbs p L tape =
+    runs-climb (4 * L .budget + 4) (p .classes) L (start p) (begun tape) (record { opened = 0; few = omega arith; begun = omega arith })

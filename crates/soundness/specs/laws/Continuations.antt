@@ -9,12 +9,12 @@ use mathlib.Core.Path.{_≡_, refl}
 use lib.ListN.{length, getElem?, length-set}
 use lib.Dec.{ltb}
 use Rattle.base.specs.Choice.{if_then_else_}
-use Rattle.base.specs.Codes.{nullReference, indexOutOfRange}
+use Rattle.base.specs.Codes.{nullReference}
 use Rattle.parser.specs.Tree.{Element, Place, Class}
 use Rattle.typesystem.specs.ClassTable.{Context, Meaning, Meaning.ofRow, Meaning.ofObject, meaning, meaningType}
 use Rattle.typing.specs.laws.Choices.{by-test}
 use Rattle.semantics.specs.Machine.{Value, Value.number, Value.flag, Value.null, Value.arrayAt, Value.objectAt, Cell, Cell.object, Cell.array, Cell.slot, Call, Call.frame, Core, Request, Request.fault, Request.stuck}
-use Rattle.semantics.specs.Machine.{need, require, pop, popMany, asNumber, asFlag, asArray, asObject, asSlot, asObjectCell, asArrayCell, innermost, cellAt, arrayCell, inBounds, readMeaning, readName, ofKind, writeMeaning, writeName}
+use Rattle.semantics.specs.Machine.{need, require, pop, popMany, asNumber, asFlag, asArray, asObject, asSlot, asObjectCell, asArrayCell, innermost, cellAt, arrayCell, underBound, readMeaning, readName, ofKind, writeMeaning, writeName}
 use Rattle.semantics.specs.Limits.{Meters, Ending, Progress, next, stop, Report, sizeOf, report, after}
 
 pub record Closed (Q : Request Core → Type 0) : Type 0 where
@@ -96,8 +96,8 @@ module _ {Q : Request Core → Type 0} (q : Closed Q) where
   pub array-at-by : (h : List Cell) (a : ℕ) (k : Element → ℕ → Request Core) → ((t : Element) (n : ℕ) → Q (k t n)) → Q (arrayCell h a k)
   array-at-by h a k f = need-by (getElem? h a) _ (λ x _. array-cell-by x k f)
 
-  pub in-bounds-by : (p : Place) (i n : ℕ) (r : Request Core) → Q r → Q (inBounds p i n r)
-  in-bounds-by p i n r f = choice-by (ltb i n) _ _ f (q .at-fault indexOutOfRange (p .start))
+  pub under-bound-by : (k : ℕ) (p : Place) (i n : ℕ) (r : Request Core) → Q r → Q (underBound k p i n r)
+  under-bound-by k p i n r f = choice-by (ltb i n) _ _ f (q .at-fault k (p .start))
 
   read-meaning-by : (a : ℕ) (xs : List Value) (h : List Cell) (m : Meaning) (k : Value → Request Core) → ((v : Value) → Q (k v))
       → Q (readMeaning a xs h m k)

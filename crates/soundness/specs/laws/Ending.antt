@@ -6,18 +6,20 @@ use mathlib.Core.List.{List, [], _∷_}
 use lib.ListN.{length, getElem?}
 use lib.Dec.{ltb, leb}
 use borrow.Author.Tests.{ltb-true}
+use Rattle.base.specs.Codes.{indexOutOfRange, registerOutOfRange, registersCount, valueOutOfRange, byteValues}
+use Rattle.device.specs.Device.{got}
 use Rattle.parser.specs.Tree.{Ty.plain, Expression, Statement, Class, Program}
-use Rattle.parser.specs.Tree.{Part.literal, Part.truth, Part.variable, Part.this, Part.newArray, Part.newObject, Part.negation, Part.binary, Part.element, Part.arrayLength, Part.call, Part.noArguments, Part.argument}
-use Rattle.parser.specs.Tree.{Part.block, Part.conditional, Part.loop, Part.print, Part.assign, Part.assignElement, Part.noStatements, Part.sequence}
+use Rattle.parser.specs.Tree.{Part.literal, Part.truth, Part.variable, Part.this, Part.newArray, Part.newObject, Part.negation, Part.binary, Part.element, Part.arrayLength, Part.call, Part.portGet, Part.noArguments, Part.argument}
+use Rattle.parser.specs.Tree.{Part.block, Part.conditional, Part.loop, Part.print, Part.assign, Part.assignElement, Part.portPut, Part.noStatements, Part.sequence}
 use Rattle.typesystem.specs.ClassTable.{classNamed, chain}
 use Rattle.typing.specs.laws.Choices.{by-test}
-use Rattle.semantics.specs.Machine.{Value, Cell, Call, Core, Core.core, Request, Request.charge, Request.allocate, Request.enter, Request.output, Request.move, Request.fault, Request.done, Request.stuck}
-use Rattle.semantics.specs.Machine.{Task, Task.evaluate, Task.execute, Task.operand, Task.operate, Task.confirm, Task.negate, Task.index, Task.fetch, Task.measure, Task.makeArray, Task.makeObject, Task.invoke, Task.branch, Task.decide, Task.again, Task.show, Task.store, Task.newElement, Task.storeElement, Task.continue, Task.perform, Task.leave}
+use Rattle.semantics.specs.Machine.{Value, Cell, Call, Core, Core.core, Request, Request.charge, Request.allocate, Request.enter, Request.output, Request.receive, Request.send, Request.move, Request.fault, Request.done, Request.stuck}
+use Rattle.semantics.specs.Machine.{Task, Task.evaluate, Task.execute, Task.operand, Task.operate, Task.confirm, Task.negate, Task.index, Task.fetch, Task.measure, Task.makeArray, Task.makeObject, Task.invoke, Task.branch, Task.decide, Task.again, Task.show, Task.store, Task.newElement, Task.storeElement, Task.readRegister, Task.newByte, Task.writeRegister, Task.continue, Task.perform, Task.leave}
 use Rattle.semantics.specs.Machine.{search, ofKind, ofKinds, isAnd, apply, begin, beginStatement, second, callMethod, nextArgument, nextStatement, nextOfBody, newArrayOf, newObjectOf, go, plan, start}
 use Rattle.semantics.specs.Limits.{Limits, Meters, begun, Progress, next, stop, guard, sizeOf, runWith, run}
 use Rattle.soundness.specs.laws.Search.{search-few}
 use Rattle.soundness.specs.laws.ResultLaws.{Over}
-use Rattle.soundness.specs.laws.Continuations.{Closed, need-by, require-by, pop-by, popMany-by, number-by, flag-by, array-by, object-by, object-cell-by, choice-by, innermost-by, cell-by, array-at-by, in-bounds-by, read-by, write-by, after-by}
+use Rattle.soundness.specs.laws.Continuations.{Closed, need-by, require-by, pop-by, popMany-by, number-by, flag-by, array-by, object-by, object-cell-by, choice-by, innermost-by, cell-by, array-at-by, under-bound-by, read-by, write-by, after-by}
 
 -- a call waits for its parts until it is opened
 abbrev pub waits : Task → ℕ
@@ -40,6 +42,9 @@ waits (show p) = 0
 waits (store x) = 0
 waits (newElement p e) = 0
 waits (storeElement p) = 0
+waits (readRegister p) = 0
+waits (newByte p e) = 0
+waits (writeRegister p) = 0
 waits (continue ss) = 0
 waits (perform ss e t) = 0
 waits (leave t) = 0
@@ -70,6 +75,8 @@ Pays G w v (charge p c) = (loadOf c ≤ w + 3) × (waitingOf c ≤ v + 1)
 Pays G w v (allocate p n c) = (loadOf (c tt) < w) × (waitingOf (c tt) ≤ v)
 Pays G w v (enter p n k c) = (loadOf c < w) × (waitingOf c < v) × (k ≤ length G)
 Pays G w v (output p z c) = (loadOf c < w) × (waitingOf c ≤ v)
+Pays G w v (receive n c) = (b : ℕ) → (loadOf (c b) < w) × (waitingOf (c b) ≤ v)
+Pays G w v (send n b c) = (loadOf c < w) × (waitingOf c ≤ v)
 Pays G w v (move c) = (loadOf c < w) × (waitingOf c ≤ v)
 Pays G w v (fault k p) = Unit {0}
 Pays G w v done = Unit {0}
@@ -93,6 +100,7 @@ module _ (G : List Class) (w v : ℕ) where
   begin-pays (element p a i) ts vs cs h l j = (omega arith, omega arith)
   begin-pays (arrayLength p a) ts vs cs h l j = (omega arith, omega arith)
   begin-pays (call p e m es) ts vs cs h l j = (omega arith, omega arith)
+  begin-pays (portGet p e) ts vs cs h l j = (omega arith, omega arith)
 
   begin-statement-pays : (s : Statement) (ts : List Task) (vs : List Value) (cs : List Call) (h : List Cell) → load ts ≤ w + 1
       → waitingCalls ts ≤ v
@@ -104,6 +112,7 @@ module _ (G : List Class) (w v : ℕ) where
   begin-statement-pays (print p e) ts vs cs h l j = (omega arith, omega arith)
   begin-statement-pays (assign p x e) ts vs cs h l j = (omega arith, omega arith)
   begin-statement-pays (assignElement p x i e) ts vs cs h l j = read-by closed G cs h x _ (λ v. (omega arith, omega arith))
+  begin-statement-pays (portPut p n e) ts vs cs h l j = (omega arith, omega arith)
 
   task-pays : (t : Task) (ts : List Task) (vs : List Value) (cs : List Call) (h : List Cell) → weight t + load ts ≤ w
       → waits t + waitingCalls ts ≤ v → Pays G w v (go G t ts vs cs h)
@@ -121,7 +130,7 @@ module _ (G : List Class) (w v : ℕ) where
   task-pays (index p i) ts vs cs h l j = begin-pays i (fetch p ∷ ts) vs cs h l j
   task-pays (fetch p) ts vs cs h l j =
       pop-by closed vs _ (λ y vs. pop-by closed vs _ (λ x vs. number-by closed y _ (λ i. array-by closed p x _ (λ a.
-      array-at-by closed h a _ (λ t n. in-bounds-by closed p i n _ (cell-by closed h a i _ (λ v. (omega arith, omega arith))))))))
+      array-at-by closed h a _ (λ t n. under-bound-by closed indexOutOfRange p i n _ (cell-by closed h a i _ (λ v. (omega arith, omega arith))))))))
   task-pays (measure p) ts vs cs h l j =
       pop-by closed vs _ (λ x vs. array-by closed p x _ (λ a. array-at-by closed h a _ (λ t n. (omega arith, omega arith))))
   task-pays (makeArray p t) ts vs cs h l j =
@@ -144,7 +153,14 @@ module _ (G : List Class) (w v : ℕ) where
   task-pays (storeElement p) ts vs cs h l j =
       pop-by closed vs _ (λ v vs. pop-by closed vs _ (λ y vs. pop-by closed vs _ (λ x vs. number-by closed y _ (λ i.
       array-by closed p x _ (λ a. array-at-by closed h a _ (λ t n. require-by closed (ofKind (plain t) v) _
-      (in-bounds-by closed p i n _ (cell-by closed h a i _ (λ _. (omega arith, omega arith))))))))))
+      (under-bound-by closed indexOutOfRange p i n _ (cell-by closed h a i _ (λ _. (omega arith, omega arith))))))))))
+  task-pays (readRegister p) ts vs cs h l j =
+      pop-by closed vs _ (λ x vs. number-by closed x _ (λ n.
+      under-bound-by closed registerOutOfRange p n registersCount _ (λ b. (omega arith, omega arith))))
+  task-pays (newByte p e) ts vs cs h l j = begin-pays e (writeRegister p ∷ ts) vs cs h l j
+  task-pays (writeRegister p) ts vs cs h l j =
+      pop-by closed vs _ (λ y vs. pop-by closed vs _ (λ x vs. number-by closed x _ (λ n. number-by closed y _ (λ b.
+      under-bound-by closed registerOutOfRange p n registersCount _ (under-bound-by closed valueOutOfRange p b byteValues _ (omega arith, omega arith))))))
   task-pays (continue noStatements) ts vs cs h l j = (omega arith, omega arith)
   task-pays (continue (sequence s ss)) ts vs cs h l j = begin-statement-pays s (continue ss ∷ ts) vs cs h (omega arith) (omega arith)
   task-pays (perform noStatements e t) ts vs cs h l j = begin-pays e (leave t ∷ ts) vs cs h l j
@@ -174,6 +190,8 @@ guard-less G L n m c (charge p d) h l =
 guard-less G L n m c (allocate p j d) h l = by-test (Less L n) (leb j (L .heap)) _ _ (λ _. omega arith) (λ _. tt)
 guard-less G L n m c (enter p j k d) h l = by-test (Less L n) (leb j (L .calls)) _ _ (λ _. omega arith) (λ _. tt)
 guard-less G L n m c (output p z d) h l = by-test (Less L n) (ltb (length (m .printed)) (L .printed)) _ _ (λ _. omega arith) (λ _. tt)
+guard-less G L n m c (receive i d) h l = let q = h (got i (m .device)) in omega (arith, q)
+guard-less G L n m c (send i b d) h l = omega arith
 guard-less G L n m c (move d) h l = omega arith
 guard-less G L n m c (fault k p) h l = tt
 guard-less G L n m c done h l = tt
@@ -190,6 +208,6 @@ runs-end zero G L c m h = absurd (omega arith)
 runs-end (suc f) G L c m h =
     after-by (Less L f) (λ r. Over (r .ending)) (λ d n. runWith (plan G) sizeOf L f d n) c m (λ d n l. runs-end f G L d n l) (λ e l. l) (guard L m (plan G c)) (turn-less G L f c m (omega arith))
 
-pub run-ends : (p : Program) (L : Limits) → Over (run p L .ending)
+pub run-ends : (p : Program) (L : Limits) (tape : List ℕ) → Over (run p L tape .ending)
 unfolding run
-run-ends p L = runs-end (4 * L .budget + 4) (p .classes) L (start p) begun (omega arith)
+run-ends p L tape = runs-end (4 * L .budget + 4) (p .classes) L (start p) (begun tape) (omega arith)

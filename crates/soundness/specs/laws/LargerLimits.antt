@@ -1,5 +1,5 @@
 -- Larger limits change nothing of a run but an end by a limit: two runs stay in step until the smaller limits stop one, and since `plan`
--- sees neither limits nor meters only the eight requests are looked at. More fuel changes nothing of a run that ended, so this holds of
+-- sees neither limits nor meters only the ten requests are looked at. More fuel changes nothing of a run that ended, so this holds of
 -- `run`, which has fuel by its budget.
 use Prim.Native.Nat.{ℕ, zero, suc, _+_, _*_, _≤_}
 use native.Mathlib.Omega.{arith}
@@ -13,7 +13,7 @@ use lib.IntN.{ℤ}
 use borrow.Author.Tests.{ltb-true, leb-true, lt-ltb, le-leb}
 use Rattle.parser.specs.Tree.{Class, Program}
 use Rattle.typing.specs.laws.Choices.{by-test}
-use Rattle.semantics.specs.Machine.{Core, Request, Request.charge, Request.allocate, Request.enter, Request.output, Request.move, Request.fault, Request.done, Request.stuck, plan, start}
+use Rattle.semantics.specs.Machine.{Core, Request, Request.charge, Request.allocate, Request.enter, Request.output, Request.receive, Request.send, Request.move, Request.fault, Request.done, Request.stuck, plan, start}
 use Rattle.semantics.specs.Limits.{Limits, Meters, begun, ended, Progress, next, stop, within, guard, Report, sizeOf, after, runWith, run}
 use Rattle.soundness.specs.Results.{Finish, ByLimit, by-budget, by-heap, by-calls, by-output, _⊑_, Begins}
 use Rattle.soundness.specs.laws.ResultLaws.{finish-or-limit, Over}
@@ -40,6 +40,8 @@ guard-grows L m (allocate p n c) = by-test (Grows m) (leb n (L .heap)) _ _ (λ _
 guard-grows L m (enter p n k c) = by-test (Grows m) (leb n (L .calls)) _ _ (λ _. begins-refl (m .printed)) (λ _. tt)
 guard-grows L m (output p z c) =
     by-test (Grows m) (ltb (length (m .printed)) (L .printed)) _ _ (λ _. record { rest = z ∷ []; is = refl }) (λ _. tt)
+guard-grows L m (receive n c) = begins-refl (m .printed)
+guard-grows L m (send n v c) = begins-refl (m .printed)
 guard-grows L m (move c) = begins-refl (m .printed)
 guard-grows L m (fault k p) = tt
 guard-grows L m done = tt
@@ -76,6 +78,8 @@ guard-alike L M h m (enter p n k c) =
     within-alike _ _ p _ by-calls (λ e. le-leb n (M .calls) (omega (arith, h .calls, leb-true n (L .calls) e)))
 guard-alike L M h m (output p z c) =
     within-alike _ _ p _ by-output (λ e. lt-ltb (length (m .printed)) (M .printed) (omega (arith, h .printed, ltb-true (length (m .printed)) (L .printed) e)))
+guard-alike L M h m (receive n c) = alike
+guard-alike L M h m (send n v c) = alike
 guard-alike L M h m (move c) = alike
 guard-alike L M h m (fault k p) = alike
 guard-alike L M h m done = alike
@@ -120,12 +124,12 @@ module _ {C : Type 0} (ask : C → Request C) (size : C → ℕ) (L : Limits) wh
 
 -- ---- runs on their own fuel
 
-pub run-agrees : (p : Program) (L M : Limits) → L ⊑ M → Agree (run p L) (run p M)
+pub run-agrees : (p : Program) (L M : Limits) (tape : List ℕ) → L ⊑ M → Agree (run p L tape) (run p M tape)
 unfolding run
-run-agrees p L M h =
-    subst (λ (r : Report). Agree r (run p M))
-    (more-fuel (plan (p .classes)) sizeOf L (4 * L .budget + 4) (4 * M .budget + 4) (omega (arith, h .budget)) (start p) begun (run-ends p L))
-    (runs-agree (4 * M .budget + 4) (p .classes) L M h (start p) begun)
+run-agrees p L M tape h =
+    subst (λ (r : Report). Agree r (run p M tape))
+    (more-fuel (plan (p .classes)) sizeOf L (4 * L .budget + 4) (4 * M .budget + 4) (omega (arith, h .budget)) (start p) (begun tape) (run-ends p L tape))
+    (runs-agree (4 * M .budget + 4) (p .classes) L M h (start p) (begun tape))
 
 pub agree-same : {k q : ℕ} {r s : Report} → Finish k → r .ending ≡ ended k q → Agree r s → s ≡ r
 agree-same f e agree = refl

@@ -10,6 +10,9 @@ use mathlib.Core.Path.{_≡_, refl, sym, ap, _∙_, subst}
 use lib.ListN.{length, getElem?, set}
 use lib.Dec.{ltb, leb}
 use borrow.Author.Tests.{ltb-true}
+use Rattle.base.specs.Codes.{registersCount, byteValues}
+use Rattle.device.specs.Device.{IsByte}
+use Rattle.device.specs.laws.ByteLaws.{HoldsBytes, got-byte, reset-bytes, step-bytes, get-bytes, put-bytes}
 use Rattle.base.specs.All.{All}
 use Rattle.base.specs.laws.Lists.{All2, all2-nil, all2-cons, all2-append, all2-map, all2-at, all2-set, RelatedAt, get-map}
 use Rattle.base.specs.laws.WordLaws.{add-below, sub-below, mul-below}
@@ -18,8 +21,8 @@ use Rattle.parser.specs.Tree.{Sort.arguments}
 use Rattle.typesystem.specs.ClassTable.{Slot, Found, Context, meaning, meaningType, classNamed, variableNamed, fieldsOf}
 use Rattle.typesystem.specs.Judge.{arity}
 use Rattle.typesystem.specs.TypingRules.{Sub, sub-same, sub-trans, HasMethod, HasName, of-variable, of-field, typeOf, ClassTyped, Redeclares, ProgramTyped}
-use Rattle.typesystem.specs.TypingRules.{HasType, t-literal, t-truth, t-variable, t-this, t-new-array, t-new-object, t-negation, t-binary, t-element, t-length, t-call, HaveTypes, t-none, t-more}
-use Rattle.typesystem.specs.TypingRules.{IsTyped, t-block, t-if, t-while, t-print, t-assign, t-assign-element, t-end, t-sequence}
+use Rattle.typesystem.specs.TypingRules.{HasType, t-literal, t-truth, t-variable, t-this, t-new-array, t-new-object, t-negation, t-binary, t-element, t-length, t-call, t-port-get, HaveTypes, t-none, t-more}
+use Rattle.typesystem.specs.TypingRules.{IsTyped, t-block, t-if, t-while, t-print, t-assign, t-assign-element, t-port-put, t-end, t-sequence}
 use Rattle.typing.specs.laws.Choices.{by-test, none-some}
 use Rattle.typing.specs.laws.Chains.{known-found}
 use Rattle.typing.specs.laws.Members.{Up, up-here, has-methodOf, StandsAt, NameAt, in-row, in-object, name-at}
@@ -27,18 +30,18 @@ use Rattle.typing.specs.laws.Programs.{table-acyclic}
 use Rattle.typing.specs.laws.ClassTableLaws.{stands-up, every-method, method-up, method-declares}
 use Rattle.typing.specs.laws.Operations.{Operates, conjoins, compares, adds, subtracts, multiplies, operates}
 use Rattle.semantics.specs.Machine.{Value, Value.objectAt, Cell, Cell.slot, Call, Call.frame, Core, initial}
-use Rattle.semantics.specs.Machine.{Request, Request.charge, Request.allocate, Request.enter, Request.output, Request.move, Request.fault, Request.done, Request.stuck}
+use Rattle.semantics.specs.Machine.{Request, Request.charge, Request.allocate, Request.enter, Request.output, Request.receive, Request.send, Request.move, Request.fault, Request.done, Request.stuck}
 use Rattle.semantics.specs.Machine.{Task, Task.operate, Task.fetch, Task.measure, Task.makeArray, Task.makeObject, Task.storeElement, Task.leave}
 use Rattle.semantics.specs.Machine.{need, require, ofKind, ofKinds, pop, popMany, innermost, asSlot, asObjectCell, asArrayCell, arrayCell, inBounds, readMeaning, readName, writeMeaning, writeName, isAnd, begin, beginStatement, second, callMethod, nextArgument, nextStatement, nextOfBody, newArrayOf, newObjectOf, opened, go, plan, start}
 use Rattle.semantics.specs.Limits.{Limits, Meters, begun, Ending, ended, wentWrong, unfinished, Progress, next, stop, guard, sizeOf, runWith, run}
-use Rattle.soundness.specs.Results.{by-null, by-index, by-size, Finish, by-success, by-fault, ByLimit, by-budget, by-heap, by-calls, by-output, EndsWell}
+use Rattle.soundness.specs.Results.{by-null, by-index, by-size, by-register, by-byte, Finish, by-success, by-fault, ByLimit, by-budget, by-heap, by-calls, by-output, EndsWell}
 use Rattle.soundness.specs.laws.Search.{search-finds}
 use Rattle.soundness.specs.laws.ResultLaws.{Over}
 use Rattle.soundness.specs.laws.Continuations.{after-by}
 use Rattle.soundness.specs.laws.Ending.{run-ends}
 use Rattle.soundness.specs.laws.StateTyping.{WordLiterals, MethodFits, LiteralsFit, CellType, objectType, arrayType, slotType, ValueTyped, v-number, v-flag, v-no-array, v-no-object, v-array, v-object}
 use Rattle.soundness.specs.laws.StateTyping.{CellTyped, c-object, c-array, c-slot, HeapTyped, FrameTyped, CallTyped, c-frame, now, StateTyped, typed, Asks}
-use Rattle.soundness.specs.laws.StateTyping.{TasksTyped, r-end, r-evaluate, r-execute, r-operand, r-operate, r-confirm, r-negate, r-index, r-fetch, r-measure, r-make-array, r-make-object, r-invoke, r-branch, r-decide, r-again, r-show, r-store, r-new-element, r-store-element, r-continue, r-perform, r-leave}
+use Rattle.soundness.specs.laws.StateTyping.{TasksTyped, r-end, r-evaluate, r-execute, r-operand, r-operate, r-confirm, r-negate, r-index, r-fetch, r-measure, r-make-array, r-make-object, r-invoke, r-branch, r-decide, r-again, r-show, r-store, r-new-element, r-store-element, r-read-register, r-new-byte, r-write-register, r-continue, r-perform, r-leave}
 use Rattle.soundness.specs.laws.HeapLaws.{value-sub, initial-typed, CellsKept, kept-append, values-kept, calls-kept, new-place, fieldTypes, elementTypes, object-grown, array-grown, stored}
 
 -- a value of a type is of its kind, and so are values for a list of parameters
@@ -203,6 +206,7 @@ module _ {G : List Class} (T : All (ClassTyped G) G) (L : All (λ k. All MethodF
     begins W (t-length x) l b R = typed H C W (r-evaluate x l sub-same (r-measure b R))
     begins {t = t} W (t-call {es = es} x f q r) l b R =
         typed H C W (r-evaluate x (l .0) sub-same (r-invoke [] f q (l .1) refl (sym (zero-add (arity es))) (subst (λ (u : Ty). Sub G u t) (sym r) b) R))
+    begins W (t-port-get x) l b R = typed H C W (r-evaluate x l sub-same (r-read-register b R))
 
     begins-statement : {us : List Ty} {ts : List Task} {vs : List Value} {s : Statement}
         → All2 (ValueTyped G σ) vs us → IsTyped G (now Γs) s → WordLiterals s → TasksTyped G Γs us ts
@@ -215,6 +219,7 @@ module _ {G : List Class} (T : All (ClassTyped G) G) (L : All (λ k. All MethodF
     begins-statement W (t-assign n x b) l R = typed H C W (r-evaluate x l b (r-store n R))
     begins-statement W (t-assign-element n x y b) l R =
         read-ok _ H C n (λ v q. typed H C (all2-cons q W) (r-evaluate x (l .0) sub-same (r-new-element y (l .1) b R)))
+    begins-statement W (t-port-put x y) l R = typed H C W (r-evaluate x (l .0) sub-same (r-new-byte y (l .1) R))
 
     -- ---- going on with a node
 
@@ -382,6 +387,15 @@ module _ {G : List Class} (T : All (ClassTyped G) G) (L : All (λ k. All MethodF
   goes H C (all2-cons v W) (r-store n R) = write-ok _ H C n v (λ ds g I D. typed I D W R)
   goes H C W (r-new-element x l b R) = begins H C W x l b (r-store-element R)
   goes H C W (r-store-element {p = p} R) = store-element-ok H C p W R
+  goes H C (all2-cons (v-number {n = n} _) W) (r-read-register b R) =
+      by-test (Asks G) (ltb n registersCount) _ _
+      (λ _ v q. typed H C (all2-cons (value-sub b (v-number {n = v} (omega (arith, q)))) W) R)
+      (λ _. by-register)
+  goes H C W (r-new-byte x l R) = begins H C W x l sub-same (r-write-register R)
+  goes H C (all2-cons (v-number {n = v} _) (all2-cons (v-number {n = n} _) W)) (r-write-register R) =
+      by-test (Asks G) (ltb n registersCount) _ _
+      (λ _. by-test (Asks G) (ltb v byteValues) _ _ (λ q. (ltb-true v byteValues q, typed H C W R)) (λ _. by-byte))
+      (λ _. by-register)
   goes H C W (r-continue t-end l R) = typed H C W R
   goes H C W (r-continue (t-sequence x q) l R) = begins-statement H C W x (l .0) (r-continue q (l .1) R)
   goes H C W (r-perform t-end l x m b c R) = begins H C W x m b (r-leave c R)
@@ -401,20 +415,24 @@ NotWrong (ended k p) = Finish k ⊎ ByLimit k
 NotWrong wentWrong = ⊥
 NotWrong unfinished = Unit {0}
 
+-- what is got from a register is a byte, where the tape holds bytes
 abbrev pub Safe : List Class → Progress Core → Type 0
-Safe G (next c m) = StateTyped G c
+Safe G (next c m) = StateTyped G c × HoldsBytes (m .device)
 Safe G (stop e) = NotWrong e
 
-pub guard-safe : (G : List Class) (L : Limits) (m : Meters) (r : Request Core) → Asks G r → Safe G (guard L m r)
+pub guard-safe : (G : List Class) (L : Limits) (m : Meters) (r : Request Core) → Asks G r → HoldsBytes (m .device)
+    → Safe G (guard L m r)
 unfolding guard
-guard-safe G L m (charge p c) h = by-test (Safe G) (ltb (m .steps) (L .budget)) _ _ (λ _. h) (λ _. inr by-budget)
-guard-safe G L m (allocate p n c) h = by-test (Safe G) (leb n (L .heap)) _ _ (λ _. h) (λ _. inr by-heap)
-guard-safe G L m (enter p n k c) h = by-test (Safe G) (leb n (L .calls)) _ _ (λ _. h) (λ _. inr by-calls)
-guard-safe G L m (output p z c) h = by-test (Safe G) (ltb (length (m .printed)) (L .printed)) _ _ (λ _. h) (λ _. inr by-output)
-guard-safe G L m (move c) h = h
-guard-safe G L m (fault k p) h = inl (by-fault h)
-guard-safe G L m done h = inl by-success
-guard-safe G L m stuck h = absurd h
+guard-safe G L m (charge p c) h d = by-test (Safe G) (ltb (m .steps) (L .budget)) _ _ (λ _. (h, step-bytes (m .steps + 1) d)) (λ _. inr by-budget)
+guard-safe G L m (allocate p n c) h d = by-test (Safe G) (leb n (L .heap)) _ _ (λ _. (h, d)) (λ _. inr by-heap)
+guard-safe G L m (enter p n k c) h d = by-test (Safe G) (leb n (L .calls)) _ _ (λ _. (h, d)) (λ _. inr by-calls)
+guard-safe G L m (output p z c) h d = by-test (Safe G) (ltb (length (m .printed)) (L .printed)) _ _ (λ _. (h, d)) (λ _. inr by-output)
+guard-safe G L m (receive n c) h d = (h _ (got-byte n d), get-bytes n d)
+guard-safe G L m (send n v c) h d = (h .1, put-bytes n (h .0) d)
+guard-safe G L m (move c) h d = (h, d)
+guard-safe G L m (fault k p) h d = inl (by-fault h)
+guard-safe G L m done h d = inl by-success
+guard-safe G L m stuck h d = absurd h
 
 pub start-typed : (p : Program) → ProgramTyped p → LiteralsFit p → StateTyped (p .classes) (start p)
 start-typed p P L =
@@ -426,23 +444,28 @@ start-typed p P L =
     all2-nil all2-nil (r-execute (P .main) (L .main) r-end)
 
 module _ {G : List Class} (T : All (ClassTyped G) G) (F : All (λ k. All MethodFits (k .methods)) G) (L : Limits) where
-  pub turn-safe : (c : Core) (m : Meters) → StateTyped G c → Safe G (guard L m (plan G c))
-  turn-safe c m h = guard-safe G L m (plan G c) (sound T F h)
+  pub turn-safe : (c : Core) (m : Meters) → StateTyped G c → HoldsBytes (m .device) → Safe G (guard L m (plan G c))
+  turn-safe c m h d = guard-safe G L m (plan G c) (sound T F h) d
 
-  pub runs-right : (f : ℕ) (c : Core) (m : Meters) → StateTyped G c → NotWrong (runWith (plan G) sizeOf L f c m .ending)
+  pub runs-right : (f : ℕ) (c : Core) (m : Meters) → StateTyped G c → HoldsBytes (m .device)
+      → NotWrong (runWith (plan G) sizeOf L f c m .ending)
   unfolding runWith
-  runs-right zero c m h = tt
-  runs-right (suc f) c m h =
-      after-by (Safe G) (λ r. NotWrong (r .ending)) (λ d n. runWith (plan G) sizeOf L f d n) c m (λ d n s. runs-right f d n s) (λ e s. s) (guard L m (plan G c)) (turn-safe c m h)
+  runs-right zero c m h d = tt
+  runs-right (suc f) c m h d =
+      after-by (Safe G) (λ r. NotWrong (r .ending)) (λ d n. runWith (plan G) sizeOf L f d n) c m (λ d n s. runs-right f d n (s .0) (s .1))
+      (λ e s. s) (guard L m (plan G c)) (turn-safe c m h d)
 
-pub run-right : (p : Program) (L : Limits) → ProgramTyped p → LiteralsFit p → NotWrong (run p L .ending)
+pub run-right : (p : Program) (L : Limits) (tape : List ℕ) → ProgramTyped p → LiteralsFit p → All IsByte tape
+    → NotWrong (run p L tape .ending)
 unfolding run
-run-right p L P F = runs-right (P .classes) (F .classes) L (4 * L .budget + 4) (start p) begun (start-typed p P F)
+run-right p L tape P F B =
+    runs-right (P .classes) (F .classes) L (4 * L .budget + 4) (start p) (begun tape) (start-typed p P F) (reset-bytes B)
 
 ends-well : (e : Ending) → Over e → NotWrong e → EndsWell e
 ends-well (ended k q) o r = record { number = k; position = q; is = refl; cause = r }
 ends-well wentWrong o r = absurd r
 ends-well unfinished o r = absurd o
 
-pub run-ends-well : (p : Program) (L : Limits) → ProgramTyped p → LiteralsFit p → EndsWell (run p L .ending)
-run-ends-well p L P F = ends-well (run p L .ending) (run-ends p L) (run-right p L P F)
+pub run-ends-well : (p : Program) (L : Limits) (tape : List ℕ) → ProgramTyped p → LiteralsFit p → All IsByte tape
+    → EndsWell (run p L tape .ending)
+run-ends-well p L tape P F B = ends-well (run p L tape .ending) (run-ends p L tape) (run-right p L tape P F B)

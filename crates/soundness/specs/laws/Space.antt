@@ -10,13 +10,14 @@ use mathlib.Core.Path.{_≡_, refl, sym, ap, subst}
 use lib.ListN.{length, getElem?, length-set, length-append, length-map, length-replicate}
 use lib.Dec.{ltb, leb}
 use borrow.Author.Tests.{ltb-true, ltb-false, leb-true}
-use Rattle.base.specs.Codes.{depthMost, variablesMost}
+use Rattle.base.specs.Codes.{depthMost, variablesMost, indexOutOfRange, registerOutOfRange, registersCount, valueOutOfRange, byteValues}
 use Rattle.base.specs.All.{All, all-nil, all-cons}
 use Rattle.base.specs.laws.Lists.{all2-length}
+use Rattle.device.specs.Device.{IsByte, got}
 use Rattle.parser.specs.Tree.{Place, Sort, Part, Expression, Statement, Element.class, Ty, Ty.plain, Method, Class, Program}
 use Rattle.parser.specs.Tree.{Sort.expression, Sort.arguments, Sort.statement, Sort.statements}
-use Rattle.parser.specs.Tree.{Part.literal, Part.truth, Part.variable, Part.this, Part.newArray, Part.newObject, Part.negation, Part.binary, Part.element, Part.arrayLength, Part.call, Part.noArguments, Part.argument}
-use Rattle.parser.specs.Tree.{Part.block, Part.conditional, Part.loop, Part.print, Part.assign, Part.assignElement, Part.noStatements, Part.sequence}
+use Rattle.parser.specs.Tree.{Part.literal, Part.truth, Part.variable, Part.this, Part.newArray, Part.newObject, Part.negation, Part.binary, Part.element, Part.arrayLength, Part.call, Part.portGet, Part.noArguments, Part.argument}
+use Rattle.parser.specs.Tree.{Part.block, Part.conditional, Part.loop, Part.print, Part.assign, Part.assignElement, Part.portPut, Part.noStatements, Part.sequence}
 use Rattle.parser.specs.Measure.{least, deepHere, deep, methodsDeep, classesDeep, programDeep}
 use Rattle.typesystem.specs.ClassTable.{Found, Context, classNamed, chain, methodOf}
 use Rattle.typesystem.specs.TypingRules.{ClassTyped, ProgramTyped, typeOf}
@@ -24,14 +25,14 @@ use Rattle.typing.specs.laws.Choices.{by-test, taken}
 use Rattle.typing.specs.laws.Members.{methodOf-has}
 use Rattle.typing.specs.laws.Programs.{table-acyclic}
 use Rattle.typing.specs.laws.ClassTableLaws.{every-method, method-declares}
-use Rattle.semantics.specs.Machine.{Value, Cell, Call, Core, Core.core, Request, Request.charge, Request.allocate, Request.enter, Request.output, Request.move, Request.fault, Request.done, Request.stuck}
-use Rattle.semantics.specs.Machine.{Task, Task.evaluate, Task.execute, Task.operand, Task.operate, Task.confirm, Task.negate, Task.index, Task.fetch, Task.measure, Task.makeArray, Task.makeObject, Task.invoke, Task.branch, Task.decide, Task.again, Task.show, Task.store, Task.newElement, Task.storeElement, Task.continue, Task.perform, Task.leave}
+use Rattle.semantics.specs.Machine.{Value, Cell, Call, Core, Core.core, Request, Request.charge, Request.allocate, Request.enter, Request.output, Request.receive, Request.send, Request.move, Request.fault, Request.done, Request.stuck}
+use Rattle.semantics.specs.Machine.{Task, Task.evaluate, Task.execute, Task.operand, Task.operate, Task.confirm, Task.negate, Task.index, Task.fetch, Task.measure, Task.makeArray, Task.makeObject, Task.invoke, Task.branch, Task.decide, Task.again, Task.show, Task.store, Task.newElement, Task.storeElement, Task.readRegister, Task.newByte, Task.writeRegister, Task.continue, Task.perform, Task.leave}
 use Rattle.semantics.specs.Machine.{search, ofKind, ofKinds, isAnd, apply, begin, beginStatement, second, callMethod, nextArgument, nextStatement, nextOfBody, newArrayOf, newObjectOf, go, plan}
 use Rattle.semantics.specs.Limits.{Limits, Meters, Progress, next, stop, guard, heapOf}
 use Rattle.soundness.specs.laws.Search.{search-found}
-use Rattle.soundness.specs.laws.Continuations.{Closed, need-by, require-by, pop-by, popMany-by, number-by, flag-by, array-by, object-by, object-cell-by, choice-by, innermost-by, cell-by, array-at-by, in-bounds-by, read-by, write-by}
+use Rattle.soundness.specs.laws.Continuations.{Closed, need-by, require-by, pop-by, popMany-by, number-by, flag-by, array-by, object-by, object-cell-by, choice-by, innermost-by, cell-by, array-at-by, under-bound-by, read-by, write-by}
 use Rattle.soundness.specs.laws.StateTyping.{LiteralsFit, StateTyped, typed}
-use Rattle.soundness.specs.laws.StateTyping.{TasksTyped, r-end, r-evaluate, r-execute, r-operand, r-operate, r-confirm, r-negate, r-index, r-fetch, r-measure, r-make-array, r-make-object, r-invoke, r-branch, r-decide, r-again, r-show, r-store, r-new-element, r-store-element, r-continue, r-perform, r-leave}
+use Rattle.soundness.specs.laws.StateTyping.{TasksTyped, r-end, r-evaluate, r-execute, r-operand, r-operate, r-confirm, r-negate, r-index, r-fetch, r-measure, r-make-array, r-make-object, r-invoke, r-branch, r-decide, r-again, r-show, r-store, r-new-element, r-store-element, r-read-register, r-new-byte, r-write-register, r-continue, r-perform, r-leave}
 use Rattle.soundness.specs.laws.Reachable.{Reach, reach-start, reach-next, reach-typed}
 
 -- ---- levels
@@ -49,6 +50,7 @@ below (binary p o l r) = max (1 + below l) (1 + below r)
 below (element p a i) = max (1 + below a) (1 + below i)
 below (arrayLength p a) = 1 + below a
 below (call p e m es) = max (1 + below e) (below es)
+below (portGet p e) = 1 + below e
 below noArguments = 0
 below (argument e es) = max (1 + below e) (below es)
 below (block p ss) = below ss
@@ -57,6 +59,7 @@ below (loop p e s) = max (1 + below e) (1 + below s)
 below (print p e) = 1 + below e
 below (assign p x e) = 1 + below e
 below (assignElement p x i e) = max (1 + below i) (1 + below e)
+below (portPut p n e) = max (1 + below n) (1 + below e)
 below noStatements = 0
 below (sequence s ss) = max (1 + below s) (below ss)
 
@@ -109,6 +112,7 @@ not-deep d (arrayLength p a) e = one-below d p (below a) e (not-deep (d + 1) a)
 not-deep d (call p a m es) e =
     let h = inner-both d p (deep (d + 1) a) (deep (d + 1) es) e in
     omega (arith, not-deep (d + 1) a (h .1), not-deep (d + 1) es (h .2))
+not-deep d (portGet p a) e = one-below d p (below a) e (not-deep (d + 1) a)
 not-deep d noArguments e = omega arith
 not-deep d (argument a es) e = let h = least-none (deep d a) (deep d es) e in omega (arith, not-deep d a (h .0), not-deep d es (h .1))
 not-deep d (block p ss) e = let h = inner d p (deep (d + 1) ss) e in omega (arith, not-deep (d + 1) ss (h .1))
@@ -120,6 +124,7 @@ not-deep d (loop p a s) e = two-below d p (below a) (below s) e (not-deep (d + 1
 not-deep d (print p a) e = one-below d p (below a) e (not-deep (d + 1) a)
 not-deep d (assign p x a) e = one-below d p (below a) e (not-deep (d + 1) a)
 not-deep d (assignElement p x a b) e = two-below d p (below a) (below b) e (not-deep (d + 1) a) (not-deep (d + 1) b)
+not-deep d (portPut p a b) e = two-below d p (below a) (below b) e (not-deep (d + 1) a) (not-deep (d + 1) b)
 not-deep d noStatements e = omega arith
 not-deep d (sequence s ss) e = let h = least-none (deep d s) (deep d ss) e in omega (arith, not-deep d s (h .0), not-deep d ss (h .1))
 
@@ -168,6 +173,9 @@ extra (show p) = 0
 extra (store x) = 0
 extra (newElement p e) = 1 + below e
 extra (storeElement p) = 0
+extra (readRegister p) = 0
+extra (newByte p e) = 1 + below e
+extra (writeRegister p) = 0
 extra (continue ss) = below ss
 extra (perform ss e t) = max (below ss) (1 + below e)
 extra (leave t) = 0
@@ -193,6 +201,9 @@ calls (show p) n = n
 calls (store x) n = n
 calls (newElement p e) n = n
 calls (storeElement p) n = n
+calls (readRegister p) n = n
+calls (newByte p e) n = n
+calls (writeRegister p) n = n
 calls (continue ss) n = n
 calls (perform ss e t) n = pred n
 calls (leave t) n = pred n
@@ -211,6 +222,8 @@ FitsR n w (charge p c) = FitsC n w c
 FitsR n w (allocate p k c) = FitsC n k (c tt)
 FitsR n w (enter p k v c) = FitsC k w c
 FitsR n w (output p z c) = FitsC n w c
+FitsR n w (receive i c) = (b : ℕ) → FitsC n w (c b)
+FitsR n w (send i b c) = FitsC n w c
 FitsR n w (move c) = FitsC n w c
 FitsR n w (fault k p) = Unit {0}
 FitsR n w done = Unit {0}
@@ -235,6 +248,7 @@ module _ (n w : ℕ) (G : List Class) where
   begin-fits (element p a i) ts vs cs h l c d f = (c, d, (omega arith, (omega arith, f)))
   begin-fits (arrayLength p a) ts vs cs h l c d f = (c, d, (omega arith, (omega arith, f)))
   begin-fits (call p e m es) ts vs cs h l c d f = (c, d, (omega arith, (omega arith, f)))
+  begin-fits (portGet p e) ts vs cs h l c d f = (c, d, (omega arith, (omega arith, f)))
 
   begin-statement-fits : (s : Statement) (ts : List Task) (vs : List Value) (cs : List Call) (h : List Cell)
       → below s + length ts < depthMost * suc (length cs)
@@ -246,6 +260,7 @@ module _ (n w : ℕ) (G : List Class) where
   begin-statement-fits (print p e) ts vs cs h l c d f = (c, d, (omega arith, (omega arith, f)))
   begin-statement-fits (assign p x e) ts vs cs h l c d f = (c, d, (omega arith, (omega arith, f)))
   begin-statement-fits (assignElement p x i e) ts vs cs h l c d f = read-by closed G cs h x _ (λ v. (c, d, (omega arith, (omega arith, f))))
+  begin-statement-fits (portPut p k e) ts vs cs h l c d f = (c, d, (omega arith, (omega arith, f)))
 
   task-fits : ((c m : List ℕ) (F : Found) → methodOf G c m ≡ some F → Shallow (F .method))
       → (t : Task) (ts : List Task) (vs : List Value) (cs : List Call) (h : List Cell) → extra t + length ts < depthMost * suc (length cs)
@@ -264,7 +279,7 @@ module _ (n w : ℕ) (G : List Class) where
   task-fits B (index p i) ts vs cs h l c d f = begin-fits i (fetch p ∷ ts) vs cs h (omega arith) c d (omega arith, f)
   task-fits B (fetch p) ts vs cs h l c d f =
       pop-by closed vs _ (λ y vs. pop-by closed vs _ (λ x vs. number-by closed y _ (λ i. array-by closed p x _ (λ a.
-      array-at-by closed h a _ (λ t n. in-bounds-by closed p i n _ (cell-by closed h a i _ (λ v. (c, d, f))))))))
+      array-at-by closed h a _ (λ t n. under-bound-by closed indexOutOfRange p i n _ (cell-by closed h a i _ (λ v. (c, d, f))))))))
   task-fits B (measure p) ts vs cs h l c d f =
       pop-by closed vs _ (λ x vs. array-by closed p x _ (λ a. array-at-by closed h a _ (λ t n. (c, d, f))))
   task-fits B (makeArray p t) ts vs cs h l c d f =
@@ -291,7 +306,13 @@ module _ (n w : ℕ) (G : List Class) where
   task-fits B (storeElement p) ts vs cs h l c d f =
       pop-by closed vs _ (λ v vs. pop-by closed vs _ (λ y vs. pop-by closed vs _ (λ x vs. number-by closed y _ (λ i.
       array-by closed p x _ (λ a. array-at-by closed h a _ (λ t n. require-by closed (ofKind (plain t) v) _
-      (in-bounds-by closed p i n _ (cell-by closed h a i _ (λ _. (c, simp length-set (omega arith), f))))))))))
+      (under-bound-by closed indexOutOfRange p i n _ (cell-by closed h a i _ (λ _. (c, simp length-set (omega arith), f))))))))))
+  task-fits B (readRegister p) ts vs cs h l c d f =
+      pop-by closed vs _ (λ x vs. number-by closed x _ (λ i. under-bound-by closed registerOutOfRange p i registersCount _ (λ b. (c, d, f))))
+  task-fits B (newByte p e) ts vs cs h l c d f = begin-fits e (writeRegister p ∷ ts) vs cs h (omega arith) c d (omega arith, f)
+  task-fits B (writeRegister p) ts vs cs h l c d f =
+      pop-by closed vs _ (λ y vs. pop-by closed vs _ (λ x vs. number-by closed x _ (λ i. number-by closed y _ (λ b.
+      under-bound-by closed registerOutOfRange p i registersCount _ (under-bound-by closed valueOutOfRange p b byteValues _ (c, d, f))))))
   task-fits B (continue noStatements) ts vs cs h l c d f = (c, d, f)
   task-fits B (continue (sequence s ss)) ts vs cs h l c d f =
       begin-statement-fits s (continue ss ∷ ts) vs cs h (omega arith) c d (omega arith, f)
@@ -344,6 +365,9 @@ values-fit T (r-show R) = omega (arith, values-fit T R)
 values-fit T (r-store n R) = omega (arith, values-fit T R)
 values-fit T (r-new-element x l b R) = omega (arith, values-fit T R)
 values-fit T (r-store-element R) = omega (arith, values-fit T R)
+values-fit T (r-read-register b R) = omega (arith, values-fit T R)
+values-fit T (r-new-byte x l R) = omega (arith, values-fit T R)
+values-fit T (r-write-register R) = omega (arith, values-fit T R)
 values-fit T (r-continue q l R) = omega (arith, values-fit T R)
 values-fit T (r-perform q l x m b c R) = omega (arith, values-fit T R)
 values-fit T (r-leave b R) = omega (arith, values-fit T R)
@@ -394,6 +418,8 @@ guard-fits L m (enter p n k c) i j f =
 guard-fits L m (output p z c) i j f =
     by-test (FitsO L) (ltb (length (m .printed)) (L .printed)) _ _
     (λ e. (f, i, omega (arith, length-append (m .printed) (z ∷ []), ltb-true (length (m .printed)) (L .printed) e))) (λ _. tt)
+guard-fits L m (receive n c) i j f = (f (got n (m .device)), i, j)
+guard-fits L m (send n b c) i j f = (f, i, j)
 guard-fits L m (move c) i j f = (f, i, j)
 guard-fits L m (fault k p) i j f = tt
 guard-fits L m done i j f = tt
@@ -409,14 +435,14 @@ module _ {p : Program} (P : ProgramTyped p) (F : LiteralsFit p) (D : programDeep
   methods-found : (c m : List ℕ) (K : Found) → methodOf (p .classes) c m ≡ some K → Shallow (K .method)
   methods-found c m K e = every-method (main-shallow .1) (methodOf-has (table-acyclic (P .classes)) c m e)
 
-  reach-fits : {L : Limits} {c : Core} {m : Meters} → Reach p L c m → FitsM L c m
+  reach-fits : {L : Limits} {tape : List ℕ} {c : Core} {m : Meters} → Reach p L tape c m → FitsM L c m
   reach-fits reach-start = ((omega arith, omega arith, (omega (arith, main-shallow .0), tt)), omega arith, omega arith)
   reach-fits {L} (reach-next {c = c} {m = m} r e) =
       let f = reach-fits r in
       subst (FitsO L) e (guard-fits L m (plan (p .classes) c) (f .1) (f .2) (plan-fits (L .calls) (L .heap) (p .classes) methods-found c (f .0)))
 
-  pub reach-bounded : {L : Limits} {c : Core} {m : Meters} → Reach p L c m → Bounded L c m
-  reach-bounded {c = core ts vs cs h} r =
+  pub reach-bounded : {L : Limits} {tape : List ℕ} {c : Core} {m : Meters} → All IsByte tape → Reach p L tape c m → Bounded L c m
+  reach-bounded {c = core ts vs cs h} B r =
       let f = reach-fits r in
       record {
         calls = f .0 .0;
@@ -424,7 +450,7 @@ module _ {p : Program} (P : ProgramTyped p) (F : LiteralsFit p) (D : programDeep
         steps = f .1;
         printed = f .2;
         tasks = fits-length (length cs) ts (f .0 .2);
-        values = by-typing (reach-typed P F r);
+        values = by-typing (reach-typed P F B r);
       }
     where
       by-typing : StateTyped (p .classes) (core ts vs cs h) → length vs ≤ variablesMost * length ts

@@ -9,18 +9,19 @@ use lib.ListN.{length, getElem?}
 use Rattle.base.specs.All.{All}
 use Rattle.base.specs.laws.Lists.{All2}
 use Rattle.base.specs.Word.{modulus}
+use Rattle.base.specs.Codes.{byteValues}
 use Rattle.parser.specs.Tree.{Place, Operator, Sort, Part, Expression, Statement, Element, Element.int, Element.boolean, Element.class, Ty, Ty.plain, Ty.arrayOf, Variable, Method, Class, Program}
 use Rattle.parser.specs.Tree.{Sort.arguments, Sort.statement, Sort.statements}
-use Rattle.parser.specs.Tree.{Part.literal, Part.truth, Part.variable, Part.this, Part.newArray, Part.newObject, Part.negation, Part.binary, Part.element, Part.arrayLength, Part.call, Part.noArguments, Part.argument}
-use Rattle.parser.specs.Tree.{Part.block, Part.conditional, Part.loop, Part.print, Part.assign, Part.assignElement, Part.noStatements, Part.sequence}
+use Rattle.parser.specs.Tree.{Part.literal, Part.truth, Part.variable, Part.this, Part.newArray, Part.newObject, Part.negation, Part.binary, Part.element, Part.arrayLength, Part.call, Part.portGet, Part.noArguments, Part.argument}
+use Rattle.parser.specs.Tree.{Part.block, Part.conditional, Part.loop, Part.print, Part.assign, Part.assignElement, Part.portPut, Part.noStatements, Part.sequence}
 use Rattle.typesystem.specs.ClassTable.{Found, Context, mainContext, contextOf, classNamed, fieldsOf}
 use Rattle.typesystem.specs.Judge.{arity}
 use Rattle.typesystem.specs.TypingRules.{Sub, HasMethod, HasName, HasType, HaveTypes, IsTyped, AreTyped, typeOf}
 use Rattle.typing.specs.laws.Members.{Up}
 use Rattle.typing.specs.laws.Operations.{Operates}
 use Rattle.semantics.specs.Machine.{Value, Value.number, Value.flag, Value.null, Value.arrayAt, Value.objectAt, Cell, Cell.object, Cell.array, Cell.slot, Call, Call.frame, Core, Core.core, isAnd}
-use Rattle.semantics.specs.Machine.{Request, Request.charge, Request.allocate, Request.enter, Request.output, Request.move, Request.fault, Request.done, Request.stuck}
-use Rattle.semantics.specs.Machine.{Task, Task.evaluate, Task.execute, Task.operand, Task.operate, Task.confirm, Task.negate, Task.index, Task.fetch, Task.measure, Task.makeArray, Task.makeObject, Task.invoke, Task.branch, Task.decide, Task.again, Task.show, Task.store, Task.newElement, Task.storeElement, Task.continue, Task.perform, Task.leave}
+use Rattle.semantics.specs.Machine.{Request, Request.charge, Request.allocate, Request.enter, Request.output, Request.receive, Request.send, Request.move, Request.fault, Request.done, Request.stuck}
+use Rattle.semantics.specs.Machine.{Task, Task.evaluate, Task.execute, Task.operand, Task.operate, Task.confirm, Task.negate, Task.index, Task.fetch, Task.measure, Task.makeArray, Task.makeObject, Task.invoke, Task.branch, Task.decide, Task.again, Task.show, Task.store, Task.newElement, Task.storeElement, Task.readRegister, Task.newByte, Task.writeRegister, Task.continue, Task.perform, Task.leave}
 use Rattle.soundness.specs.Results.{Fault}
 
 -- ---- literals are words
@@ -37,6 +38,7 @@ WordLiterals (binary p o l r) = WordLiterals l × WordLiterals r
 WordLiterals (element p a i) = WordLiterals a × WordLiterals i
 WordLiterals (arrayLength p a) = WordLiterals a
 WordLiterals (call p e m es) = WordLiterals e × WordLiterals es
+WordLiterals (portGet p e) = WordLiterals e
 WordLiterals noArguments = Unit {0}
 WordLiterals (argument e es) = WordLiterals e × WordLiterals es
 WordLiterals (block p ss) = WordLiterals ss
@@ -45,6 +47,7 @@ WordLiterals (loop p e s) = WordLiterals e × WordLiterals s
 WordLiterals (print p e) = WordLiterals e
 WordLiterals (assign p x e) = WordLiterals e
 WordLiterals (assignElement p x i e) = WordLiterals i × WordLiterals e
+WordLiterals (portPut p n e) = WordLiterals n × WordLiterals e
 WordLiterals noStatements = Unit {0}
 WordLiterals (sequence s ss) = WordLiterals s × WordLiterals ss
 
@@ -161,6 +164,12 @@ pub data TasksTyped (G : List Class) : List Context → List Ty → List Task �
       → TasksTyped G Γs (plain int ∷ arrayOf t ∷ us) (newElement p e ∷ ts)
   r-store-element : {Γs : List Context} {us : List Ty} {ts : List Task} {p : Place} {t : Element}
       → TasksTyped G Γs us ts → TasksTyped G Γs (plain t ∷ plain int ∷ arrayOf t ∷ us) (storeElement p ∷ ts)
+  r-read-register : {Γs : List Context} {us : List Ty} {ts : List Task} {p : Place} {t : Ty}
+      → Sub G (plain int) t → TasksTyped G Γs (t ∷ us) ts → TasksTyped G Γs (plain int ∷ us) (readRegister p ∷ ts)
+  r-new-byte : {Γs : List Context} {us : List Ty} {ts : List Task} {p : Place} {e : Expression}
+      → HasType G (now Γs) e (plain int) → WordLiterals e → TasksTyped G Γs us ts → TasksTyped G Γs (plain int ∷ us) (newByte p e ∷ ts)
+  r-write-register : {Γs : List Context} {us : List Ty} {ts : List Task} {p : Place}
+      → TasksTyped G Γs us ts → TasksTyped G Γs (plain int ∷ plain int ∷ us) (writeRegister p ∷ ts)
   r-continue : {Γs : List Context} {us : List Ty} {ts : List Task} {ss : Part statements}
       → AreTyped G (now Γs) ss → WordLiterals ss → TasksTyped G Γs us ts → TasksTyped G Γs us (continue ss ∷ ts)
   -- r: the type of the method's result
@@ -182,6 +191,8 @@ Asks G (charge p c) = StateTyped G c
 Asks G (allocate p n c) = StateTyped G (c tt)
 Asks G (enter p n k c) = StateTyped G c
 Asks G (output p z c) = StateTyped G c
+Asks G (receive n c) = (b : ℕ) → b < byteValues → StateTyped G (c b)
+Asks G (send n b c) = (b < byteValues) × StateTyped G c
 Asks G (move c) = StateTyped G c
 Asks G (fault k p) = Fault k
 Asks G done = Unit {0}

@@ -11,7 +11,7 @@ use Rattle.base.specs.laws.Lists.{all-at, all-append}
 use Rattle.parser.specs.Tree.{Operator, Expression, Element.class, Ty, Ty.plain, Variable, Method, Class}
 use Rattle.typesystem.specs.ClassTable.{Slot, Found, Context, contextOf, classNamed, methodNamed, chain, underlying, known, layout, fieldsOf}
 use Rattle.typesystem.specs.TypingRules.{Extends, extends, sub-same, sub-trans, HasMethod, own-method, inherited-method, HasField, own-field, inherited-field, HasName, of-variable, of-field, HasType, Known, Redeclares, MethodTyped, ClassTyped, methodName, className}
-use Rattle.typesystem.specs.TypingRules.{t-literal, t-truth, t-variable, t-this, t-new-array, t-new-object, t-negation, t-binary, t-element, t-length, t-call}
+use Rattle.typesystem.specs.TypingRules.{t-literal, t-truth, t-variable, t-this, t-new-array, t-new-object, t-negation, t-binary, t-element, t-length, t-call, t-port-get}
 use Rattle.typing.specs.laws.Operations.{Operates, conjoins, compares, adds, subtracts, multiplies, operates}
 use Rattle.typing.specs.laws.Choices.{first-name, first-among, none-some}
 use Rattle.typing.specs.laws.Chains.{known-found, found-known, ends-known, ends-up, extends-none, class-name, all-classes, Acyclic, Chain, chain-none, chain-top, chain-more, chain-is, chain-tail}
@@ -185,6 +185,7 @@ module _ {G : List Class} (T : All (ClassTyped G) G) where
   type-known C (t-element h k) = type-known C h
   type-known C (t-length h) = refl
   type-known C (t-call h m hs q) = rw (← q) (method-declares T m .typed .result-known)
+  type-known C (t-port-get h) = refl
 
   pub context-known : {c : List ℕ} {m : Method} → known G (class c) ≡ true → MethodTyped G c m → ContextKnown G (contextOf c m)
   context-known {c} k t = record { variables = t .variables-known; owner = λ d e. let z : c ≡ d = cc in rw (← z) k }

@@ -11,14 +11,14 @@ use Rattle.base.specs.Outcome.{Outcome, accepted, _>>=_}
 use Rattle.parser.specs.Tree.{Place, Name, Operator, Sort, Part, Expression, Statement, Variable, Class}
 use Rattle.parser.specs.Tree.{Element, Element.int, Element.boolean, Element.class, Ty, Ty.plain, Ty.arrayOf}
 use Rattle.parser.specs.Tree.{Sort.expression, Sort.arguments, Sort.statement, Sort.statements}
-use Rattle.parser.specs.Tree.{Part.literal, Part.truth, Part.variable, Part.this, Part.newArray, Part.newObject, Part.negation, Part.binary, Part.element, Part.arrayLength, Part.call, Part.noArguments, Part.argument}
-use Rattle.parser.specs.Tree.{Part.block, Part.conditional, Part.loop, Part.print, Part.assign, Part.assignElement, Part.noStatements, Part.sequence}
+use Rattle.parser.specs.Tree.{Part.literal, Part.truth, Part.variable, Part.this, Part.newArray, Part.newObject, Part.negation, Part.binary, Part.element, Part.arrayLength, Part.call, Part.portGet, Part.noArguments, Part.argument}
+use Rattle.parser.specs.Tree.{Part.block, Part.conditional, Part.loop, Part.print, Part.assign, Part.assignElement, Part.portPut, Part.noStatements, Part.sequence}
 use Rattle.typesystem.specs.ClassTable.{Found, Context, known, fits, methodOf, meaning, meaningType}
 use Rattle.typesystem.specs.Judge.{arity, must, receiver, ofArray, invocation, lookUp, judge}
 use Rattle.typesystem.specs.Operators.{operation}
 use Rattle.typesystem.specs.TypingRules.{Sub, HasName, HasType, HaveTypes, IsTyped, AreTyped}
-use Rattle.typesystem.specs.TypingRules.{t-literal, t-truth, t-variable, t-this, t-new-array, t-new-object, t-negation, t-binary, t-element, t-length, t-call, t-none, t-more}
-use Rattle.typesystem.specs.TypingRules.{t-block, t-if, t-while, t-print, t-assign, t-assign-element, t-end, t-sequence}
+use Rattle.typesystem.specs.TypingRules.{t-literal, t-truth, t-variable, t-this, t-new-array, t-new-object, t-negation, t-binary, t-element, t-length, t-call, t-port-get, t-none, t-more}
+use Rattle.typesystem.specs.TypingRules.{t-block, t-if, t-while, t-print, t-assign, t-assign-element, t-port-put, t-end, t-sequence}
 use Rattle.typing.specs.laws.Choices.{refused-accepted, bound, passed, present, tested}
 use Rattle.typing.specs.laws.Operations.{Operates, conjoins, compares, adds, subtracts, multiplies, operates}
 use Rattle.typing.specs.laws.Chains.{Acyclic}
@@ -156,6 +156,7 @@ module _ {G : List Class} (A : Acyclic G) where
         let r = received e (sound e) _ h in
         let i = invoked m (arity es) (judge G Γ es) (methodOf G (r .0) (m .text)) (r .2) in
         t-call {c = r .0} (r .1) (methodOf-has A (r .0) (m .text) (i .1)) (sound es (i .0 .method .parameters) (i .2) (i .3)) (i .4)
+    sound (portGet p e) = λ t h. let w = part e (plain int) tt (sound e) _ h in typed (t-port-get (w .0)) (w .1)
     sound noArguments = λ vs l h. none-left vs l
     sound (argument e es) = one-more e es (sound e) (sound es)
     sound (block p ss) = λ h. t-block (sound ss h)
@@ -174,6 +175,9 @@ module _ {G : List Class} (A : Acyclic G) where
         let w = part i (plain int) tt (sound i) (λ _. judge G Γ e >>= λ t. must G e (plain (a .0)) t) (a .2) in
         let v = fitted (judge G Γ e) e (w .1) in
         t-assign-element {s = v .0} (a .1) (w .0) (sound e (v .0) (v .1)) (v .2)
+    sound (portPut p n e) = λ h.
+        let w = part n (plain int) tt (sound n) (λ _. judge G Γ e >>= λ t. must G e (plain int) t) h in
+        t-port-put (w .0) (last e (plain int) tt (sound e) (w .1))
     sound noStatements = λ h. t-end
     sound (sequence s ss) = λ h. let w = bound (judge G Γ s) _ h in t-sequence (sound s (w .1)) (sound ss (w .2))
 
@@ -203,6 +207,7 @@ module _ {G : List Class} (A : Acyclic G) where
       complete (t-element h k) = rw (complete h, complete k, fits-refl)
       complete (t-length h) = rw (complete h)
       complete (t-call {es = es} {F = F} h m hs q) = rw (complete h, has-methodOf A m, eq-eqb (arity es) (length (F .method .parameters)) (many hs), completes hs) (ap accepted q)
+      complete (t-port-get h) = rw (complete h, fits-refl)
 
       pub completes : {es : Part arguments} {vs : List Variable} → HaveTypes G Γ es vs → judge G Γ es vs ≡ accepted tt
       completes t-none = refl
@@ -218,6 +223,7 @@ module _ {G : List Class} (A : Acyclic G) where
       complete-statement (t-print h) = rw (complete h, fits-refl)
       complete-statement (t-assign {p = p} n h s) = rw (named-found p n, complete h, sub-fits A s)
       complete-statement (t-assign-element {p = p} n h k s) = rw (named-found p n, complete h, fits-refl, complete k, sub-fits A s)
+      complete-statement (t-port-put h k) = rw (complete h, fits-refl, complete k, fits-refl)
 
       pub complete-statements : {ss : Part statements} → AreTyped G Γ ss → judge G Γ ss ≡ accepted tt
       complete-statements t-end = refl

@@ -12,8 +12,8 @@ use Rattle.lexer.specs.Tokens.{Token}
 use Rattle.lexer.specs.contracts.Rows.{firstNamed}
 use Rattle.parser.specs.Tree.{Sort, Sort.expression, Sort.statement, Part, Expression, Statement, Class}
 use Rattle.parser.specs.Tree.{Part.literal, Part.truth, Part.variable, Part.this, Part.newArray, Part.newObject, Part.negation, Part.binary}
-use Rattle.parser.specs.Tree.{Part.element, Part.arrayLength, Part.call}
-use Rattle.parser.specs.Tree.{Part.block, Part.conditional, Part.loop, Part.print, Part.assign, Part.assignElement}
+use Rattle.parser.specs.Tree.{Part.element, Part.arrayLength, Part.call, Part.portGet}
+use Rattle.parser.specs.Tree.{Part.block, Part.conditional, Part.loop, Part.print, Part.assign, Part.assignElement, Part.portPut}
 use Rattle.parser.specs.Measure.{nodes}
 use Rattle.parser.specs.contracts.Post.{kindInTable}
 use Rattle.reader.specs.contracts.WalkPost.{Walkable}
@@ -25,7 +25,7 @@ use Rattle.semantics.specs.Machine.{number, flag, isAnd}
 use Rattle.writer.specs.declared.scope.Scope.{Scope}
 use Rattle.codegen.specs.contracts.Code as Code
 use Rattle.codegen.specs.contracts.Code.{Instruction, push, load, save, self, negate, jump, unless, keep, fetch, measure}
-use Rattle.codegen.specs.contracts.Code.{makeArray, makeObject, storeElement}
+use Rattle.codegen.specs.contracts.Code.{makeArray, makeObject, storeElement, readRegister, writeRegister}
 use Rattle.codegen.specs.contracts.Compile.{endBinary, emitBinary, end, emit, cellsOf}
 use Rattle.writer.specs.contracts.Words.{words, encode, putAt}
 use Rattle.writer.specs.contracts.Sizing.{namesLeast}
@@ -74,6 +74,7 @@ module _ (G : List Class) (Γ : Context) where
   innerE (element p a e) i k = emit G Γ a i (emit G Γ e (end a i) (fetch p ∷ k))
   innerE (arrayLength p a) i k = emit G Γ a i (measure p ∷ k)
   innerE (call p e m es) i k = emit G Γ e i (emit G Γ es (end e i) (Code.call p (m .text) (arity es) ∷ k))
+  innerE (portGet p e) i k = emit G Γ e i (readRegister p ∷ k)
 
   abbrev pub innerS : Statement → ℕ → List Instruction → List Instruction
   innerS (block p ss) i k = emit G Γ ss i k
@@ -87,6 +88,7 @@ module _ (G : List Class) (Γ : Context) where
   innerS (print p e) i k = emit G Γ e i (Code.print p ∷ k)
   innerS (assign p x e) i k = emit G Γ e i (save (meaning G Γ x) ∷ k)
   innerS (assignElement p x a e) i k = load (meaning G Γ x) ∷ emit G Γ a (suc i) (emit G Γ e (end a (suc i)) (storeElement p ∷ k))
+  innerS (portPut p n e) i k = emit G Γ n i (emit G Γ e (end n i) (writeRegister p ∷ k))
 
 abbrev pub endE : Expression → ℕ → ℕ
 endE (literal p n) i = suc i
@@ -100,6 +102,7 @@ endE (binary p o l r) i = endBinary (isAnd o) (end l i) (end r)
 endE (element p a e) i = suc (end e (end a i))
 endE (arrayLength p a) i = suc (end a i)
 endE (call p e m es) i = suc (end es (end e i))
+endE (portGet p e) i = suc (end e i)
 
 abbrev pub endS : Statement → ℕ → ℕ
 endS (block p ss) i = end ss i
@@ -108,6 +111,7 @@ endS (loop p e s) i = suc (end s (suc (end e i)))
 endS (print p e) i = suc (end e i)
 endS (assign p x e) i = suc (end e i)
 endS (assignElement p x a e) i = suc (end e (end a (suc i)))
+endS (portPut p n e) i = suc (end e (end n i))
 
 -- PARTS AND FORMS
 

@@ -61,7 +61,8 @@ use Rattle.bodies.proofs.ExpressionLaws.{arguments-before, arguments-be
 use Rattle.bodies.proofs.ExpressionLaws.{binary-refused, binary-right, binary-wrong, call-object, call-plain, call-refused}
 use Rattle.bodies.proofs.ExpressionLaws.{creation-array, creation-object, dotted-call, dotted-length, element-first}
 use Rattle.bodies.proofs.ExpressionLaws.{element-second, expression-atom, expression-before, expression-behind, expression-binary}
-use Rattle.bodies.proofs.ExpressionLaws.{expression-dot, expression-element, expression-new, expression-not, invocation-count}
+use Rattle.bodies.proofs.ExpressionLaws.{expression-dot, expression-element, expression-get, expression-new, expression-not}
+use Rattle.bodies.proofs.ExpressionLaws.{invocation-count}
 use Rattle.bodies.proofs.ExpressionLaws.{invocation-fine, invocation-refused, invocation-unknown, operand-fits, operand-refused}
 use Rattle.bodies.proofs.ExpressionLaws.{operand-wrong, single-fine, single-refused}
 use Rattle.bodies.proofs.ExpressionLaws.{array-wrong, array-right, array-unjudged, length-right, length-refused}
@@ -162,8 +163,9 @@ pub +arguments+array+binary+call+creation+dotted+element+expression+invocation+m
     (and 2 expression-kinds.ps (is 2 expression-kinds.ps μ-expression t) expression.Pre) expression.Post (λ c. search expression-before)
     (λ c. search expression-behind) (λ c κs. search needs) (λ c κs. search needs) (λ c κs. search needs) (λ c. search expression-atom)
     (λ c κs. search needs) (λ c. search expression-new) (λ c κs. search needs) (λ c. search expression-dot) (λ c κs. search needs)
-    (λ c. search needs) (λ c κs. search needs) (λ c. search expression-not) (λ c κs. search needs) (λ c. search expression-element)
-    (λ c κs. search needs) (λ c. search expression-binary))
+    (λ c. search needs) (λ c κs. search needs) (λ c. search expression-not) (λ c κs. search needs) (λ c. search needs)
+    (λ c κs. search needs) (λ c. search expression-get) (λ c κs. search needs) (λ c. search expression-element) (λ c κs. search needs)
+    (λ c. search expression-binary))
     (λ t. invocation-lts.spec
     (word-reads.Asked, word-reads.Learnt, find-method-reads.Asked, find-method-reads.Learnt, same-count-reads.Asked, same-count-reads.Learnt, arguments-below t, arguments.Post, type-of-reads.Asked, type-of-reads.Learnt)
     (and 2 invocation-kinds.ps (is 2 invocation-kinds.ps μ-invocation t) invocation.Pre) invocation.Post (λ c. search needs)

@@ -5,7 +5,7 @@ use Prim.Native.Nat.{_-_}
 use Rattle.device.proofs.strip.write.Statement.{statement}
 use Rattle.device.proofs.strip.write.Tie as tie
 use Rattle.device.specs.contracts.Holding.{registersOf}
-use Rattle.device.proofs.StateLaws.{Written, written-none, written-next, written-all}
+use Rattle.device.proofs.StateLaws.{Written, written-none, written-next, shown-in}
 
 abbrev Inv-loop : tie.InvT-loop
 Inv-loop strip₀ d i₀ strip i = Written (registersOf d) strip i
@@ -17,10 +17,10 @@ same-length : tie.Need-same-length Inv-loop μ-loop
 same-length c = omega (arith, c .before .before .loop .inv, c .before .before .before .before .pre)
 
 returns : tie.Need-returns Inv-loop μ-loop
-returns c = written-all (c .before .before .loop .inv) (c .before .before .before .before .pre .1) (search needs)
+returns c = shown-in (c .before .before .loop .inv) (search needs)
 
 returns-2 : tie.Need-returns-2 Inv-loop μ-loop
-returns-2 c = written-all (c .before .loop .inv) (c .before .before .before .pre .1) (search needs)
+returns-2 c = shown-in (c .before .loop .inv) (search needs)
 
 pub write-spec : {M : Type 1} → statement M
 write-spec =

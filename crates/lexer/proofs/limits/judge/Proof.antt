@@ -13,24 +13,27 @@ returns c =
 
 returns-2 : tie.Need-returns-2
 returns-2 c =
-    let g = c .before .before .before .before in
+    let n = c .before .before in
+    let g = n .before .before .before in
     let a = g .args in
-    verdict-long (a .count) (a .kind) (a .text .now) (c .before .before .if1 .left) (g .pre) (c .before .if2 .taken) (c .if3 .taken)
+    verdict-long (a .count) (a .kind) (a .text .now) (n .before .if1 .left) (n .is-name .ensures) (c .before .if2 .taken) (c .if3 .taken)
 
 returns-3 : tie.Need-returns-3
 returns-3 c =
-    let g = c .before .before .before .before in
+    let n = c .before .before in
+    let g = n .before .before .before in
     let a = g .args in
-    verdict-name (a .count) (a .kind) (a .text .now) (c .before .before .if1 .left) (g .pre) (c .before .if2 .taken) (c .if3 .left)
+    verdict-name (a .count) (a .kind) (a .text .now) (n .before .if1 .left) (n .is-name .ensures) (c .before .if2 .taken) (c .if3 .left)
 
 returns-4 : tie.Need-returns-4
 returns-4 c =
     let z = c .before in
     let f = z .before in
-    let g = f .before .before .before .before in
+    let n = f .before .before in
+    let g = n .before .before .before in
     let a = g .args in
-    verdict-zero (a .count) (a .kind) (a .text .now)
-    (f .before .before .if1 .left) (f .if4 .taken) (z .starts-with-zero .ensures) (c .if5 .taken)
+    verdict-zero (a .count) (a .kind) (a .text .now) (n .before .if1 .left) (n .is-name .ensures)
+    (f .before .if2 .left) (f .if4 .taken) (z .starts-with-zero .ensures) (c .if5 .taken)
 
 enum-told : tie.Need-enum-told
 enum-told c = c .match .keys2
@@ -40,30 +43,33 @@ returns-5 c =
     let v = c .before .before .before in
     let z = v .before .before in
     let f = z .before in
-    let g = f .before .before .before .before in
+    let n = f .before .before in
+    let g = n .before .before .before in
     let a = g .args in
     ap onLiteral (sym (c .before .v .given .1))
-    ∙ verdict-literal (a .count) (a .kind) (a .text .now)
-    (f .before .before .if1 .left) (f .if4 .taken) (z .starts-with-zero .ensures) (v .before .if5 .left) (v .value-of .ensures)
+    ∙ verdict-literal (a .count) (a .kind) (a .text .now) (n .before .if1 .left) (n .is-name .ensures)
+    (f .before .if2 .left) (f .if4 .taken) (z .starts-with-zero .ensures) (v .before .if5 .left) (v .value-of .ensures)
 
 returns-6 : tie.Need-returns-6
 returns-6 c =
     let v = c .before .before in
     let z = v .before .before in
     let f = z .before in
-    let g = f .before .before .before .before in
+    let n = f .before .before in
+    let g = n .before .before .before in
     let a = g .args in
     ap onLiteral (sym (c .enum-told .given .1))
-    ∙ verdict-literal (a .count) (a .kind) (a .text .now)
-    (f .before .before .if1 .left) (f .if4 .taken) (z .starts-with-zero .ensures) (v .before .if5 .left) (v .value-of .ensures)
+    ∙ verdict-literal (a .count) (a .kind) (a .text .now) (n .before .if1 .left) (n .is-name .ensures)
+    (f .before .if2 .left) (f .if4 .taken) (z .starts-with-zero .ensures) (v .before .if5 .left) (v .value-of .ensures)
 
 returns-7 : tie.Need-returns-7
 returns-7 c =
-    let g = c .before .before .before .before in
+    let n = c .before .before in
+    let g = n .before .before .before in
     let a = g .args in
-    verdict-plain (a .count) (a .kind) (a .text .now) (c .before .before .if1 .left) (c .before .if2 .left) (c .if4 .left)
+    verdict-plain (a .count) (a .kind) (a .text .now) (n .before .if1 .left) (n .is-name .ensures) (c .before .if2 .left) (c .if4 .left)
 
 pub judge-spec : {M : Type 1} → statement M
 judge-spec =
-    tie.close (tie.spec returns returns-2 returns-3 (λ c κs. search needs) returns-4 (λ c κs. search needs) (λ c. c .match .keys1) enum-told
+    tie.close (tie.spec returns (λ c κs. search needs) returns-2 returns-3 (λ c κs. search needs) returns-4 (λ c κs. search needs) (λ c. c .match .keys1) enum-told
     returns-5 returns-6 returns-7)

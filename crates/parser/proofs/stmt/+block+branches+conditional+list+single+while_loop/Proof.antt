@@ -36,5 +36,5 @@ pub +block+branches+conditional+list+single+while-loop-spec : {M : Type 1} → s
     (λ t. branches-lts.spec (branches-calls t) (branches-at t) branches.Post (Branches.branches-single-requires t) (Branches.branches-followed-requires t) (Branches.branches-enum-known-b t) (Branches.branches-single-requires-2 t) (Branches.branches-enum-known-c t) (Branches.branches-node-requires t) (Branches.branches-third-requires t) (Branches.branches-enum-known-c-2 t) (Branches.branches-enum-known-b-2 t) (Branches.branches-same-length t) (Branches.branches-returns t) (Branches.branches-same-length-2 t) (Branches.branches-returns-2 t) (Branches.branches-same-length-3 t) (Branches.branches-returns-3 t))
     (λ t. conditional-lts.spec (conditional-calls t) (conditional-at t) conditional.Post (Conditional.conditional-test-requires t) (Conditional.conditional-enum-known-a t) (Conditional.conditional-branches-requires t) (Conditional.conditional-enum-known-a-2 t) (Conditional.conditional-same-length t) (Conditional.conditional-returns t) (Conditional.conditional-same-length-2 t) (Conditional.conditional-returns-2 t))
     (λ t. list-lts.spec (list-calls t) (list-at t) list.Post (List.list-kind-requires t) (List.list-begins-statement-requires t) (List.list-single-requires t) (List.list-enum-known-a t) (List.list-list-requires t) (List.list-linked-requires t) (List.list-same-length t) (List.list-returns t) (List.list-enum-known-a-2 t) (List.list-same-length-2 t) (List.list-returns-2 t) (List.list-same-length-3 t) (List.list-returns-3 t))
-    (λ t. single-lts.spec (single-calls t) (single-at t) single.Post (Single.single-kind-requires t) (Single.single-block-requires t) (Single.single-same-length t) (Single.single-returns t) (Single.single-conditional-requires t) (Single.single-same-length-2 t) (Single.single-returns-2 t) (Single.single-while-loop-requires t) (Single.single-same-length-3 t) (Single.single-returns-3 t) (Single.single-print-requires t) (Single.single-same-length-4 t) (Single.single-returns-4 t) (Single.single-is-name-requires t) (Single.single-assignment-requires t) (Single.single-same-length-5 t) (Single.single-returns-5 t) (Single.single-same-length-6 t) (Single.single-returns-6 t))
+    (λ t. single-lts.spec (single-calls t) (single-at t) single.Post (Single.single-kind-requires t) (Single.single-block-requires t) (Single.single-same-length t) (Single.single-returns t) (Single.single-conditional-requires t) (Single.single-same-length-2 t) (Single.single-returns-2 t) (Single.single-while-loop-requires t) (Single.single-same-length-3 t) (Single.single-returns-3 t) (Single.single-print-requires t) (Single.single-same-length-4 t) (Single.single-returns-4 t) (Single.single-port-put-requires t) (Single.single-same-length-5 t) (Single.single-returns-5 t) (Single.single-is-name-requires t) (Single.single-assignment-requires t) (Single.single-same-length-6 t) (Single.single-returns-6 t) (Single.single-same-length-7 t) (Single.single-returns-7 t))
     (λ t. while-loop-lts.spec (while-loop-calls t) (while-loop-at t) while-loop.Post (WhileLoop.while-loop-test-requires t) (WhileLoop.while-loop-enum-known-a t) (WhileLoop.while-loop-single-requires t) (WhileLoop.while-loop-two-parts-requires t) (WhileLoop.while-loop-enum-known-a-2 t) (WhileLoop.while-loop-same-length t) (WhileLoop.while-loop-returns t) (WhileLoop.while-loop-same-length-2 t) (WhileLoop.while-loop-returns-2 t))

@@ -4,7 +4,9 @@ use borrow.Author.Needs.{needs}
 use native.Mathlib.Omega.{arith}
 use lib.Dec.{lit<}
 use Rattle.parser.proofs.Laws.{there}
-use Rattle.parser.proofs.Statements.{head-there, print-head, print-ok}
+use Rattle.parser.specs.Parse.{printHead}
+use Rattle.parser.proofs.Heads.{head-there}
+use Rattle.parser.proofs.Statements.{print-head, print-ok}
 use Rattle.parser.proofs.Pieces.{mode-fits, follows-fits}
 use Rattle.parser.proofs.stmt.print.Statement.{statement}
 use Rattle.parser.proofs.stmt.print.Tie as tie
@@ -18,7 +20,8 @@ matched-requires c κs =
 operation-requires : tie.Need-operation-requires
 operation-requires c κs =
     let g = c .before .before .before .before .before .before in
-    let w = head-there (g .args .table .now) (g .args .n) (g .args .i) _ (g .pre .1) (c .before .before .matched .ensures) in
+    let w = head-there (g .args .table .now) (g .args .n) (g .args .i) 19 _ printHead (omega arith) (lit< tt) (g .pre .1)
+    (c .before .before .matched .ensures) in
     omega arith
 
 one-part-requires : tie.Need-one-part-requires

@@ -1,6 +1,7 @@
 -- The cycle of calls on statements. The measure is 4 for each node that may still come, and the rank of the function. Each return is a
 -- law of `StatementLaws`.
 use Rattle.writer.proofs.StatementLaws.{statement-none, statement-block, statement-if, statement-while, statement-print}
+use Rattle.writer.proofs.StatementLaws.{statement-put}
 use Rattle.writer.proofs.StatementLaws.{statement-element, statement-assignment, conditional-wrote, loop-wrote, branches-wrote}
 use Rattle.writer.proofs.StatementLaws.{otherwise-wrote, body-wrote, list-none, list-end, list-more}
 use borrow.Author.Needs.{needs}
@@ -31,6 +32,7 @@ use Rattle.writer.proofs.code.next.Reads as next-reads
 use Rattle.writer.proofs.code.put.Reads as put-reads
 use Rattle.writer.proofs.expr.expression.Reads as expression-reads
 use Rattle.writer.proofs.expr.located.Reads as located-reads
+use Rattle.writer.proofs.expr.located_pair.Reads as located-pair-reads
 use Rattle.writer.proofs.expr.mark.Reads as mark-reads
 use Rattle.writer.proofs.stmt.assigned.Reads as assigned-reads
 use Rattle.writer.proofs.stmt.element.Reads as element-reads
@@ -166,13 +168,13 @@ pub +body+branches+list+otherwise+single+tested-spec : {M : Type 1} → statemen
     (λ t. otherwise-lts.spec (otherwise-calls t) (otherwise-at t) otherwise.Post (λ c κs. search needs) (λ c κs. search needs)
     (λ c κs. search needs) (λ c κs. search needs) (λ c. search needs) (otherwise-returns t))
     (λ t. single-lts.spec
-    (kind-reads.Asked, kind-reads.Learnt, mark-reads.Asked, mark-reads.Learnt, word-reads.Asked, word-reads.Learnt, list-below t, list.Post, and 3 tested-kinds.ps (falls 3 tested-kinds.ps _<_ μ-tested t) tested.Pre, tested.Post, located-reads.Asked, located-reads.Learnt, element-reads.Asked, element-reads.Learnt, assigned-reads.Asked, assigned-reads.Learnt)
-    (and 3 single-kinds.ps (is 3 single-kinds.ps μ-single t) single.Pre) single.Post (λ c. search statement-none) (λ c κs. search needs)
-    (λ c κs. search needs) (λ c κs. search needs) (λ c. search needs) (λ c κs. search needs) (λ c. search needs)
-    (λ c. search statement-block) (λ c. search needs) (λ c κs. search needs) (λ c. search needs) (λ c. search statement-if)
-    (λ c. search needs) (λ c κs. search needs) (λ c. search needs) (λ c. search statement-while) (λ c. search needs)
-    (λ c κs. search needs) (λ c. search needs) (λ c. search statement-print) (λ c. search needs) (λ c κs. search needs)
-    (λ c. search needs) (λ c κs. search needs) (λ c. search needs) (λ c. search statement-element) (λ c. search needs)
-    (λ c κs. search needs) (λ c. search needs) (λ c. search statement-assignment))
+    (kind-reads.Asked, kind-reads.Learnt, mark-reads.Asked, mark-reads.Learnt, word-reads.Asked, word-reads.Learnt, list-below t, list.Post, and 3 tested-kinds.ps (falls 3 tested-kinds.ps _<_ μ-tested t) tested.Pre, tested.Post, located-reads.Asked, located-reads.Learnt, located-pair-reads.Asked, located-pair-reads.Learnt, element-reads.Asked, element-reads.Learnt, assigned-reads.Asked, assigned-reads.Learnt)
+    (and 3 single-kinds.ps (is 3 single-kinds.ps μ-single t) single.Pre) single.Post (λ c. search statement-none) (λ c. search needs)
+    (λ c κs. search needs) (λ c κs. search needs) (λ c κs. search needs) (λ c κs. search needs) (λ c. search needs)
+    (λ c. search statement-block) (λ c κs. search needs) (λ c. search needs) (λ c. search statement-if) (λ c κs. search needs)
+    (λ c. search needs) (λ c. search statement-while) (λ c κs. search needs) (λ c. search needs) (λ c. search statement-print)
+    (λ c κs. search needs) (λ c. search needs) (λ c. search statement-put) (λ c. search needs) (λ c κs. search needs)
+    (λ c κs. search needs) (λ c. search needs) (λ c. search statement-element) (λ c κs. search needs) (λ c. search needs)
+    (λ c. search statement-assignment))
     (λ t. tested-lts.spec (tested-calls t) (tested-at t) tested.Post (λ c κs. search needs) (λ c κs. search needs) (λ c κs. search needs)
     (λ c. search needs) (λ c. search conditional-wrote) (λ c κs. search needs) (λ c. search needs) (tested-returns-2 t))

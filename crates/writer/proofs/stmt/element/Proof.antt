@@ -6,5 +6,4 @@ use Rattle.writer.proofs.stmt.element.Tie as tie
 
 pub element-spec : {M : Type 1} → statement M
 element-spec =
-    tie.close (tie.spec (λ c κs. search needs) (λ c κs. search needs) (λ c κs. search needs) (λ c. search needs)
-    (λ c. search element-wrote))
+    tie.close (tie.spec (λ c κs. search needs) (λ c κs. search needs) (λ c. search needs) (λ c. search element-wrote))

@@ -21,12 +21,13 @@ use Rattle.parser.proofs.stmt.while_loop.Reads as while-loop
 use Rattle.parser.proofs.stmt.while_loop.Kinds as while-loop-kinds
 use Rattle.parser.proofs.stmt.+block+branches+conditional+list+single+while_loop.Lts-while_loop as while-loop-lts
 use Rattle.parser.proofs.kinds.begins_statement.Reads as begins-statement-reads
-use Rattle.parser.proofs.kinds.is_name.Reads as is-name-reads
+use Rattle.lexer.proofs.kinds.is_name.Reads as is-name-reads
 use Rattle.parser.proofs.parts.followed.Reads as followed-reads
 use Rattle.parser.proofs.parts.linked.Reads as linked-reads
 use Rattle.parser.proofs.parts.one_part.Reads as one-part-reads
 use Rattle.parser.proofs.parts.two_parts.Reads as two-parts-reads
 use Rattle.parser.proofs.stmt.assignment.Reads as assignment-reads
+use Rattle.parser.proofs.stmt.port_put.Reads as port-put-reads
 use Rattle.parser.proofs.stmt.print.Reads as print-reads
 use Rattle.parser.proofs.stmt.test.Reads as test-reads
 use Rattle.parser.proofs.table.kind.Reads as kind-reads
@@ -84,7 +85,7 @@ abbrev pub list-calls : ℕ → list-lts.Claims
 list-calls t = (kind-reads.Asked, kind-reads.Learnt, begins-statement-reads.Asked, begins-statement-reads.Learnt, asked single-kinds.ps μ-single single.Pre t, single.Post, asked list-kinds.ps μ-list list.Pre t, list.Post, linked-reads.Asked, linked-reads.Learnt)
 
 abbrev pub single-calls : ℕ → single-lts.Claims
-single-calls t = (kind-reads.Asked, kind-reads.Learnt, asked block-kinds.ps μ-block block.Pre t, block.Post, asked conditional-kinds.ps μ-conditional conditional.Pre t, conditional.Post, asked while-loop-kinds.ps μ-while-loop while-loop.Pre t, while-loop.Post, print-reads.Asked, print-reads.Learnt, is-name-reads.Asked, is-name-reads.Learnt, assignment-reads.Asked, assignment-reads.Learnt)
+single-calls t = (kind-reads.Asked, kind-reads.Learnt, asked block-kinds.ps μ-block block.Pre t, block.Post, asked conditional-kinds.ps μ-conditional conditional.Pre t, conditional.Post, asked while-loop-kinds.ps μ-while-loop while-loop.Pre t, while-loop.Post, print-reads.Asked, print-reads.Learnt, port-put-reads.Asked, port-put-reads.Learnt, is-name-reads.Asked, is-name-reads.Learnt, assignment-reads.Asked, assignment-reads.Learnt)
 
 abbrev pub while-loop-calls : ℕ → while-loop-lts.Claims
 while-loop-calls t = (test-reads.Asked, test-reads.Learnt, asked single-kinds.ps μ-single single.Pre t, single.Post, two-parts-reads.Asked, two-parts-reads.Learnt)

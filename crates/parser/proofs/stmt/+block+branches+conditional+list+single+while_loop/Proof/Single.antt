@@ -48,15 +48,8 @@ module _ (t : ℕ) where
   pub single-returns-4 : single-lts.Need-returns-4 (single-calls t) (single-at t) single.Post
   single-returns-4 c = search needs
 
-  pub single-is-name-requires : single-lts.Need-is-name-requires (single-calls t) (single-at t) single.Post
-  single-is-name-requires c κs = search needs
-
-  pub single-assignment-requires : single-lts.Need-assignment-requires (single-calls t) (single-at t) single.Post
-  single-assignment-requires c κs = (
-    search needs,
-    ap isName (sym (c .before .before .before .before .before .before .before .kind .ensures)) ∙ sym
-        (c .before .before .is-name .ensures) ∙ c .before .if5 .taken,
-  )
+  pub single-port-put-requires : single-lts.Need-port-put-requires (single-calls t) (single-at t) single.Post
+  single-port-put-requires c κs = search needs
 
   pub single-same-length-5 : single-lts.Need-same-length-5 (single-calls t) (single-at t) single.Post
   single-same-length-5 c = search needs
@@ -64,8 +57,24 @@ module _ (t : ℕ) where
   pub single-returns-5 : single-lts.Need-returns-5 (single-calls t) (single-at t) single.Post
   single-returns-5 c = search needs
 
+  pub single-is-name-requires : single-lts.Need-is-name-requires (single-calls t) (single-at t) single.Post
+  single-is-name-requires c κs = search needs
+
+  pub single-assignment-requires : single-lts.Need-assignment-requires (single-calls t) (single-at t) single.Post
+  single-assignment-requires c κs = (
+    search needs,
+    ap isName (sym (c .before .before .before .before .before .before .before .before .kind .ensures)) ∙ sym
+        (c .before .before .is-name .ensures) ∙ c .before .if6 .taken,
+  )
+
   pub single-same-length-6 : single-lts.Need-same-length-6 (single-calls t) (single-at t) single.Post
   single-same-length-6 c = search needs
 
   pub single-returns-6 : single-lts.Need-returns-6 (single-calls t) (single-at t) single.Post
-  single-returns-6 c = search no-statement
+  single-returns-6 c = search needs
+
+  pub single-same-length-7 : single-lts.Need-same-length-7 (single-calls t) (single-at t) single.Post
+  single-same-length-7 c = search needs
+
+  pub single-returns-7 : single-lts.Need-returns-7 (single-calls t) (single-at t) single.Post
+  single-returns-7 c = search no-statement
