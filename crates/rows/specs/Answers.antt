@@ -77,8 +77,8 @@ fit r m e l =
       eq-eqb (length (m .registers)) registersCount (l .registers),
     ) refl
 
-module _ (r : Row) (ends : endOn (r .tape) (r .source) (r .limits) ≡ r .end) (ranges : inRange r ≡ true) (before : Strips) (l : Lent r before)
-    (a : RunAnswer) (after : Strips) where
+module _ (r : Row) (ends : endOn (r .tape) (r .source) (r .limits) ≡ r .end) (ranges : inRange r ≡ true)
+    (before : Strips) (l : Lent r before) (a : RunAnswer) (after : Strips) where
   -- what is right at an end
   abbrev At : End → Type 0
   At e = Answered e a × (after ≡ stripsAt e before)

@@ -28,7 +28,7 @@ use Rattle.interpreter.specs.declared.state.Bounds.{Bounds}
 use Rattle.interpreter.specs.declared.report.Ended.{Ended}
 use Rattle.interpreter.specs.contracts.Running.{Runnable, Roomy, endAnswerOf, Executed}
 use Rattle.runner.specs.declared.run.RunAnswer.{RunAnswer}
-use Rattle.runner.specs.contracts.RunPost.{strips, Shown, shown, Completes, CompletesInRoom, Performs, LeftByCheck, Performed}
+use Rattle.runner.specs.contracts.RunPost.{strips, ResultStrips, resultStrips, Completes, CompletesInRoom, Performs, LeftByCheck, Performed}
 
 -- CHECK'S PROMISE
 
@@ -99,13 +99,13 @@ pub completed : (tab code fast values : List ℕ) (sz : Sizes) (b : Bounds) (tap
     {code′ entries′ : List ℕ} {x : Ended} {output′ : List ℤ} {registers′ : List ℕ}
     → Prepares (sz .tokens) (sz .classes) tab code code′ (replicate 2048 0) entries′
     → Executed tab code′ entries′ fast values sz b tape heap output x output′ registers′
-    → CompletesInRoom tab code fast values sz b tape heap (shown output registers) (endAnswerOf x) (shown output′ registers′)
+    → CompletesInRoom tab code fast values sz b tape heap (resultStrips output registers) (endAnswerOf x) (resultStrips output′ registers′)
 completed tab code fast values sz b tape heap output registers {code′} {entries′} {x} {output′} {registers′} w E =
     record { says = λ long roomy. record { says = λ s h. by long roomy s (checking s) (h .finds) } }
   where
     by : 16 * sz .tokens ≤ length code → Roomy (sz .tokens) (b .calls) fast values → (s : List ℕ) (v : Outcome Program)
         → FindsProgram s v (found (sz .tokens) (sz .classes)) tab
-        → Performs v b tape heap (shown output registers) (endAnswerOf x) (shown output′ registers′)
+        → Performs v b tape heap (resultStrips output registers) (endAnswerOf x) (resultStrips output′ registers′)
     by long roomy s (accepted p) h =
         let many : length (replicate {A = ℕ} 2048 0) ≡ 2048 = length-replicate {A = ℕ} 2048 0 in
         let r = E .says p (runnable s p (sz .tokens) (sz .classes) tab code code′ (replicate 2048 0) entries′ h (w .says (h .stream) p (record { answer = h .answer; ready = h .ready; derived = h .derived })) long (omega (arith, many))) roomy in
@@ -117,7 +117,7 @@ values-fit : (tokens calls k : ℕ) {n : ℕ} → (tokens + 1) / 2 ≤ k → cal
 values-fit tokens calls k t c l = let m : (calls + 1) * ((tokens + 1) / 2) ≤ 65 * k = mul-le-mul (omega arith) t in omega (arith, m)
 
 -- room of so many words is enough for lessons of so many tokens at most, of which a body keeps k values at most
-room-fits : (most k n m v : ℕ) {tab : List ℕ} {sz : Sizes} {b : Bounds} {tape : List ℕ} {heap : List ℤ} {z z′ : Shown} {a : Run.RunAnswer}
+room-fits : (most k n m v : ℕ) {tab : List ℕ} {sz : Sizes} {b : Bounds} {tape : List ℕ} {heap : List ℤ} {z z′ : ResultStrips} {a : Run.RunAnswer}
     → 16 * most ≤ n → 4 * most ≤ m → (most + 1) / 2 ≤ k → 65 * k < v → sz .tokens ≤ most → b .calls ≤ 64
     → CompletesInRoom tab (replicate n 0) (replicate m 0) (replicate v 0) sz b tape heap z a z′
     → Completes tab sz b tape heap z a z′
@@ -129,24 +129,24 @@ room-fits most k n m v {sz = sz} {b = b} f g h l t c X =
     (record { places = omega (arith, em, g, t); enough = values-fit (sz .tokens) (b .calls) k (omega (arith, h, t)) c (omega (arith, ev, l)) })
 
 -- the room of a small lesson, and of any
-pub small-fits : {tab : List ℕ} {sz : Sizes} {b : Bounds} {tape : List ℕ} {heap : List ℤ} {z z′ : Shown} {a : Run.RunAnswer}
+pub small-fits : {tab : List ℕ} {sz : Sizes} {b : Bounds} {tape : List ℕ} {heap : List ℤ} {z z′ : ResultStrips} {a : Run.RunAnswer}
     → sz .tokens ≤ 125 → b .calls ≤ 64
     → CompletesInRoom tab (replicate 2048 0) (replicate 512 0) (replicate 4096 0) sz b tape heap z a z′
     → Completes tab sz b tape heap z a z′
 small-fits t c X = room-fits 125 63 2048 512 4096 (omega arith) (omega arith) (omega arith) (omega arith) t c X
 
-pub wide-fits : {tab : List ℕ} {sz : Sizes} {b : Bounds} {tape : List ℕ} {heap : List ℤ} {z z′ : Shown} {a : Run.RunAnswer}
+pub wide-fits : {tab : List ℕ} {sz : Sizes} {b : Bounds} {tape : List ℕ} {heap : List ℤ} {z z′ : ResultStrips} {a : Run.RunAnswer}
     → sz .tokens ≤ 2048 → b .calls ≤ 64
     → CompletesInRoom tab (replicate 32768 0) (replicate 8192 0) (replicate 66561 0) sz b tape heap z a z′
     → Completes tab sz b tape heap z a z′
 wide-fits t c X = room-fits 2048 1024 32768 8192 66561 (omega arith) (omega arith) (omega arith) (omega arith) t c X
 
-pub performed : {s : List ℕ} {z : Sizes} {b : Bounds} {tape : List ℕ} {heap : List ℤ} {w w′ : Shown} {tab table′ : List ℕ} {heap′ : List ℤ}
+pub performed : {s : List ℕ} {z : Sizes} {b : Bounds} {tape : List ℕ} {heap : List ℤ} {w w′ : ResultStrips} {tab table′ : List ℕ} {heap′ : List ℤ}
     {a : Run.RunAnswer} → LeftByCheck s z tab → 0 < z .tokens
     → Completes tab z b tape heap w a w′ → Performed s z b tape tab heap w a table′ heap′ w′
 performed {s} k l C = record { performs = C .says s (k .says l); clears = λ e. absurd (omega (arith, l, e)) }
 
-refuses-so : (s : List ℕ) (b : Bounds) (tape : List ℕ) (heap : List ℤ) (w : Shown) (tab : List ℕ) {n p : ℕ} {f : Finding} {a : Run.RunAnswer}
+refuses-so : (s : List ℕ) (b : Bounds) (tape : List ℕ) (heap : List ℤ) (w : ResultStrips) (tab : List ℕ) {n p : ℕ} {f : Finding} {a : Run.RunAnswer}
     → Leaves s (checking s) f tab → f ≡ declined n p → a ≡ refusal n p → Performs (checking s) b tape heap w a w
 refuses-so s b tape heap w tab {n} {p} {f} {a} h q e = by (checking s) (h .finds)
   where
@@ -165,11 +165,11 @@ pub unperformed : (s : List ℕ) (z : Sizes) (b : Bounds) (tape table table₁ :
     {table₂ : List ℕ} {heap₂ : List ℤ} {n p : ℕ} {f : Finding} {a : Run.RunAnswer}
     → Leaves s (checking s) f table₁ → f ≡ declined n p → length table₁ ≡ length table → table₂ ≡ replicate (length table₁) 0
     → heap₂ ≡ replicate (length heap) (pos 0) → a ≡ refusal n p
-    → Performed s z b tape table heap (shown output registers) a table₂ heap₂ (shown output registers)
+    → Performed s z b tape table heap (resultStrips output registers) a table₂ heap₂ (resultStrips output registers)
 unperformed s z b tape table table₁ heap output registers h q lt et eh e =
-    record { performs = refuses-so s b tape heap (shown output registers) table₁ h q e; clears = λ _. cleared table table₁ heap heap lt refl et eh }
+    record { performs = refuses-so s b tape heap (resultStrips output registers) table₁ h q e; clears = λ _. cleared table table₁ heap heap lt refl et eh }
 
-pub checked : {s : List ℕ} {z y : Sizes} {b : Bounds} {tape : List ℕ} (table table₁ table₂ : List ℕ) {heap heap₁ : List ℤ} {w w′ : Shown}
+pub checked : {s : List ℕ} {z y : Sizes} {b : Bounds} {tape : List ℕ} (table table₁ table₂ : List ℕ) {heap heap₁ : List ℤ} {w w′ : ResultStrips}
     {table₃ : List ℕ} {heap₂ : List ℤ} {a : Run.RunAnswer}
     → Performed s y b tape table₁ heap w a table₂ heap₁ w′ → length table₂ ≡ length table → length heap₁ ≡ length heap
     → table₃ ≡ replicate (length table₂) 0 → heap₂ ≡ replicate (length heap₁) (pos 0)
@@ -219,7 +219,7 @@ module _ (s : List ℕ) (budget calls : ℕ) (tape table : List ℕ) (heap outpu
               rw (le-ltb (length table) 16384 long, ne-eqb calls 0 some-calls, le-ltb 64 calls few-calls, le-ltb 16384 (length heap) short, ne-eqb (length registers) 16 n) (e, refl)
 
           pub runs : (a : Run.RunAnswer) {table₂ : List ℕ} {heap₂ : List ℤ} (output₂ : List ℤ) (registers₂ : List ℕ) → length registers ≡ 16
-              → Performed s (record { tokens = 0; classes = 0 }) (record { budget = budget; calls = calls }) tape table heap (shown output registers) a table₂ heap₂ (shown output₂ registers₂)
+              → Performed s (record { tokens = 0; classes = 0 }) (record { budget = budget; calls = calls }) tape table heap (resultStrips output registers) a table₂ heap₂ (resultStrips output₂ registers₂)
               → Runs s budget calls tape Before a (strips table₂ heap₂ output₂ registers₂)
           unfolding Runs
           runs a {table₂} {heap₂} output₂ registers₂ n h =
@@ -234,7 +234,7 @@ module _ (s : List ℕ) (budget calls : ℕ) (tape table : List ℕ) (heap outpu
                   ∙ ap (λ (o : List ℤ). strips (replicate (length table) 0) (replicate (length heap) (pos 0)) o registers₂) e
                   ∙ ap (strips (replicate (length table) 0) (replicate (length heap) (pos 0)) o) f
 
-              by : (v : Outcome Program) → Performs v (record { budget = budget; calls = calls }) tape heap (shown output registers) a (shown output₂ registers₂)
+              by : (v : Outcome Program) → Performs v (record { budget = budget; calls = calls }) tape heap (resultStrips output registers) a (resultStrips output₂ registers₂)
                   → RunMeets v budget calls tape Before a (strips table₂ heap₂ output₂ registers₂)
               by (accepted p) (r, e, f) = (r, same _ _ e f)
               by (refused n i) (r, e, f) = (r, same (drop 0 output) registers (e ∙ drop-none output) f)

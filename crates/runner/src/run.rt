@@ -17,7 +17,8 @@ ghost use Rattle.base.specs.contracts.Table.{rows};
 ghost use Rattle.base.specs.Codes.{callsMost, heapMost, tableLeast, registersCount};
 ghost use Rattle.reader.specs.contracts.WalkPost.{Walkable};
 ghost use Rattle.semantics.specs.Run.{Runs, refusal};
-ghost use Rattle.runner.specs.contracts.RunPost.{runAnswerOf, strips, LeftByCheck, shown, CompletesInRoom, Completes, Performed};
+ghost use Rattle.runner.specs.contracts.RunPost.{runAnswerOf, strips, resultStrips, LeftByCheck};
+ghost use Rattle.runner.specs.contracts.RunPost.{CompletesInRoom, Completes, Performed};
 
 // What Run answers: a result number and a position, the steps, how many classes the calls climbed through (at most the classes of the
 // lesson for each step, so 64 bits hold it), the heap words and how many numbers were printed.
@@ -63,8 +64,8 @@ fn compiled(
         × (b .calls ≤ callsMost) × (length (now fast) ≤ 8192) × (length (now values) ≤ 200000)
         × (length (now registers) ≡ registersCount) ⌝ }
     ensures { λ r. ⌜ CompletesInRoom (now (table .entry)) (now (code .entry)) (now (fast .entry)) (now (values .entry)) s b
-        (now (tape .entry)) (now (heap .entry)) (shown (now (output .entry)) (now (registers .entry))) (runAnswerOf r)
-        (shown (now (output .exit)) (now (registers .exit))) ⌝ }
+        (now (tape .entry)) (now (heap .entry)) (resultStrips (now (output .entry)) (now (registers .entry))) (runAnswerOf r)
+        (resultStrips (now (output .exit)) (now (registers .exit))) ⌝ }
 {
     let mut entries = [0u32; 2048];
     prepare(table, code, &mut entries, s.tokens, s.classes);
@@ -107,7 +108,8 @@ fn small(
     requires { ⌜ Walkable (now table) (s .tokens) × (s .classes ≤ rows) × (length (now heap) ≤ heapMost) × (b .budget < modulus)
         × (b .calls ≤ callsMost) × (s .tokens ≤ 125) × (length (now registers) ≡ registersCount) ⌝ }
     ensures { λ r. ⌜ Completes (now (table .entry)) s b (now (tape .entry)) (now (heap .entry))
-        (shown (now (output .entry)) (now (registers .entry))) (runAnswerOf r) (shown (now (output .exit)) (now (registers .exit))) ⌝ }
+        (resultStrips (now (output .entry)) (now (registers .entry))) (runAnswerOf r)
+        (resultStrips (now (output .exit)) (now (registers .exit))) ⌝ }
 {
     let mut code = [0u32; 2048];
     let mut fast = [0u64; 512];
@@ -139,7 +141,8 @@ fn wide(
     requires { ⌜ Walkable (now table) (s .tokens) × (s .classes ≤ rows) × (length (now heap) ≤ heapMost) × (b .budget < modulus)
         × (b .calls ≤ callsMost) × (length (now registers) ≡ registersCount) ⌝ }
     ensures { λ r. ⌜ Completes (now (table .entry)) s b (now (tape .entry)) (now (heap .entry))
-        (shown (now (output .entry)) (now (registers .entry))) (runAnswerOf r) (shown (now (output .exit)) (now (registers .exit))) ⌝ }
+        (resultStrips (now (output .entry)) (now (registers .entry))) (runAnswerOf r)
+        (resultStrips (now (output .exit)) (now (registers .exit))) ⌝ }
 {
     let mut code = [0u32; 32768];
     let mut fast = [0u64; 8192];
@@ -171,7 +174,8 @@ fn accepted(
     requires { ⌜ Walkable (now table) (s .tokens) × (s .classes ≤ rows) × (length (now heap) ≤ heapMost) × (b .budget < modulus)
         × (b .calls ≤ callsMost) × (length (now registers) ≡ registersCount) ⌝ }
     ensures { λ r. ⌜ Completes (now (table .entry)) s b (now (tape .entry)) (now (heap .entry))
-        (shown (now (output .entry)) (now (registers .entry))) (runAnswerOf r) (shown (now (output .exit)) (now (registers .exit))) ⌝ }
+        (resultStrips (now (output .entry)) (now (registers .entry))) (runAnswerOf r)
+        (resultStrips (now (output .exit)) (now (registers .exit))) ⌝ }
 {
     if s.tokens <= SMALL {
         return small(table, s, b, heap, output, registers, tape);
@@ -195,8 +199,8 @@ fn perform(
     requires { ⌜ (tableLeast ≤ length (now table)) × (length (now heap) ≤ heapMost) × (b .budget < modulus) × (b .calls ≤ callsMost)
         × LeftByCheck (now source) s (now table) × (length (now registers) ≡ registersCount) ⌝ }
     ensures { λ r. ⌜ Performed (now (source .entry)) s b (now (tape .entry)) (now (table .entry)) (now (heap .entry))
-        (shown (now (output .entry)) (now (registers .entry))) (runAnswerOf r) (now (table .exit)) (now (heap .exit))
-        (shown (now (output .exit)) (now (registers .exit))) ⌝ }
+        (resultStrips (now (output .entry)) (now (registers .entry))) (runAnswerOf r) (now (table .exit)) (now (heap .exit))
+        (resultStrips (now (output .exit)) (now (registers .exit))) ⌝ }
 {
     if 0 < s.tokens {
         return accepted(table, s, b, heap, output, registers, tape);

@@ -86,10 +86,10 @@ unfolding endOf
 register-before-value = refl
 
 -- the sample comes as step 100 is charged: the get that is charged then sees it
-abbrev pub waiting : List ℕ
-waiting = printing (bytes "new A().m()") ++ bytes " class A{public int m(){while(Port.get(0)<1){}return Port.get(2);}}"
+abbrev pub sampleAwaited : List ℕ
+sampleAwaited = printing (bytes "new A().m()") ++ bytes " class A{public int m(){while(Port.get(0)<1){}return Port.get(2);}}"
 
-pub sample-with-its-step : endOn (42 ∷ []) waiting usual ≡ endsWith 0 0 105 1 1 (pos 42 ∷ []) (0 ∷ 0 ∷ 42 ∷ replicate 13 0)
+pub sample-with-its-step : endOn (42 ∷ []) sampleAwaited usual ≡ endsWith 0 0 105 1 1 (pos 42 ∷ []) (0 ∷ 0 ∷ 42 ∷ replicate 13 0)
 unfolding endOn
 sample-with-its-step = refl
 
