@@ -1,7 +1,7 @@
 //! An independent implementation of documents 01 and 02, requests (i) to (viii) but (v), written from these papers alone, and its comparison with the library.
 //!
 //! `reference compare [SEED [COUNT]]` compares the two on lessons from seeds, valid and damaged, long and short: what each operation answers and what every strip holds afterwards.
-//! `reference answer` answers lines on standard input as the program `cases` does.
+//! `reference answer` answers lines on standard input as the program `cases` does, and `reference binding` does so through the safe binding in bindings/rust.
 
 mod cases;
 mod checker;
@@ -18,6 +18,7 @@ mod random;
 mod refusal;
 mod tree;
 
+use cases::Answerer;
 use std::env;
 use std::io::{self, BufRead};
 use std::process::exit;
@@ -29,10 +30,10 @@ const STACK_BYTES: usize = 1 << 28;
 const SEED: u64 = 1;
 const COUNT: u64 = 8000;
 
-fn answers() -> bool {
+fn answers(who: Answerer) -> bool {
     for line in io::stdin().lock().lines() {
         let line = line.expect("a line of text");
-        println!("{}", cases::answer(&line).unwrap_or_else(|| "no case".to_owned()));
+        println!("{}", cases::answer(who, &line).unwrap_or_else(|| "no case".to_owned()));
     }
     true
 }
@@ -41,10 +42,11 @@ fn work() -> bool {
     let words: Vec<String> = env::args().skip(1).collect();
     let number = |k: usize, default: u64| words.get(k).map_or(Some(default), |w| w.parse().ok());
     match (words.get(0).map(String::as_str), number(1, SEED), number(2, COUNT)) {
-        (Some("answer"), ..) => answers(),
+        (Some("answer"), ..) => answers(Answerer::Reference),
+        (Some("binding"), ..) => answers(Answerer::Binding),
         (Some("compare"), Some(seed), Some(count)) => compare::compare(seed, count),
         _ => {
-            eprintln!("usage: reference compare [SEED [COUNT]] | reference answer < CASES");
+            eprintln!("usage: reference compare [SEED [COUNT]] | reference answer < CASES | reference binding < CASES");
             exit(2);
         }
     }
