@@ -22,12 +22,25 @@ const HEAP: usize = 4096;
 
 const OUTPUT: usize = 256;
 
-// Runs a lesson, and prints what came of it.
+// The registers behind the cable.
+const REGISTERS: usize = 16;
+
+// Runs a lesson with an empty tape, and prints what came of it.
 fn answer(lesson: &[u8]) {
     let mut table = [0u32; TABLE];
     let mut heap = [0i32; HEAP];
     let mut printed = [0i32; OUTPUT];
-    let a = run(lesson, &mut table, BUDGET, CALLS, &mut heap, &mut printed);
+    let mut registers = [0u8; REGISTERS];
+    let a = run(
+        lesson,
+        &mut table,
+        BUDGET,
+        CALLS,
+        &mut heap,
+        &mut printed,
+        &mut registers,
+        b"",
+    );
     output::lines(&printed, a.printed);
     output::ending(a);
 }

@@ -7,6 +7,7 @@ mod numbers;
 mod operation;
 mod output;
 mod page;
+mod registers;
 mod run_case;
 mod run_lent;
 mod source;
@@ -17,8 +18,9 @@ use crate::operation::Name;
 use crate::output::Wrong;
 use libc::STDIN_FILENO;
 
-// Room for a line, and a byte by which a longer one shows: the longest source takes 40,000 digits, the words before it less than 100 bytes.
-const LINE_MOST: usize = 40100;
+// Room for a line, and a byte by which a longer one shows: the longest source takes 40,000 digits, the longest tape 2,048, the other words less than 150
+// bytes.
+const LINE_MOST: usize = 42200;
 
 // The longest source. Document 01 takes up to 16,384 bytes; what is longer it refuses, which is a case too.
 const SOURCE_MOST: usize = 20000;

@@ -13,6 +13,8 @@ pub enum Wrong {
     StripLength,
     HeapLength,
     OutputLength,
+    RegistersLength,
+    TapeLength,
     Odd,
     Digit,
     SourceLength,
@@ -46,15 +48,18 @@ pub fn end(is_right: bool) {
 // Writes what the program does, for who asks for help or gives it nothing.
 pub fn usage() {
     text(
-        b"Answers cases, one on each line of the input. SOURCE is a lesson's bytes in hexadecimal digits, - for none;\n",
+        b"Answers cases, one on each line of the input. SOURCE is a lesson's bytes in hexadecimal digits, - for none, TAPE\n",
     );
-    text(b"TABLE, STRIP, HEAP and OUTPUT say how many words are lent.\n");
+    text(
+        b"the samples in the same form; TABLE, STRIP, HEAP and OUTPUT say how many words are lent, REGISTERS how many bytes.\n",
+    );
     text(b"  read TABLE SOURCE: number, position, tokens, nodes\n");
     text(b"  check TABLE SOURCE: number, position, classes\n");
     text(b"  menu TABLE STRIP SOURCE: number, position, classes, then what is written\n");
     text(
-        b"  run TABLE BUDGET CALLS HEAP OUTPUT SOURCE: number, position, steps, climbs, heap words, then what is printed\n",
+        b"  run TABLE BUDGET CALLS HEAP OUTPUT REGISTERS TAPE SOURCE: number, position, steps, climbs, heap words,\n",
     );
+    text(b"    registers, then what is printed\n");
     text(
         b"A line that is no case is answered by what is wrong with it. STRIP after an answer says that something lent\n",
     );
@@ -74,6 +79,8 @@ pub fn refuse(wrong: Wrong) {
         Wrong::StripLength => text(b"error: strip too large\n"),
         Wrong::HeapLength => text(b"error: heap strip too large\n"),
         Wrong::OutputLength => text(b"error: output strip too large\n"),
+        Wrong::RegistersLength => text(b"error: register strip too large\n"),
+        Wrong::TapeLength => text(b"error: tape too long\n"),
         Wrong::Odd => text(b"error: odd number of hexadecimal digits\n"),
         Wrong::Digit => text(b"error: bad hexadecimal digit\n"),
         Wrong::SourceLength => text(b"error: source too long\n"),

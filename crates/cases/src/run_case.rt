@@ -1,9 +1,11 @@
-// The operation run: `run TABLE BUDGET CALLS HEAP OUT HEX` is answered by `NUMBER POSITION STEPS CLIMBS WORDS`, and where numbers were
-// printed by ` :` and these.
+// The operation run: `run TABLE BUDGET CALLS HEAP OUT REGS TAPE HEX` is answered by `NUMBER POSITION STEPS CLIMBS WORDS REGISTERS`, and
+// where numbers were printed by ` :` and these.
 use crate::numbers;
 use crate::output;
 use crate::page;
+use crate::registers;
 use crate::strip;
+use base::codes;
 use runner::run::RunAnswer;
 use runner::run::run;
 
@@ -20,6 +22,23 @@ fn write_end(a: RunAnswer) {
     output::next_number(a.steps as u64);
     output::next_number(a.climbs);
     output::next_number(a.words as u64);
+}
+
+// Whether this number ends a run: all others refuse the call.
+fn is_run(number: u32) -> bool {
+    match number {
+        codes::SUCCESS => true,
+        codes::NULL_REFERENCE => true,
+        codes::INDEX_OUT_OF_RANGE => true,
+        codes::NEGATIVE_SIZE => true,
+        codes::REGISTER_OUT_OF_RANGE => true,
+        codes::VALUE_OUT_OF_RANGE => true,
+        codes::BUDGET_SPENT => true,
+        codes::HEAP_FULL => true,
+        codes::CALLS_FULL => true,
+        codes::OUTPUT_FULL => true,
+        _ => false,
+    }
 }
 
 // Writes a list of numbers, where it has any.
@@ -41,21 +60,38 @@ fn write_printed(numbers: &[i32], n: usize) -> bool {
     numbers::is_marked(numbers, n)
 }
 
-// Runs the source with a table, limits, a heap strip and an output strip, and writes the answer.
+// Fills all that is lent to a run.
+fn fill(table: &mut [u32], heap: &mut [i32], printed: &mut [i32], registers: &mut [u8]) {
+    strip::fill(table, strip::MARK);
+    numbers::fill(heap);
+    numbers::fill(printed);
+    registers::fill(registers);
+}
+
+// Writes the answer of a run, and looks at all that was lent to it.
+fn write(a: RunAnswer, table: &[u32], heap: &[i32], printed: &[i32], registers: &[u8]) {
+    write_end(a);
+    let number = a.number;
+    let are_registers_right = registers::write(registers, is_run(number));
+    let is_output_right = write_printed(printed, a.printed);
+    let is_heap_right = numbers::is_heap_right(heap, number);
+    let are_strips_right = are_registers_right && is_output_right && is_heap_right;
+    output::end(are_strips_right && strip::is_table_right(table, number));
+}
+
+// Runs the source with a table, limits, a heap strip, an output strip, a register strip and a tape, and writes the answer.
 pub fn answer(
     text: &[u8],
     table: &mut [u32],
     limits: Limits,
     heap: &mut [i32],
     printed: &mut [i32],
+    registers: &mut [u8],
+    tape: &[u8],
 ) {
-    strip::fill(table, strip::MARK);
-    numbers::fill(heap);
-    numbers::fill(printed);
-    let a = run(text, table, limits.budget, limits.calls, heap, printed);
-    write_end(a);
-    let number = a.number;
-    let is_output_right = write_printed(printed, a.printed);
-    let is_heap_right = numbers::is_heap_right(heap, number);
-    output::end(is_output_right && is_heap_right && strip::is_table_right(table, number));
+    fill(table, heap, printed, registers);
+    let budget = limits.budget;
+    let calls = limits.calls;
+    let a = run(text, table, budget, calls, heap, printed, registers, tape);
+    write(a, table, heap, printed, registers);
 }

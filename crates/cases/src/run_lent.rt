@@ -1,4 +1,5 @@
-// What a case of run lends: a work table, a heap strip and an output strip, each as long as the case says, and the source.
+// What a case of run lends: a work table, a heap strip, an output strip and a register strip, each as long as the case says, the tape and
+// the source.
 // The words of the case are looked at from the left, and the first that is wrong is the answer.
 use crate::fields;
 use crate::fields::Number;
@@ -10,13 +11,21 @@ use crate::source;
 use crate::source::Size;
 
 // The longest heap strip. Document 01 takes up to 16,384 words; what is longer it refuses, which is a case too.
-const HEAP_MOST: usize = 20000;
+const HEAP_MOST: usize = 17000;
 
 // The longest output strip.
 const OUTPUT_MOST: usize = 2048;
 
-// Which word is the source, the last one.
-const SOURCE_WORD: usize = 6;
+// The longest register strip. Document 02 takes 16 bytes; what is shorter or longer it refuses, which is a case too.
+const REGISTERS_MOST: usize = 32;
+
+// The longest tape: more samples than come in the 100,000 steps of document 01's limits.
+const TAPE_MOST: usize = 1024;
+
+// Which words are the tape and the source, the last two.
+const TAPE_WORD: usize = 7;
+
+const SOURCE_WORD: usize = 8;
 
 // The limits that a case names, where they are numbers.
 enum Named {
@@ -56,15 +65,102 @@ fn with_text(
     l: Limits,
     heap: &mut [i32],
     printed: &mut [i32],
+    registers: &mut [u8],
+    tape: &[u8],
 ) {
     if source::decode(line, SOURCE_WORD, text) {
-        run_case::answer(text, table, l, heap, printed);
+        run_case::answer(text, table, l, heap, printed, registers, tape);
     } else {
         output::refuse(Wrong::Digit);
     }
 }
 
 // Answers a case with all that it lends but the source, whose bytes go to the start of `space`.
+fn with_tape(
+    line: &[u8],
+    space: &mut [u8],
+    table: &mut [u32],
+    l: Limits,
+    heap: &mut [i32],
+    printed: &mut [i32],
+    registers: &mut [u8],
+    tape: &[u8],
+) {
+    let s = source::size_at(line, SOURCE_WORD);
+    match s {
+        Size::Bytes(n) => {
+            if n <= space.len() {
+                with_text(
+                    line,
+                    &mut space[..n],
+                    table,
+                    l,
+                    heap,
+                    printed,
+                    registers,
+                    tape,
+                );
+            } else {
+                output::refuse(Wrong::SourceLength);
+            }
+        }
+        Size::Refused(wrong) => output::refuse(wrong),
+    }
+}
+
+// Decodes the tape into `tape`, all of it, and goes on with it.
+fn with_samples(
+    line: &[u8],
+    space: &mut [u8],
+    table: &mut [u32],
+    l: Limits,
+    heap: &mut [i32],
+    printed: &mut [i32],
+    registers: &mut [u8],
+    tape: &mut [u8],
+) {
+    if source::decode(line, TAPE_WORD, tape) {
+        with_tape(line, space, table, l, heap, printed, registers, tape);
+    } else {
+        output::refuse(Wrong::Digit);
+    }
+}
+
+// Answers a case with its table, its limits and its strips. The samples go to the start of `tape`.
+fn with_registers(
+    line: &[u8],
+    space: &mut [u8],
+    table: &mut [u32],
+    l: Limits,
+    heap: &mut [i32],
+    printed: &mut [i32],
+    registers: &mut [u8],
+    tape: &mut [u8],
+) {
+    let s = source::size_at(line, TAPE_WORD);
+    match s {
+        Size::Bytes(n) => {
+            if n <= tape.len() {
+                with_samples(
+                    line,
+                    space,
+                    table,
+                    l,
+                    heap,
+                    printed,
+                    registers,
+                    &mut tape[..n],
+                );
+            } else {
+                output::refuse(Wrong::TapeLength);
+            }
+        }
+        Size::Refused(wrong) => output::refuse(wrong),
+    }
+}
+
+// Answers a case with its table, its limits, its heap strip and its output strip. The register strip and the room for the tape stand here,
+// once.
 fn with_output(
     line: &[u8],
     space: &mut [u8],
@@ -73,16 +169,27 @@ fn with_output(
     heap: &mut [i32],
     printed: &mut [i32],
 ) {
-    let s = source::size_at(line, SOURCE_WORD);
-    match s {
-        Size::Bytes(n) => {
-            if n <= space.len() {
-                with_text(line, &mut space[..n], table, l, heap, printed);
+    let mut registers = [0u8; REGISTERS_MOST];
+    let mut tape = [0u8; TAPE_MOST];
+    let n = fields::number_at(line, 6);
+    match n {
+        Number::Is(length) => {
+            if length <= REGISTERS_MOST {
+                with_registers(
+                    line,
+                    space,
+                    table,
+                    l,
+                    heap,
+                    printed,
+                    &mut registers[..length],
+                    &mut tape,
+                );
             } else {
-                output::refuse(Wrong::SourceLength);
+                output::refuse(Wrong::RegistersLength);
             }
         }
-        Size::Refused(wrong) => output::refuse(wrong),
+        Number::Malformed => output::refuse(Wrong::Number),
     }
 }
 

@@ -1,4 +1,4 @@
-// The source of a case: two lower-case hexadecimal digits a byte, or `-` for no bytes.
+// The bytes of a case, its source and its tape: two lower-case hexadecimal digits a byte, or `-` for no bytes.
 use crate::fields;
 use crate::output::Wrong;
 ghost use Prim.Native.Nat.{_≤_};

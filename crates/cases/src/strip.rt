@@ -1,4 +1,5 @@
 // What is lent to an operation: filled beforehand, looked at afterwards.
+use base::codes;
 
 // What a strip holds beforehand: not 0, so that a word that is not wiped shows.
 pub const MARK: u32 = 2779096485;
@@ -24,9 +25,15 @@ pub fn holds(words: &[u32], value: u32) -> bool {
     true
 }
 
-// Whether an end with this number touches nothing: refusals 1 to 3.
+// Whether an end with this number touches nothing: refusals of what is lent, and of the call limit.
 pub fn is_untouched(number: u32) -> bool {
-    0 < number && number < 4
+    match number {
+        codes::TABLE_TOO_SHORT => true,
+        codes::CALL_LIMIT_OUT_OF_RANGE => true,
+        codes::HEAP_TOO_LONG => true,
+        codes::REGISTERS_NOT_SIXTEEN => true,
+        _ => false,
+    }
 }
 
 // Whether a work table holds what document 01 says after an end with this number: what touches something wipes it.

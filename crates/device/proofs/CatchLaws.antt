@@ -93,7 +93,8 @@ module _ (t : List ℕ) (d : Held) (due last : ℕ) (h : d .taken ≤ due) (w : 
         }
 
 -- where no sample is due that was taken before
-pub looks-none : {t : List ℕ} {d r : Held} {due last : ℕ} → LesserOf due (length t) last → last ≤ d .taken → r ≡ unread d due → Looks t due d r
+pub looks-none : {t : List ℕ} {d r : Held} {due last : ℕ} → LesserOf due (length t) last → last ≤ d .taken → r ≡ unread d due
+    → Looks t due d r
 looks-none {t} {d} {r} {due} {last} w l q = record { says = λ h. none-read t d due last h w l q }
 
 pub looks-last : {t : List ℕ} {d r : Held} {due last b : ℕ} {lost : Bool} → LesserOf due (length t) last → d .taken < last

@@ -3,13 +3,12 @@
 use Prim.Native.Nat.{ℕ, zero, suc, _+_, _%_, _<_}
 use mathlib.Core.Bool.{Bool, true, false}
 use mathlib.Core.List.{List, [], _∷_}
-use mathlib.Core.Path.{_≡_, refl}
 use lib.ListN.{getD}
 use lib.Dec.{lit<, eqb}
 use Rattle.base.specs.All.{All, all-nil, all-cons}
 use Rattle.base.specs.Choice.{if_then_else_}
 use Rattle.base.specs.laws.Lists.{all-set, all-replicate}
-use Rattle.device.specs.Device.{Device, reset, bitValue, alarm, registers, arrives, sampleOf, sample, atStep, period, got, withFlags, afterGet, afterPut}
+use Rattle.device.specs.Device.{Device, reset, bitValue, alarm, sampleOf, sample, atStep, period, got, withFlags, afterGet, afterPut}
 
 abbrev pub IsByte : ℕ → Type 0
 IsByte v = v < 256

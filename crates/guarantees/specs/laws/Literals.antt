@@ -14,7 +14,7 @@ use Rattle.lexer.specs.Tokens.{Token, decimal, tokens}
 use Rattle.lexer.specs.laws.RowLaws.{token-of}
 use Rattle.parser.specs.Tree.{Sort, Part, Method, Class, Program}
 use Rattle.parser.specs.Stream.{tokenAt, kindAt, noMore}
-use Rattle.parser.specs.Grammar.{Kind, Derives, operate, one-operand, negate, no-negation, make-array, no-array, index, take-length, invoke, no-suffix, a-literal, a-true, a-false, a-name, a-this, make-object, parentheses, none-given, some-given, one-argument, more-arguments, a-block, an-if, a-while, a-print, an-assignment, an-element-assignment, no-statement, more-statements}
+use Rattle.parser.specs.Grammar.{Kind, Derives, operate, one-operand, negate, no-negation, make-array, no-array, index, take-length, invoke, no-suffix, a-literal, a-true, a-false, a-name, a-this, make-object, get-register, parentheses, none-given, some-given, one-argument, more-arguments, a-block, an-if, a-while, a-print, an-assignment, an-element-assignment, put-register, no-statement, more-statements}
 use Rattle.parser.specs.Grammar.{DerivesMethod, a-method, DerivesMethods, no-method, more-methods, DerivesClass, a-class-declaration, DerivesClasses, no-class, more-classes, DerivesProgram, a-program}
 use Rattle.typesystem.specs.Check.{checking}
 use Rattle.soundness.specs.laws.StateTyping.{WordLiterals, MethodFits, LiteralsFit}
@@ -49,6 +49,7 @@ module _ {ts : List Token} (fitting : SmallLiterals ts) where
   fit (a-name e) = tt
   fit (a-this e) = tt
   fit (make-object e₁ e₂ e₃ e₄) = tt
+  fit (get-register e₁ e₂ e₃ e₄ d e₅) = fit d
   fit (parentheses e₁ d e₂) = fit d
   fit none-given = tt
   fit (some-given d) = fit d
@@ -60,6 +61,7 @@ module _ {ts : List Token} (fitting : SmallLiterals ts) where
   fit (a-print e₁ e₂ e₃ e₄ e₅ e₆ d e₇ e₈) = fit d
   fit (an-assignment e₁ e₂ d e₃) = fit d
   fit (an-element-assignment e₁ e₂ i e₃ e₄ d e₅) = (fit i, fit d)
+  fit (put-register e₁ e₂ e₃ e₄ n e₅ d e₆ e₇) = (fit n, fit d)
   fit no-statement = tt
   fit (more-statements s ss) = (fit s, fit ss)
 

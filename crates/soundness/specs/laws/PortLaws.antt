@@ -12,7 +12,7 @@ use lib.IntN.{ℤ}
 use Rattle.base.specs.All.{All, all-nil, all-cons}
 use Rattle.base.specs.Choice.{option}
 use Rattle.base.specs.Codes.{indexOutOfRange, budgetSpent, heapFull, callsFull, outputFull}
-use Rattle.parser.specs.Tree.{Name, Sort, Part, Expression, Statement, Ty.plain, Method, Class, Program}
+use Rattle.parser.specs.Tree.{Name, Expression, Statement, Ty.plain, Method, Class, Program}
 use Rattle.parser.specs.Tree.{Part.literal, Part.truth, Part.variable, Part.this, Part.newArray, Part.newObject, Part.negation, Part.binary}
 use Rattle.parser.specs.Tree.{Part.element, Part.arrayLength, Part.call, Part.portGet, Part.noArguments, Part.argument}
 use Rattle.parser.specs.Tree.{Part.block, Part.conditional, Part.loop, Part.print, Part.assign, Part.assignElement, Part.portPut}

@@ -1,4 +1,4 @@
--- `cases::run_lent::with_output` is safe: the part of the space that is lent is as long as the test before it says.
+-- `cases::run_lent::with_output` is safe: the part of the register strip that is lent is as long as the test before it says.
 use native.Mathlib.Omega.{arith}
 use mathlib.Core.Path.{sym}
 use lib.Seq.{length-take-le}
@@ -9,5 +9,5 @@ use Rattle.cases.proofs.run_lent.with_output.Tie as tie
 pub with-output-spec : {M : Type 1} → statement M
 with-output-spec =
     tie.close (tie.spec (λ c κs. search needs) (λ c. search needs) (λ c. search needs) (λ c. sym (length-take-le _ _ (omega arith)))
-    (λ c κs. search needs) (λ c κs. search needs) (λ c. search needs) (λ c κs. search needs) (λ c. search needs) (λ c. search needs)
-    (λ c. search needs) (λ c. search needs) (λ c. search needs) (λ c. search needs) (λ c. search needs))
+    (λ c. search needs) (λ c κs. search needs) (λ c κs. search needs) (λ c. search needs) (λ c κs. search needs) (λ c. search needs)
+    (λ c. search needs) (λ c. search needs) (λ c. search needs) (λ c. search needs) (λ c. search needs) (λ c. search needs))

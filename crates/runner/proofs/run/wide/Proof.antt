@@ -4,7 +4,17 @@ use borrow.Author.Needs.{needs}
 use Rattle.runner.proofs.run.wide.Statement.{statement}
 use Rattle.runner.proofs.run.wide.Tie as tie
 
+-- the run, from the end, and the start, from there
+abbrev running : tie.After-slice-known2 → tie.After-compiled
+running c = c .before .before .before .before .before .before .before
+
+abbrev begins : tie.After-compiled → tie.Start
+begins w = w .before .before .before .before .before .before .before .before .before .before
+
+returns : tie.Need-returns
+returns c = let w = running c in wide-fits (begins w .pre .0 .few) (begins w .pre .4) (w .compiled .ensures)
+
 pub wide-spec : {M : Type 1} → statement M
 wide-spec =
     tie.close (tie.spec (λ c. search needs) (λ c. search needs) (λ c. search needs) (λ c κs. search needs) (λ c. search needs)
-    (λ c. search needs) (λ c. search wide-fits))
+    (λ c. search needs) (λ c. search needs) returns)
