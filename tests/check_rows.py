@@ -515,17 +515,61 @@ ARRAY_TYPES = [
 ]
 
 
+# Document 02, (viii): all parts are int, the register comes before the value, and what is got is an int.
+PORT = [
+    (31, program("Port.get(@true)")),
+    (31, program("Port.get(@new int[1])")),
+    (31, program("Port.get(Port.get(@1<2))")),
+    (30, program("Port.get(@x)")),
+    (34, program("Port.get(@this)")),
+    (24, program("Port.get(new @A().m())")),
+    (31, program("!@Port.get(1)")),
+    (31, program("@Port.get(1)&&true")),
+    (31, program("1+(@Port.get(1)&&true)")),
+    (31, program("@Port.get(1).length")),
+    (31, program("@Port.get(1)[0]")),
+    (31, program("@Port.get(1).m()")),
+    (31, main_with("Port.put(@true,1);")),
+    (31, main_with("Port.put(1,@true);")),
+    (31, main_with("Port.put(@true,x);")),
+    (30, main_with("Port.put(@x,true);")),
+    (30, main_with("Port.put(1,@x);")),
+    (34, main_with("Port.put(@this,true);")),
+    (31, main_with("Port.put(@true,this);")),
+    (31, main_with("{Port.put(1,2);Port.put(1,@false);}")),
+    (31, main_with("if(@Port.get(0)){}else{}")),
+    (31, main_with("while(@Port.get(0)){}")),
+    (31, in_method("Port.put(@q,p);")),
+    (31, in_method("Port.put(@r,p);")),
+    (31, in_method("Port.put(p,@r);")),
+    (31, in_method("Port.put(p,@s);")),
+    (31, in_method("q=@Port.get(p);")),
+    (31, in_method("r=@Port.get(p);")),
+    (31, in_method("s=@Port.get(p);")),
+    (31, in_method("r[@q]=Port.get(p);")),
+    (31, in_method("", value="@Port.get(1)", result="boolean")),
+    (20, after("class get{}class put{}class @get{}")),
+    (27, in_method("int get;int @get;")),
+]
+
+
 def refused_rows():
-    groups = [READ_FIRST, CLASS_NAMES, FIELDS, HEADS, REDECLARATIONS, LOCALS, BODY_ORDER, UNKNOWN_NAMES, TYPES, CALLS, THIS_AND_NEW, ARRAY_TYPES]
+    groups = [READ_FIRST, CLASS_NAMES, FIELDS, HEADS, REDECLARATIONS, LOCALS, BODY_ORDER, UNKNOWN_NAMES, TYPES, CALLS, THIS_AND_NEW, ARRAY_TYPES, PORT]
     return [row for group in groups for row in group]
 
 
 def accepted():
     """Lessons that are accepted, with their numbers of classes."""
+    ports = "p=Port.get(p)+Port.get(Port.get(2));Port.put(Port.get(1),p*2);r[Port.get(0)]=Port.get(3);r=new int[Port.get(1)];while(Port.get(0)<1){}"
     same = class_of("A", "int A;A m;" + method("int m;A=1;m=A;", parameters="boolean q", value="this.m(q)"))
     return [
         (EMPTY, 0),
         (ONE, 0),
+        (program("Port.get(1)"), 0),
+        (main_with("Port.put(1,2);"), 0),
+        (main_with("{Port.put(16,256);Port.put(0-1,Port.get(99));}"), 0),
+        (in_method(ports, value="Port.get(p)"), 2),
+        (after(class_of("get", "int put;" + method("put=get;", name="put", parameters="int get", value="put"))), 1),
         (after("class A{}"), 1),
         (after("class A{}class a{}class A_{}class A1{}"), 4),
         (after("class A extends B{}class B extends C{}class C{}"), 3),
@@ -722,7 +766,7 @@ def errors():
         ("menu 16384 0 2", "odd number of hexadecimal digits"),
         ("menu 16384 0 2x", "bad hexadecimal digit"),
         ("menu 16384 0 " + "20" * 20001, "source too long"),
-        ("menu 16384 0 " + "20" * 20044, "line too long"),
+        ("menu 16384 0 " + "20" * 21094, "line too long"),
     ]
 
 

@@ -1,14 +1,17 @@
 """The independent cases, which stand outside the repository, with the answers that are due of them.
 
 The cases of document 01 stand in vectors/. Those of document 02 stand in vectors-requests/stage-K/, for a repository in which requests 1 to K hold; stage-K/old/ has what is then due
-of document 01's cases. A stage whose request changes no result has no folder. From stage 7 on an answer of run has the climbs after the steps.
+of document 01's cases. A stage whose request changes no result has no folder. From stage 7 on an answer of run has the climbs after the steps; from stage 8 on a case of run has the length of
+its register strip and its tape before the source, and the answer the registers after the heap words. Earlier cases are read with a strip of 16 bytes and an empty tape.
 """
 import collections
 import pathlib
 
 SHARED = pathlib.Path(__file__).resolve().parent.parent.parent / "shared"
-STAGE = 7  # the answers are those due with requests 1 to STAGE of document 02, of which (v), an operation of its own, changes none; raise it as the next one lands
+STAGE = 8  # the answers are those due with requests 1 to STAGE of document 02, of which (v), an operation of its own, changes none; raise it as the next one lands
 CLIMBS = 7  # the stage from which on run's answers have climbs
+REGISTERS = 8  # the stage from which on run's cases have a register strip and a tape, and its answers registers
+RUN_ENDS = {"0", "40", "41", "42", "50", "51", "52", "53", "63", "64"}  # all other numbers refuse the call
 
 # A name to print, and pairs of a case and its answer.
 Group = collections.namedtuple("Group", "name rows")
@@ -33,11 +36,34 @@ def with_climbs(case, answer):
     return " ".join([number, position, steps, "0" if is_without_calls else "*", words]) + colon + printed
 
 
+def with_strip(case):
+    """A case of run from before there were registers, with a strip for them and an empty tape."""
+    words, source = case.rsplit(" ", 1)
+    return " ".join([words, "16", "-", source])
+
+
+def with_registers(answer):
+    """An answer of run from before there were registers, with them: all 0 after a run, since no lesson of that time puts anything, and its tape is empty."""
+    head, colon, printed = answer.partition(" : ")
+    return " ".join([head, "00" * 16 if head.split(" ")[0] in RUN_ENDS else "-"]) + colon + printed
+
+
 def group_of_request(k, folder, operation):
-    """The cases of request k, with answers in the form that is due at the latest stage."""
+    """The cases of request k and their answers, in the form that is due at the latest stage."""
     found = group("%s of request %d" % (operation, k), folder / (operation + ".cases"), folder / (operation + ".answers"))
+    rows = found.rows
     if operation == "run" and k < CLIMBS <= STAGE:
-        return Group(found.name, [(case, with_climbs(case, answer)) for case, answer in found.rows])
+        rows = [(case, with_climbs(case, answer)) for case, answer in rows]
+    if operation == "run" and k < REGISTERS <= STAGE:
+        rows = [(with_strip(case), with_registers(answer)) for case, answer in rows]
+    return Group(found.name, rows)
+
+
+def group_of_document_01(shared, latest, operation):
+    """Its cases, with the answers of the latest stage; these are in the form that is due then, the cases are not."""
+    found = group(operation, shared / "vectors" / (operation + ".cases"), latest / (operation + ".answers"))
+    if operation == "run" and REGISTERS <= STAGE:
+        return Group(found.name, [(with_strip(case), answer) for case, answer in found.rows])
     return found
 
 
@@ -46,7 +72,7 @@ def groups(shared, operation):
     stages = [k for k in range(1, STAGE + 1) if (shared / "vectors-requests" / ("stage-%d" % k)).is_dir()]
     folders = [shared / "vectors-requests" / ("stage-%d" % k) for k in stages]
     latest = folders[-1] / "old" if folders else shared / "vectors"
-    found = [group(operation, shared / "vectors" / (operation + ".cases"), latest / (operation + ".answers"))]
+    found = [group_of_document_01(shared, latest, operation)]
     found += [group_of_request(k, folder, operation) for k, folder in zip(stages, folders)]
     return [g for g in found if g.rows]
 

@@ -5,7 +5,9 @@ with a smaller first argument, and loops turn a fixed number of times; so what a
 Locals are assigned before anything else, as Java asks. A bold lesson now and then uses a field that may still be null, an index that may be outside, or a size that may be negative.
 An array type fits only itself here, as document 02, (vi), has it, so that Java's tests of what is stored never fail; and but for bold lessons an array of a class is filled where it is made:
 by statements that assign each element, or by a method row0, row1, .. that each class has.
+A lesson that has the port of document 02, (viii), gets and puts registers besides; Java has no such lesson.
 """
+from device import COUNT
 from lessons import fits, main_with
 
 INT, BOOLEAN = "int", "boolean"
@@ -164,7 +166,18 @@ class Body:
         left_binding = SUM if binding == LESS else binding
         return Expression(left.at(left_binding) + sign + right.at(right_binding), binding, step(left.cost, right.cost))
 
+    def got(self, depth):
+        """What a register holds. A bold lesson may name one that there is not."""
+        register = self.integer(depth - 1) if 0 < depth and self.lesson.dares() else Expression(str(self.register()), POSTFIX, step())
+        return Expression("Port.get(%s)" % register.text, POSTFIX, step(register.cost))
+
+    def register(self):
+        """The number of a register, more often of one that means something."""
+        return self.dice.below(3) if self.dice.chance(75) else self.dice.below(COUNT)
+
     def integer(self, depth):
+        if self.lesson.has_port and self.dice.chance(15):
+            return self.got(depth)
         way = self.dice.below(12) if 0 < depth else self.dice.below(3)
         if way < 1:
             return self.literal()
@@ -302,6 +315,11 @@ class Body:
         value = self.integer(depth)
         return "System.out.println(%s);" % value.text, both(step(value.cost), (0, 0, 1, 0))
 
+    def putting(self, depth):
+        """A register and a value. A bold lesson may name one that there is not, or a value that is no byte."""
+        value = self.integer(depth) if self.lesson.dares() else Expression(str(self.dice.below(256)), POSTFIX, step())
+        return "Port.put(%d,%s);" % (COUNT if self.lesson.dares() else self.register(), value.text), step(step(), value.cost)
+
     def choice(self, depth):
         test = self.truth(depth)
         # What is not null after one branch need not be after the other.
@@ -330,6 +348,8 @@ class Body:
         return "{" + text + "}", step(cost)
 
     def statement(self, depth):
+        if self.lesson.has_port and self.dice.chance(20):
+            return self.putting(min(depth, 2))
         way = self.dice.below(10)
         if way < 4:
             return self.assignment(min(depth, 3))
@@ -355,8 +375,9 @@ class Body:
 
 
 class Lesson:
-    def __init__(self, seed):
+    def __init__(self, seed, has_port):
         self.dice = Dice(seed)
+        self.has_port = has_port
         self.bold = self.dice.pick([0, 3, 8, 15])  # of a hundred chances for a fault, how many are taken
         self.large = self.dice.pick([5, 30])  # of a hundred literals, how many are large
         self.length = 3 + self.dice.below(3)  # the least length of an array
@@ -488,12 +509,12 @@ class Lesson:
         return main_with("{" + "\n".join(shown) + "}") + "\n" + "\n".join(declared)
 
 
-def generated(count, first=1):
+def generated(count, first=1, has_port=False):
     """As many lessons, with their seeds, which begin with `first`. Those that are too long, or whose main does nothing, are passed over."""
     made = []
     seed = first
     while len(made) < count:
-        text = Lesson(seed).text()
+        text = Lesson(seed, has_port).text()
         if fits(text) and not text.startswith(main_with("{}")):
             made.append(("seed %d" % seed, text))
         seed += 1

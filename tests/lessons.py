@@ -69,8 +69,13 @@ def menu_order(lesson):
     return listed
 
 
+def asks_the_port(lesson):
+    """Whether a lesson names the device behind the cable, which Java does not have."""
+    return re.search(r"\bPort\b", re.sub(r"//[^\n]*", "", lesson)) is not None
+
+
 def as_printed(answer):
-    """What bayrun prints where run's answer is this: all but the climbs, which its last line has no place for."""
+    """What bayrun prints where run's answer is this: all but the climbs and the registers, which its last line has no place for."""
     ending, _, printed = answer.partition(" : ")
-    number, position, steps, _, words = ending.split(" ")
+    number, position, steps, _, words, _ = ending.split(" ")
     return "".join(p + "\n" for p in printed.split()) + "= %s %s %s %s\n" % (number, position, steps, words)

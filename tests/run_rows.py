@@ -1,30 +1,38 @@
 """Cases of run, worked out by hand from documents 01 and 02. A position is where a mark stands (see lessons.py), steps are counted node by node, climbs class by class for each call that is
-opened; no answer comes from the program."""
+opened, registers by device.py; no answer comes from the program."""
+import pathlib
+
+from device import COUNT, Device
 from lessons import FIRST, ONE, START, class_of, fits, main_with, method, places, program, unmarked
 
 TABLE = 16384
 HEAP_MOST = 16384
 
 
-def line(lesson, table=TABLE, budget=100000, calls=64, heap=4096, out=256):
+RUN_ENDS = {0, 40, 41, 42, 50, 51, 52, 53, 63, 64}  # all other numbers refuse the call
+
+
+def line(lesson, table=TABLE, budget=100000, calls=64, heap=4096, out=256, registers=COUNT, tape=b""):
     data = lesson.encode("ascii").hex() or "-"
-    return "run %d %d %d %d %d %s" % (table, budget, calls, heap, out, data)
+    return "run %d %d %d %d %d %d %s %s" % (table, budget, calls, heap, out, registers, tape.hex() or "-", data)
 
 
-def end(number, position, steps=0, climbs=0, words=0, *printed):
-    return "%d %d %d %d %d" % (number, position, steps, climbs, words) + "".join([" :"] + [" %d" % p for p in printed] if printed else [])
+def end(number, position, steps=0, climbs=0, words=0, *printed, shown=None):
+    """An answer; the registers are all 0 where nothing else is said."""
+    registers = shown or Device().shown() if number in RUN_ENDS else "-"
+    return "%d %d %d %d %d %s" % (number, position, steps, climbs, words, registers) + "".join([" :"] + [" %d" % p for p in printed] if printed else [])
 
 
-def fine(lesson, steps, climbs, words, *printed, **limits):
+def fine(lesson, steps, climbs, words, *printed, shown=None, **lent):
     """A lesson that runs to its end."""
     assert fits(lesson)
-    return line(lesson, **limits), end(0, 0, steps, climbs, words, *printed)
+    return line(lesson, **lent), end(0, 0, steps, climbs, words, *printed, shown=shown)
 
 
-def stopped(number, lesson, steps, climbs, words, *printed, **limits):
+def stopped(number, lesson, steps, climbs, words, *printed, shown=None, **lent):
     """A marked lesson that is refused, or whose run ends there."""
     (position,) = places(lesson)
-    return line(unmarked(lesson), **limits), end(number, position, steps, climbs, words, *printed)
+    return line(unmarked(lesson), **lent), end(number, position, steps, climbs, words, *printed, shown=shown)
 
 
 def bench_rows():
@@ -73,17 +81,19 @@ def strip_rows():
         rows += [(line(program(e), table=table), answer) for table in (TABLE, TABLE + 1, 20000)]
         rows += [(line(program(e), table=table), end(1, 0)) for table in (0, 1, TABLE - 1)]
         rows += [(line(program(e), calls=calls), end(2, 0)) for calls in (0, 65, 4294967295)]
-        rows += [(line(program(e), heap=heap), end(3, 0)) for heap in (HEAP_MOST + 1, 20000)]
+        rows += [(line(program(e), heap=heap), end(3, 0)) for heap in (HEAP_MOST + 1, 17000)]
+        rows += [(line(program(e), registers=registers, tape=b"\1\2"), end(62, 0)) for registers in (0, 1, 15, 17, 32)]
     return rows
 
 
 def order_rows():
-    """1, then 2, then 3, then what Check refuses; 1 to 3 do not look at the lesson."""
+    """1, then 2, then 3, then 62, then what Check refuses; 1 to 3 and 62 do not look at the lesson."""
     rows = []
     for lesson in ("", "#", ONE.ljust(16385), program("true"), ONE):
-        rows.append((line(lesson, table=TABLE - 1, calls=0, heap=HEAP_MOST + 1), end(1, 0)))
-        rows.append((line(lesson, calls=65, heap=HEAP_MOST + 1), end(2, 0)))
-        rows.append((line(lesson, heap=HEAP_MOST + 1, budget=0, out=0), end(3, 0)))
+        rows.append((line(lesson, table=TABLE - 1, calls=0, heap=HEAP_MOST + 1, registers=15), end(1, 0)))
+        rows.append((line(lesson, calls=65, heap=HEAP_MOST + 1, registers=15), end(2, 0)))
+        rows.append((line(lesson, heap=HEAP_MOST + 1, budget=0, out=0, registers=15), end(3, 0)))
+        rows.append((line(lesson, budget=0, out=0, registers=15), end(62, 0)))
     rows += [(line(ONE.ljust(16385), heap=heap, out=out), end(10, 0)) for heap, out in ((0, 0), (1, 1), (HEAP_MOST, 256))]
     rows += [(line(ONE.ljust(16384), heap=heap), end(0, 0, 2, 0, 0, 1)) for heap in (0, HEAP_MOST)]
     rows += [(line("#", budget=0, calls=1, heap=0, out=0), end(11, 0)), (line(program("true"), budget=0, calls=1, heap=0, out=0), end(31, FIRST))]
@@ -294,36 +304,258 @@ def climb_rows():
     ]
 
 
+class Bench:
+    """A lesson that works with the device, and what it leads to: its method is written statement by statement, and the nodes are charged beside it."""
+
+    def __init__(self, tape):
+        self.device, self.body, self.printed = Device(tape), "int i;", []
+        self.device.charge(3)  # the nodes of main before the method begins
+
+    def turn(self, rounds):
+        """Passes time: the assignment, the loop, a test more than rounds, and the rounds."""
+        self.body += "i=0;while(i<%d)i=i+1;" % rounds
+        self.device.charge(2 + 1 + 3 * (rounds + 1) + 4 * rounds)
+        return self
+
+    def show(self, register):
+        self.body += "System.out.println(Port.get(%d));" % register
+        self.device.charge(3)
+        self.printed.append(self.device.get(register))
+        return self
+
+    def put(self, register, value):
+        self.body += "Port.put(%d,%d);" % (register, value)
+        self.device.charge(3)
+        self.device.put(register, value)
+        return self
+
+    def row(self):
+        """The method's value is its last node, and main prints it."""
+        self.device.charge(1)
+        lesson = program("new A().m()") + class_of("A", method(self.body, value="7"))
+        return fine(lesson, self.device.steps, 1, 1, *self.printed, 7, tape=self.device.tape, shown=self.device.shown())
+
+
+def busy(budget, steps, first=""):
+    """A lesson that turns in a loop, after other statements and so many steps; marked is what is due when the budget is spent, the loop's test or its body."""
+    is_test = (budget - steps) % 2 == 0
+    return main_with("{" + first + ("while(@true){}" if is_test else "while(true)@{}") + "}")
+
+
+def sample_rows():
+    """A sample comes as step 100, 200 and so on is charged, so under budget 99 not yet, and past the tape's end nothing happens."""
+    rows = []
+    for tape in (b"", b"\5", b"\5\6\7", b"\0\xff"):
+        for budget in (0, 1, 2, 99, 100, 101, 199, 200, 201, 300, 399, 400, 1000):
+            device = Device(tape)
+            device.charge(budget)
+            # The block and the loop are charged once, each round after them twice.
+            if budget < 2:
+                lesson = main_with("@{while(true){}}") if budget == 0 else main_with("{@while(true){}}")
+            else:
+                lesson = busy(budget, 2)
+            rows.append(stopped(50, lesson, budget, 0, 0, budget=budget, tape=tape, shown=device.shown()))
+    # The mask, put after 3 of the 4 steps before the loop.
+    for mask in (0, 1, 2, 3, 4, 128, 252, 253, 254, 255):
+        for budget in (99, 100, 200, 300):
+            device = Device(b"\5\6")
+            device.charge(4)
+            device.put(1, mask)
+            device.charge(budget - 4)
+            rows.append(stopped(50, busy(budget, 5, "Port.put(1,%d);" % mask), budget, 0, 0, budget=budget, tape=b"\5\6", shown=device.shown()))
+    return rows
+
+
+def register_rows():
+    """What getting and putting do, with and without samples between; 14 rounds take 107 steps."""
+    tape = bytes([5, 250, 0, 99])
+    rows = [Bench(tape).show(k).put(k, 255).show(k).put(k, 0).show(k).row() for k in range(COUNT)]
+    rows += [Bench(b"").put(k, value).show(k).row() for k in range(COUNT) for value in (0, 1, 128, 255)]
+    rows += [Bench(tape).turn(14).show(0).show(2).show(0).show(2).row(), Bench(tape).turn(28).show(0).show(2).show(0).put(0, 2).show(0).row()]
+    for cleared in (0, 1, 2, 3, 4, 252, 253, 254, 255):
+        rows.append(Bench(tape).put(1, 3).turn(28).show(0).put(0, cleared).show(0).show(2).show(0).row())
+        rows.append(Bench(tape).put(1, 2).turn(28).put(0, cleared).show(0).turn(14).show(0).row())
+    for mask in (0, 1, 2, 3, 252, 255):
+        # Putting the mask settles bit 7, and so do a sample and getting register 2.
+        rows.append(Bench(tape).turn(14).put(1, mask).show(0).show(1).turn(14).show(0).show(2).show(0).put(1, 0).show(0).row())
+    rows.append(Bench(tape).turn(14).put(2, 77).show(2).show(0).row())
+    rows.append(Bench(tape).put(3, 1).put(4, 2).put(15, 255).turn(70).show(3).show(4).show(15).show(0).show(2).row())
+    return rows
+
+
+def port_rows():
+    """63 and 64 after all parts, 63 before 64; a sample that comes with the node or with its parts is seen."""
+    tail = "public int t(int k){System.out.println(k);return k;}"
+
+    def in_method(body, value="1"):
+        return program("new A().m()") + class_of("A", "int[] x;" + method(body, value=value) + tail)
+
+    rows = [
+        fine(program("Port.get(3)"), 3, 0, 0, 0),
+        fine(program("Port.get(Port.get(Port.get(15)))"), 5, 0, 0, 0),
+        fine(main_with("Port.put(3,4);"), 3, 0, 0, shown="00000004" + "00" * 12),
+        fine(program("Port.get(1)+2*Port.get(0)"), 8, 0, 0, 0),
+    ]
+    for register in ("16", "17", "255", "256", "2147483647", "0-1", "0-2147483647-1"):
+        parts = 1 + 2 * register.count("-")
+        rows.append(stopped(63, program("@Port.get(%s)" % register), 2 + parts, 0, 0))
+        rows += [stopped(63, main_with("@Port.put(%s,%s);" % (register, value)), 2 + parts, 0, 0) for value in ("0", "255", "256")]
+    for value in ("256", "257", "65536", "2147483647", "0-1", "0-255", "0-2147483647-1"):
+        parts = 1 + 2 * value.count("-")
+        rows += [stopped(64, main_with("@Port.put(%d,%s);" % (register, value)), 2 + parts, 0, 0) for register in (0, 1, 2, 3, 15)]
+    rows += [
+        # Faults, limits and prints of the parts come first.
+        stopped(42, main_with("Port.put(16,@new int[0-1].length);"), 7, 0, 0),
+        stopped(42, main_with("Port.put(@new int[0-1].length,256);"), 6, 0, 0),
+        stopped(40, in_method("Port.put(16,@x.length);"), 3 + 4, 1, 2),
+        stopped(41, in_method("x=new int[2];", "Port.get(@x[2])"), 3 + 3 + 4, 1, 5),
+        stopped(63, in_method("@Port.put(this.t(16),this.t(256));"), 3 + 1 + 6 + 6, 3, 2, 16, 256),
+        stopped(64, in_method("@Port.put(this.t(15),this.t(256));"), 3 + 1 + 6 + 6, 3, 2, 15, 256),
+        stopped(63, in_method("", "@Port.get(this.t(16))"), 3 + 1 + 6, 2, 2, 16),
+        stopped(52, in_method("", "Port.get(@this.t(16))"), 3 + 1 + 3, 1, 2, calls=1),
+        stopped(53, main_with("@System.out.println(Port.get(0));"), 3, 0, 0, out=0),
+        stopped(50, main_with("Port.put(@1,2);"), 1, 0, 0, budget=1),
+        stopped(50, main_with("Port.put(1,@2);"), 2, 0, 0, budget=2),
+        stopped(50, program("Port.get(@1)"), 2, 0, 0, budget=2),
+        # What was put before an end stays.
+        stopped(64, main_with("{Port.put(7,9);@Port.put(8,256);}"), 7, 0, 0, shown="00" * 7 + "09" + "00" * 8),
+        stopped(42, main_with("{Port.put(1,3);System.out.println(@new int[0-1].length);}"), 10, 0, 0, shown="0003" + "00" * 14),
+        # Names of the words that are not reserved.
+        fine(program("new get().put(3)") + class_of("get", "int put;" + method("put=get;", name="put", parameters="int get", value="put+Port.get(0)")), 4 + 2 + 4, 1, 2, 3),
+    ]
+    # The first of the two numbers is got after step 96, 103 or 110, so that step 100 comes after it, with the loop, and before it.
+    return rows + [Bench(bytes([1, 2, 3])).turn(rounds).show(2).show(0).show(2).show(0).row() for rounds in (12, 13, 14)]
+
+
+def cable_answer(tape):
+    """What lessons/cable.java leads to, method by method as it stands there, and node by node."""
+    device, printed, climbs = Device(tape), [], 0
+
+    def flags_above(least):
+        device.charge(4)  # the comparison, the literal, `Port.get`, its number
+        return least < device.get(0)
+
+    def waits():
+        nonlocal climbs
+        device.charge(2)  # the call and `this`
+        climbs += 1
+        return flags_above(127)
+
+    def is_due(rounds):
+        device.charge(4)  # `&&`, the comparison and its parts
+        if rounds == 0:
+            return False
+        device.charge(1)  # `!`
+        return not waits()
+
+    def reading(rounds):
+        nonlocal climbs, lost
+        device.charge(3)  # the call, the receiver, the argument
+        climbs += 1
+        device.charge(1)
+        while is_due(rounds):
+            device.charge(4)
+            rounds -= 1
+        device.charge(1)
+        if waits():
+            device.charge(2)  # the block and the conditional in it
+            is_lost = flags_above(130)
+            device.charge(4 if is_lost else 1)
+            lost += is_lost
+            device.charge(3)
+            device.put(0, 2)
+            device.charge(3)
+            value = device.get(2)
+        else:
+            device.charge(4)
+            value = -1
+        device.charge(1)
+        return value
+
+    lost = taken = value = 0
+    device.charge(4)
+    climbs += 1  # main's call
+    device.charge(3)
+    climbs += 1  # open
+    device.charge(3)
+    device.put(1, 1)
+    device.charge(1)
+    device.charge(2 + 2 + 1)
+    while True:
+        device.charge(4)
+        if taken == 3:
+            break
+        device.charge(4)
+        if value < 0:
+            break
+        device.charge(2)  # the block and the assignment
+        value = reading(20)
+        device.charge(2)
+        printed.append(value)
+        device.charge(5)
+        if value < 0:
+            device.charge(1)
+        else:
+            # The assignment, both sums, their parts, the call with its; the fan's loop, 31 tests and 30 rounds, and its value.
+            device.charge(1 + 2 + 2 + 3 + 1 + 31 * 3 + 30 * 4 + 1)
+            climbs += 1
+            taken += 1
+    device.charge(3)
+    climbs += 1
+    device.charge(1)
+    printed.append(lost)
+    device.charge(1)
+    printed.append(taken)
+    return end(0, 0, device.steps, climbs, 1 + 2, *printed, shown=device.shown())
+
+
+def cable_rows():
+    """The lesson that waits for readings, with tapes of several lengths."""
+    lesson = (pathlib.Path(__file__).resolve().parent.parent / "lessons" / "cable.java").read_text()
+    tapes = [b"", bytes([82]), bytes([82, 85]), bytes([82, 85, 91]), bytes(range(60, 120)), bytes(1000), bytes([0, 255] * 20)]
+    return [(line(lesson, tape=tape), cable_answer(tape)) for tape in tapes]
+
+
 def errors():
     """Lines of run that are no case, and what the program says of each."""
     return [
-        ("rnu 16384 1 1 1 1 -", "unknown operation"),
-        ("runs 16384 1 1 1 1 -", "unknown operation"),
+        ("rnu 16384 1 1 1 1 16 - -", "unknown operation"),
+        ("runs 16384 1 1 1 1 16 - -", "unknown operation"),
         ("ru", "unknown operation"),
-        ("Run 16384 1 1 1 1 -", "unknown operation"),
+        ("Run 16384 1 1 1 1 16 - -", "unknown operation"),
         ("run", "word missing"),
-        ("run 16384 1 1 1 -", "word missing"),
-        ("run 16384 1 1 1 1", "word missing"),
-        ("run 16384 1 1 1 1 ", "word missing"),
-        ("run 16384 1 1 1 1 - ", "too many words"),
-        ("run 16384 1 1 1 1 1 -", "too many words"),
-        ("run x 1 1 1 1 -", "malformed number"),
-        ("run 16384 x 1 1 1 -", "malformed number"),
-        ("run 16384 4294967296 1 1 1 -", "malformed number"),
-        ("run 16384 1 -1 1 1 -", "malformed number"),
-        ("run 16384 1 1  1 -", "malformed number"),
-        ("run 16384 1 1 1 1x -", "malformed number"),
-        ("run 20001 x 1 1 1 -", "table too large"),
-        ("run 16384 x 1 20001 1 -", "malformed number"),
-        ("run 16384 1 1 20001 x -", "heap strip too large"),
-        ("run 16384 1 1 4294967295 2049 -", "heap strip too large"),
-        ("run 16384 1 1 1 2049 2", "output strip too large"),
-        ("run 16384 1 1 1 4294967295 -", "output strip too large"),
-        ("run 16384 1 1 1 1 2", "odd number of hexadecimal digits"),
-        ("run 16384 1 1 1 1 2G", "bad hexadecimal digit"),
-        ("run 16384 1 1 1 1 " + "20" * 20001, "source too long"),
+        ("run 16384 1 1 1 1 -", "word missing"),
+        ("run 16384 1 1 1 1 16 -", "word missing"),
+        ("run 16384 1 1 1 1 16 - ", "word missing"),
+        ("run 16384 1 1 1 1 16  -", "word missing"),
+        ("run 16384 1 1 1 1 16 - - ", "too many words"),
+        ("run 16384 1 1 1 1 16 - - -", "too many words"),
+        ("run x 1 1 1 1 16 - -", "malformed number"),
+        ("run 16384 x 1 1 1 16 - -", "malformed number"),
+        ("run 16384 4294967296 1 1 1 16 - -", "malformed number"),
+        ("run 16384 1 -1 1 1 16 - -", "malformed number"),
+        ("run 16384 1 1  1 16 - -", "malformed number"),
+        ("run 16384 1 1 1 1x 16 - -", "malformed number"),
+        ("run 16384 1 1 1 1 x 2 -", "malformed number"),
+        ("run 16384 1 1 1 1 - - -", "malformed number"),
+        ("run 20001 x 1 1 1 16 - -", "table too large"),
+        ("run 16384 x 1 17001 1 16 - -", "malformed number"),
+        ("run 16384 1 1 17001 x 16 - -", "heap strip too large"),
+        ("run 16384 1 1 4294967295 2049 16 - -", "heap strip too large"),
+        ("run 16384 1 1 1 2049 x - 2", "output strip too large"),
+        ("run 16384 1 1 1 4294967295 16 - -", "output strip too large"),
+        ("run 16384 1 1 1 1 33 2 -", "register strip too large"),
+        ("run 16384 1 1 1 1 4294967296 - -", "register strip too large"),
+        ("run 16384 1 1 1 1 16 2 2G", "odd number of hexadecimal digits"),
+        ("run 16384 1 1 1 1 16 2G 2", "bad hexadecimal digit"),
+        ("run 16384 1 1 1 1 16 -- -", "bad hexadecimal digit"),
+        ("run 16384 1 1 1 1 16 " + "00" * 1025 + " 2", "tape too long"),
+        ("run 16384 1 1 1 1 16 - 2", "odd number of hexadecimal digits"),
+        ("run 16384 1 1 1 1 16 - 2G", "bad hexadecimal digit"),
+        ("run 16384 1 1 1 1 16 - " + "20" * 20001, "source too long"),
     ]
 
 
 def run_rows():
-    return bench_rows() + zero_rows() + strip_rows() + order_rows() + budget_rows() + heap_rows() + call_rows() + output_rows() + fault_rows() + array_rows() + climb_rows()
+    rows = bench_rows() + zero_rows() + strip_rows() + order_rows() + budget_rows() + heap_rows() + call_rows() + output_rows() + fault_rows() + array_rows() + climb_rows()
+    return rows + sample_rows() + register_rows() + port_rows() + cable_rows()

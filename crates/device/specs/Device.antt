@@ -1,10 +1,15 @@
 -- Document 02, (viii): the device behind the cable. It knows nothing of a run but when a step is charged, and what is got and put.
-use Prim.Native.Nat.{ℕ, zero, suc, _+_, _/_, _%_, _^_}
+use Prim.Native.Nat.{ℕ, zero, suc, _+_, _/_, _%_, _^_, _<_}
 use mathlib.Core.Bool.{Bool, true, false, _&&_, _||_, not}
 use mathlib.Core.List.{List, [], _∷_}
 use lib.ListN.{getD, set, replicate}
 use lib.Dec.{eqb}
 use Rattle.base.specs.Choice.{if_then_else_}
+use Rattle.base.specs.Codes.{byteValues}
+
+-- what a register and a place of the tape hold
+abbrev pub IsByte : ℕ → Type 0
+IsByte v = v < byteValues
 
 -- Flag bits 0 and 1 of register 0, which say that a sample arrived and that one was lost; register 1, the mask; register 2, the last
 -- sample; registers 3 to 15; and the tape bytes that are still to come.

@@ -7,7 +7,7 @@ use mathlib.Core.Logic.{_≢_}
 use lib.ListN.{length}
 use Rattle.base.specs.All.{All}
 use Rattle.base.specs.Outcome.{accepted}
-use Rattle.device.specs.laws.ByteLaws.{IsByte}
+use Rattle.device.specs.Device.{IsByte}
 use Rattle.parser.specs.Tree.{Program}
 use Rattle.typesystem.specs.Check.{checking}
 use Rattle.semantics.specs.Limits.{Limits, ended, wentWrong, unfinished, run}
@@ -33,7 +33,8 @@ module _ (s : List ℕ) (p : Program) (a : checking s ≡ accepted p) where
 
 -- With the same tape, under larger limits a run that ended by itself, in 0, 40, 41, 42, 63 or 64, has the same report: result, position,
 -- steps, climbs, heap words, printed numbers and registers.
-pub same-end : (p : Program) (L M : Limits) (tape : List ℕ) (k q : ℕ) → L ⊑ M → Finish k → run p L tape .ending ≡ ended k q → run p M tape ≡ run p L tape
+pub same-end : (p : Program) (L M : Limits) (tape : List ℕ) (k q : ℕ) → L ⊑ M → Finish k → run p L tape .ending ≡ ended k q
+    → run p M tape ≡ run p L tape
 same-end p L M tape k q h f e = agree-same f e (run-agrees p L M tape h)
 
 -- What a run prints, also one that a limit stopped, begins what it prints under larger limits with the same tape, in the same order.

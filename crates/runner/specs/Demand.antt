@@ -10,7 +10,7 @@ use lib.ListN.{length, take}
 use lib.IntN.{ℤ}
 use Rattle.base.specs.All.{All}
 use Rattle.base.specs.Outcome.{accepted}
-use Rattle.device.specs.laws.ByteLaws.{IsByte}
+use Rattle.device.specs.Device.{IsByte}
 use Rattle.parser.specs.Tree.{Program}
 use Rattle.typesystem.specs.Check.{checking}
 use Rattle.semantics.specs.Limits.{Limits, Report, run}
@@ -20,8 +20,8 @@ use Rattle.acceptance.specs.Accepted.{Allowed, allowed-accepted}
 use Rattle.guarantees.specs.Demand as Machine
 use Rattle.runner.specs.laws.DemandLaws.{one-answer, ends-as, meets, shown-is, registers-are}
 
--- a call of Run for the lesson s with a tape, by its contract: fit arguments (no refusal 1, 2, 3 or 62), what was lent, the answer, and what
--- is there then
+-- a call of Run for the lesson s with a tape, by its contract: fit arguments (no refusal 1, 2, 3 or 62), what was lent, the answer, and
+-- what is there then
 pub record RunCall (s tape : List ℕ) : Type 0 where
   pub budget : ℕ
   pub calls : ℕ

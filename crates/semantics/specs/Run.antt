@@ -66,11 +66,11 @@ pub record Reports (r : Report) (a : RunAnswer) : Type 0 where
   pub words : a .words ≡ r .words
   pub printed : a .printed ≡ length (r .printed)
 
--- the answer and the strips that are right for what Check finds
--- after a run; a refusal leaves the register strip unchanged
+-- the strips after a run
 abbrev pub afterRun : Report → Strips → Strips
 afterRun r m = stripsAfter (r .printed) (r .registers) m
 
+-- the answer and the strips that are right for what Check finds; a refusal leaves the register strip unchanged
 abbrev pub RunMeets : Outcome Program → (budget calls : ℕ) → (tape : List ℕ) → Strips → RunAnswer → Strips → Type 0
 RunMeets (accepted p) budget calls tape before a after =
     Reports (run p (limitsOf budget calls before) tape) a × (after ≡ afterRun (run p (limitsOf budget calls before) tape) before)

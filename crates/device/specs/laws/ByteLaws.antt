@@ -8,10 +8,7 @@ use lib.Dec.{lit<, eqb}
 use Rattle.base.specs.All.{All, all-nil, all-cons}
 use Rattle.base.specs.Choice.{if_then_else_}
 use Rattle.base.specs.laws.Lists.{all-set, all-replicate}
-use Rattle.device.specs.Device.{Device, reset, bitValue, alarm, sampleOf, sample, atStep, period, got, withFlags, afterGet, afterPut}
-
-abbrev pub IsByte : ℕ → Type 0
-IsByte v = v < 256
+use Rattle.device.specs.Device.{IsByte, Device, reset, bitValue, alarm, sampleOf, sample, atStep, period, got, withFlags, afterGet, afterPut}
 
 pub record HoldsBytes (d : Device) : Type 0 where
   pub mask : IsByte (d .mask)

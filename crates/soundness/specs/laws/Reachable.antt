@@ -4,7 +4,8 @@ use mathlib.Core.Path.{_≡_, subst}
 use Prim.Native.Nat.{ℕ}
 use mathlib.Core.List.{List}
 use Rattle.base.specs.All.{All}
-use Rattle.device.specs.laws.ByteLaws.{IsByte, HoldsBytes, reset-bytes}
+use Rattle.device.specs.Device.{IsByte}
+use Rattle.device.specs.laws.ByteLaws.{HoldsBytes, reset-bytes}
 use Rattle.parser.specs.Tree.{Program}
 use Rattle.typesystem.specs.TypingRules.{ProgramTyped}
 use Rattle.semantics.specs.Machine.{Core, plan, start}

@@ -11,7 +11,8 @@ use lib.ListN.{length, getElem?, set}
 use lib.Dec.{ltb, leb}
 use borrow.Author.Tests.{ltb-true}
 use Rattle.base.specs.Codes.{registersCount, byteValues}
-use Rattle.device.specs.laws.ByteLaws.{IsByte, HoldsBytes, got-byte, reset-bytes, step-bytes, get-bytes, put-bytes}
+use Rattle.device.specs.Device.{IsByte}
+use Rattle.device.specs.laws.ByteLaws.{HoldsBytes, got-byte, reset-bytes, step-bytes, get-bytes, put-bytes}
 use Rattle.base.specs.All.{All}
 use Rattle.base.specs.laws.Lists.{All2, all2-nil, all2-cons, all2-append, all2-map, all2-at, all2-set, RelatedAt, get-map}
 use Rattle.base.specs.laws.WordLaws.{add-below, sub-below, mul-below}

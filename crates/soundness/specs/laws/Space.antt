@@ -13,8 +13,7 @@ use borrow.Author.Tests.{ltb-true, ltb-false, leb-true}
 use Rattle.base.specs.Codes.{depthMost, variablesMost, indexOutOfRange, registerOutOfRange, registersCount, valueOutOfRange, byteValues}
 use Rattle.base.specs.All.{All, all-nil, all-cons}
 use Rattle.base.specs.laws.Lists.{all2-length}
-use Rattle.device.specs.Device.{got}
-use Rattle.device.specs.laws.ByteLaws.{IsByte}
+use Rattle.device.specs.Device.{IsByte, got}
 use Rattle.parser.specs.Tree.{Place, Sort, Part, Expression, Statement, Element.class, Ty, Ty.plain, Method, Class, Program}
 use Rattle.parser.specs.Tree.{Sort.expression, Sort.arguments, Sort.statement, Sort.statements}
 use Rattle.parser.specs.Tree.{Part.literal, Part.truth, Part.variable, Part.this, Part.newArray, Part.newObject, Part.negation, Part.binary, Part.element, Part.arrayLength, Part.call, Part.portGet, Part.noArguments, Part.argument}
