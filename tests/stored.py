@@ -2,7 +2,8 @@
 import pathlib
 
 ROOT = pathlib.Path(__file__).resolve().parent.parent
-WORDS = {"read": 3, "check": 3, "menu": 4, "run": 9}
+# How many numbers, and after them how many words of hexadecimal digits, a line of an operation has.
+FORMS = {"read": (1, 1), "check": (1, 1), "menu": (2, 1), "run": (6, 2)}
 TABLE_LEAST = 16384
 REGISTERS = "16"
 
@@ -17,9 +18,15 @@ def paired():
     return list(zip(asked[:usage], answers)) + list(zip(asked[usage + 1 :], answers[usage + longer :]))
 
 
+def is_case(line, answer):
+    """Whether it is answered by numbers, and 64 bits hold each number in it."""
+    operation, *words = line.split(" ")
+    numbers, digits = FORMS.get(operation, (0, 0))
+    return answer[:1].isdigit() and len(words) == numbers + digits and all(int(word) < 1 << 64 for word in words[:numbers])
+
+
 def cases():
-    """All that are answered by numbers."""
-    return [(line, answer) for line, answer in paired() if len(line.split(" ")) == WORDS.get(line.split(" ")[0]) and answer[:1].isdigit()]
+    return [row for row in paired() if is_case(*row)]
 
 
 def is_for_bindings(line, answer):
