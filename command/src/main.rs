@@ -148,7 +148,16 @@ fn mark(asked: &Asked, file: &str, lesson: &[u8], tape: &[u8], expected: &[u8]) 
         Ok(expected) => expected,
     };
     let run = match lesson_engine::run(lesson, &asked.limits, tape) {
-        Err(refusal) => return refused(asked, file, lesson, &refusal),
+        Err(refusal) => {
+            let mut said = refused(asked, file, lesson, &refusal);
+            if asked.is_json && said.status == REFUSED {
+                let mut object = Object::of(file);
+                object.end(lesson, Some(&refusal), "");
+                object.truth("right", false);
+                said.output = object.line();
+            }
+            return said;
+        }
         Ok(run) => run,
     };
     let difference = mark::difference(&run.printed, &expected.numbers);

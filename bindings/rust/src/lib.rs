@@ -152,9 +152,9 @@ pub fn menu(lesson: &[u8]) -> Result<Vec<usize>, Refusal> {
 /// # Ok::<(), lesson_engine::Refusal>(())
 /// ```
 pub fn run(lesson: &[u8], limits: &Limits, tape: &[u8]) -> Result<Run, Refusal> {
-    // One word more than is allowed is refused as any longer heap is, and takes no memory.
+    // One word more than is allowed is refused as any longer heap is; no run prints more numbers than it has steps.
     let mut heap = vec![0; limits.heap.min(sys::HEAP_MOST + 1)];
-    let mut output = vec![0; limits.output];
+    let mut output = vec![0; limits.output.min(limits.budget as usize)];
     let mut registers = [0; sys::REGISTERS];
     let bounds = sys::Limits { budget: limits.budget, calls: limits.calls };
     let lent = strips::Lent { heap: &mut heap, output: &mut output, registers: &mut registers, tape };
@@ -166,4 +166,20 @@ pub fn run(lesson: &[u8], limits: &Limits, tape: &[u8]) -> Result<Run, Refusal> 
     }
     output.truncate(a.printed);
     Ok(Run { end, steps: a.steps, climbs: a.climbs, words: a.words, printed: output, registers })
+}
+
+#[cfg(test)]
+mod tests {
+    use super::*;
+
+    #[test]
+    fn the_library_belongs_to_these_declarations() {
+        assert_eq!(unsafe { sys::engine_version() }, sys::VERSION);
+    }
+
+    #[test]
+    fn every_number_has_one_kind() {
+        assert!(Kind::ALL.iter().all(|&kind| Kind::of(kind.number()) == Some(kind)));
+        assert_eq!(Kind::of(0), None);
+    }
 }

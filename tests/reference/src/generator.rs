@@ -305,7 +305,7 @@ impl Generator<'_> {
                 let test = self.expr(scope, BOOLEAN, self.size.depth);
                 format!("while({}){}", test, self.statement(scope, depth - 1))
             }
-            5 | 6..=9 => {
+            5..=9 => {
                 let count = self.random.below(self.size.statements + 1);
                 let body: String = (0..count).map(|_| self.statement(scope, depth.saturating_sub(1))).collect();
                 format!("{{{}}}", body)

@@ -41,7 +41,7 @@ fn answers(who: Answerer) -> bool {
 fn work() -> bool {
     let words: Vec<String> = env::args().skip(1).collect();
     let number = |k: usize, default: u64| words.get(k).map_or(Some(default), |w| w.parse().ok());
-    match (words.get(0).map(String::as_str), number(1, SEED), number(2, COUNT)) {
+    match (words.first().map(String::as_str), number(1, SEED), number(2, COUNT)) {
         (Some("answer"), ..) => answers(Answerer::Reference),
         (Some("binding"), ..) => answers(Answerer::Binding),
         (Some("compare"), Some(seed), Some(count)) => compare::compare(seed, count),
