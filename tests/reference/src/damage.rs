@@ -107,8 +107,8 @@ fn at_a_bound(random: &mut Random, lesson: &[u8]) -> Vec<u8> {
         1 => {
             let count = lexer::tokens(lesson).map_or(0, |t| t.len());
             let more = near(random, TOKENS_MOST).saturating_sub(count);
-            let piece = ["{}", "class Z{}", ";", "00 ", "&"][random.below(5)];
-            [lesson, piece.repeat(more / if piece == "class Z{}" { 4 } else { piece.len().min(2) }).as_bytes()].concat()
+            let (piece, tokens) = random.pick(&[("{}", 2), ("class Z{}", 4), (";", 1), ("00 ", 1), ("/**/&&", 1)]);
+            [lesson, piece.repeat(more / tokens).as_bytes()].concat()
         }
         2 => {
             let nots = "!".repeat(near(random, DEPTH_MOST - 4));
