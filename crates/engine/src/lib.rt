@@ -48,6 +48,7 @@ pub struct RunAnswer {
     pub printed: usize,
 }
 
+// The version of the header that belongs to this library.
 #[no_mangle]
 pub extern "C" fn engine_version() -> u32
     ensures { λ r. ⌜ r ≡ 1 ⌝ }
@@ -55,6 +56,7 @@ pub extern "C" fn engine_version() -> u32
     VERSION
 }
 
+// The operation Read.
 #[no_mangle]
 pub extern "C" fn engine_read(source: &[u8], table: &mut [u32]) -> ReadAnswer
     ensures { λ r. ⌜ Reads (now (source .entry)) (now (table .entry))
@@ -69,6 +71,7 @@ pub extern "C" fn engine_read(source: &[u8], table: &mut [u32]) -> ReadAnswer
     }
 }
 
+// The operation Check.
 #[no_mangle]
 pub extern "C" fn engine_check(source: &[u8], table: &mut [u32]) -> CheckAnswer
     ensures { λ r. ⌜ Checks (now (source .entry)) (now (table .entry))
@@ -82,6 +85,7 @@ pub extern "C" fn engine_check(source: &[u8], table: &mut [u32]) -> CheckAnswer
     }
 }
 
+// The operation Menu.
 #[no_mangle]
 pub extern "C" fn engine_menu(source: &[u8], table: &mut [u32], strip: &mut [u32]) -> CheckAnswer
     ensures { λ r. ⌜ Menus (now (source .entry)) (now (table .entry)) (now (strip .entry))
@@ -95,6 +99,7 @@ pub extern "C" fn engine_menu(source: &[u8], table: &mut [u32], strip: &mut [u32
     }
 }
 
+// The operation Run.
 #[no_mangle]
 pub extern "C" fn engine_run(
     source: &[u8],
