@@ -25,9 +25,21 @@ fn quoted(text: &str) -> String {
 }
 
 impl Object {
-    pub fn of(file: &str) -> Object {
-        let mut made = Object { text: String::from("{") };
+    pub fn empty() -> Object {
+        Object { text: String::from("{") }
+    }
+
+    /// Of a lesson: number, position, line, column and words of how it ended. Of success line and column are null.
+    pub fn of(file: &str, lesson: &[u8], end: Option<&Refusal>, success: &str) -> Object {
+        let found = end.map(|r| place(lesson, r.position));
+        let mut made = Object::empty();
         made.text("file", file);
+        made.number("number", end.map_or(0, |r| r.kind.number()));
+        made.number("position", end.map_or(0, |r| r.position));
+        made.number_or_null("line", found.as_ref().map(|p| p.line));
+        made.number_or_null("column", found.as_ref().map(|p| p.column));
+        made.text("name", end.map_or(success, |r| r.kind.name()));
+        made.text("words", end.map_or("", |r| r.kind.sentence()));
         made
     }
 
@@ -62,22 +74,7 @@ impl Object {
         self.raw(key, &format!("[{}]", listed.join(", ")));
     }
 
-    /// Number, position, line, column and words; of success line and column are null.
-    pub fn end(&mut self, lesson: &[u8], end: Option<&Refusal>, success: &str) {
-        let found = end.map(|r| place(lesson, r.position));
-        self.number("number", end.map_or(0, |r| r.kind.number()));
-        self.number("position", end.map_or(0, |r| r.position));
-        self.number_or_null("line", found.as_ref().map(|p| p.line));
-        self.number_or_null("column", found.as_ref().map(|p| p.column));
-        self.text("name", end.map_or(success, |r| r.kind.name()));
-        self.text("words", end.map_or("", |r| r.kind.sentence()));
-    }
-
-    pub fn empty() -> Object {
-        Object { text: String::from("{") }
-    }
-
-    pub fn closed(mut self) -> String {
+    fn closed(mut self) -> String {
         self.text.push('}');
         self.text
     }

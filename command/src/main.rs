@@ -57,9 +57,7 @@ fn refused(asked: &Asked, file: &str, lesson: &[u8], refusal: &Refusal) -> Said 
     }
     let mut said = Said { output: String::new(), errors: String::new(), status: REFUSED };
     if asked.is_json {
-        let mut object = Object::of(file);
-        object.end(lesson, Some(refusal), "");
-        said.output = object.line();
+        said.output = Object::of(file, lesson, Some(refusal), "").line();
     } else {
         said.errors = show::diagnostic(file, lesson, refusal, show::is_coloured());
     }
@@ -74,8 +72,7 @@ fn check(asked: &Asked, file: &str, lesson: &[u8]) -> Said {
     match lesson_engine::check(lesson) {
         Err(refusal) => refused(asked, file, lesson, &refusal),
         Ok(classes) if asked.is_json => {
-            let mut object = Object::of(file);
-            object.end(lesson, None, "accepted");
+            let mut object = Object::of(file, lesson, None, "accepted");
             object.number("classes", classes);
             good(object.line())
         }
@@ -94,8 +91,7 @@ fn menu(asked: &Asked, file: &str, lesson: &[u8]) -> Said {
         Ok(positions) => positions,
     };
     if asked.is_json {
-        let mut object = Object::of(file);
-        object.end(lesson, None, "accepted");
+        let mut object = Object::of(file, lesson, None, "accepted");
         let classes = positions.iter().map(|&p| {
             let found = place(lesson, p);
             let mut class = Object::empty();
@@ -115,10 +111,9 @@ fn menu(asked: &Asked, file: &str, lesson: &[u8]) -> Said {
     good(positions.iter().map(line).collect())
 }
 
-/// The object of a run, without its end.
+/// The object of a run.
 fn run_object(file: &str, lesson: &[u8], run: &Run) -> Object {
-    let mut object = Object::of(file);
-    object.end(lesson, run.end.as_ref(), "finished");
+    let mut object = Object::of(file, lesson, run.end.as_ref(), "finished");
     object.number("steps", run.steps);
     object.number("climbs", run.climbs);
     object.number("heap_words", run.words);
@@ -151,8 +146,7 @@ fn mark(asked: &Asked, file: &str, lesson: &[u8], tape: &[u8], expected: &[u8]) 
         Err(refusal) => {
             let mut said = refused(asked, file, lesson, &refusal);
             if asked.is_json && said.status == REFUSED {
-                let mut object = Object::of(file);
-                object.end(lesson, Some(&refusal), "");
+                let mut object = Object::of(file, lesson, Some(&refusal), "");
                 object.truth("right", false);
                 said.output = object.line();
             }
