@@ -402,6 +402,10 @@ child-is : (c : List ℕ) (k : Class) (ks : List Class) → isChild c k ≡ true
 unfolding childRows
 child-is c k ks e = rw e
 
+-- whether a class is a child, by its parent
+child-by : (c : List ℕ) (k : Class) {o : Option Name} → k .parent ≡ o → isChild c k ≡ option o false λ p. same c (p .text)
+child-by c k e = ap (λ (o : Option Name). option o false λ p. same c (p .text)) e
+
 -- a class may stand first just where it has no parent
 standing-root : (k : Class) (ks : List Class) (r : ℕ) → k .parent ≡ none → standing [] (k ∷ ks) r ≡ (eqb (nameRow k) r || standing [] ks r)
 unfolding standing mayStand among
@@ -473,9 +477,10 @@ module _ {tab : List ℕ} {left row : ℕ} (more : left ≡ 0 → ⊥) (near : r
   pub gather-root : absent ≤ c → {tree′ : List ℕ} → Entered row tree tree′ → Gathered tab left row tree₀ first₀ tree′ first next
   gather-root far en = by-first λ n ts G k ks h.
       let top = no-parent (h .few) (k .parent) (h .above) far in
-      let other : (d : List ℕ) → isChild d k ≡ false = λ d. ap (λ (o : Option Name). option o false λ p. same d (p .text)) top in (
-        keeps-same (λ r low. ap (λ (x : ℕ). eqb x r || standing [] ks r) (sym (h .here)) ∙ sym (standing-root k ks r top)) (en .says (standing [] ks) (h .kept)),
-        all-weaken (λ j x. rw (child-not (className j) k ks (other (className j))) x) (h .listed),
+      let stands : (r : ℕ) → (eqb row r || standing [] ks r) ≡ standing [] (k ∷ ks) r = λ r.
+      ap (λ (x : ℕ). eqb x r || standing [] ks r) (sym (h .here)) ∙ sym (standing-root k ks r top) in (
+        keeps-same (λ r low. stands r) (en .says (standing [] ks) (h .kept)),
+        all-weaken (λ j x. rw (child-not (className j) k ks (child-by (className j) k top)) x) (h .listed),
       )
 
   module _ (low : c < absent) {parent : ℕ} (e₇ : parent ≡ wordAt tab 7 c) where
@@ -494,8 +499,7 @@ module _ {tab : List ℕ} {left row : ℕ} (more : left ≡ 0 → ⊥) (near : r
     pub gather-unknown : absent ≤ parent → Gathered tab left row tree₀ first₀ tree first next
     gather-unknown far = by-child λ n ts G k ks h p e at.
         let other : (j : Class) → classNamed G (className j) ≡ some j → isChild (className j) k ≡ false = λ j own.
-        ap (λ (o : Option Name). option o false λ q. same (className j) (q .text)) e
-        ∙ apart-same (className j) (p .text) (λ z. none-some (nobody far at) (ap (classNamed G) (sym z) ∙ own)) in
+        child-by (className j) k e ∙ apart-same (className j) (p .text) (λ z. none-some (nobody far at) (ap (classNamed G) (sym z) ∙ own)) in
         all-weaken (λ j x. rw (child-not (className j) k ks (other j (x .0))) (x .1)) (all-zip (h .table .own) (h .listed))
 
     pub gather-child : parent < absent → {first′ next′ : List ℕ} → ChildJoined parent row first next first′ next′
@@ -515,18 +519,23 @@ module _ {tab : List ℕ} {left row : ℕ} (more : left ≡ 0 → ⊥) (near : r
             entry j stands own old is p e (no-class nobody far) = absurd (omega arith)
             entry j stands own old is p e (a-class q found at near′ s sp) = rw (put .link, put .head) (by (ℕ-discrete (nameRow j) parent))
               where
+                kept : RowsLinked (set next row (getD first parent 0)) (getD first (nameRow j) 0) (childRows (className j) ks)
+                kept =
+                    let later = subst (λ (i : ℕ). All (λ (j : Class). i < nameRow j) ks) is (h .rises) in
+                    linked-kept row (getD first parent 0) (child-later (className j) row ks later) old
+
                 by : Dec (nameRow j ≡ parent)
                     → RowsLinked (set next row (getD first parent 0)) (getD (set first parent row) (nameRow j) 0) (childRows (className j) (k ∷ ks))
                 by (yes z) =
                     let name : className j ≡ p .text = one-text stands s (z ∙ sym at) ∙ class-name G (p .text) found in
-                    let child : isChild (className j) k ≡ true = ap (λ (o : Option Name). option o false λ q. same (className j) (q .text)) e ∙ same-of name in
-                    let first-is : getD (set first parent row) (nameRow j) 0 ≡ nameRow k = ap (λ (i : ℕ). getD (set first parent row) i 0) z ∙ getD-set-same first parent row 0 (put .is-parent) ∙ sym is in
+                    let child : isChild (className j) k ≡ true = child-by (className j) k e ∙ same-of name in
+                    let first-is : getD (set first parent row) (nameRow j) 0 ≡ nameRow k =
+                    ap (λ (i : ℕ). getD (set first parent row) i 0) z ∙ getD-set-same first parent row 0 (put .is-parent) ∙ sym is in
                     let link : getD (set next row (getD first parent 0)) (nameRow k) 0 ≡ getD first (nameRow j) 0 =
-                    ap (λ (i : ℕ). getD (set next row (getD first parent 0)) i 0) is ∙ getD-set-same next row (getD first parent 0) 0 (put .is-row) ∙ ap (λ (i : ℕ). getD first i 0) (sym z) in
-                    rw (child-is (className j) k ks child, first-is) (linked-more {row = nameRow k} (omega (arith, is)) link (linked-kept row (getD first parent 0) (child-later (className j) row ks (subst (λ (i : ℕ). All (λ (j : Class). i < nameRow j) ks) is (h .rises))) old))
+                    ap (λ (i : ℕ). getD (set next row (getD first parent 0)) i 0) is
+                    ∙ getD-set-same next row (getD first parent 0) 0 (put .is-row) ∙ ap (λ (i : ℕ). getD first i 0) (sym z) in
+                    rw (child-is (className j) k ks child, first-is) (linked-more {row = nameRow k} (omega (arith, is)) link kept)
                 by (no other) =
                     let child : isChild (className j) k ≡ false =
-                    ap (λ (o : Option Name). option o false λ q. same (className j) (q .text)) e
-                    ∙ apart-same (className j) (p .text) (λ z. other (ap nameRow (one-class G own found z) ∙ at)) in
-                    rw (child-not (className j) k ks child, getD-set-other first parent (nameRow j) row 0 other)
-                    (linked-kept row (getD first parent 0) (child-later (className j) row ks (subst (λ (i : ℕ). All (λ (j : Class). i < nameRow j) ks) is (h .rises))) old)
+                    child-by (className j) k e ∙ apart-same (className j) (p .text) (λ z. other (ap nameRow (one-class G own found z) ∙ at)) in
+                    rw (child-not (className j) k ks child, getD-set-other first parent (nameRow j) row 0 other) kept
