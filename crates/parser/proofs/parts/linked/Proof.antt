@@ -9,6 +9,4 @@ pub linked-spec : {M : Type 1} → statement M
 linked-spec =
     tie.close (tie.spec (λ c. search needs)
     (λ c κs. omega (arith, fits-at (c .before .before .rest .given .1) (c .before .before .before .before .before .pre .2)))
-    (λ c. search needs) (λ c. search needs)
-    (λ c. list-done (c .before .before .before .before .before .rest .given .1) (c .before .before .link .ensures))
-    (λ c. whole-refused _ _ (c .before .rest2 .given .1)))
+    (λ c. search needs) (λ c. search needs) (λ c. search list-done) (λ c. whole-refused _ _ (c .before .rest2 .given .1)))

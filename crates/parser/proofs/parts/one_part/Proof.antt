@@ -9,6 +9,4 @@ pub one-part-spec : {M : Type 1} → statement M
 one-part-spec =
     tie.close (tie.spec (λ c. search needs)
     (λ c κs. omega (arith, fits-at (c .before .before .part .given .1) (c .before .before .before .before .before .pre .2)))
-    (λ c. search needs) (λ c. search needs)
-    (λ c. one-part-done (c .before .before .before .before .before .part .given .1) (c .before .before .node .ensures))
-    (λ c. whole-refused _ _ (c .before .part2 .given .1)))
+    (λ c. search needs) (λ c. search needs) (λ c. search one-part-done) (λ c. whole-refused _ _ (c .before .part2 .given .1)))
