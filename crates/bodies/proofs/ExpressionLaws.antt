@@ -34,8 +34,7 @@ use Rattle.lookup.specs.contracts.Lookups.{TypeOf, Knows, Fits, rowFound, Finds
 use Rattle.lookup.specs.laws.ChainLaws.{found-stands}
 use Rattle.lookup.specs.laws.VariableLaws.{typed-some, typed-none}
 use Rattle.lookup.specs.contracts.Answers.{asJudged, asJudged-fine, asJudged-refused, Judges, well, ill}
-use Rattle.lookup.specs.contracts.Shows.{PartAt, Form, aVariable, aNewArray, aNewObject, aNegation, aBinary, anElement, aLength, aCall}
-use Rattle.lookup.specs.contracts.Shows.{aPortGet}
+use Rattle.lookup.specs.contracts.Shows.{PartAt, Form, aVariable, aNewArray, aNewObject, aBinary, anElement, aLength, aCall}
 use Rattle.lookup.specs.contracts.Shows.{aLiteral, aTruth, aThis, formAtom, formCompound, formE, formAt, GoesOn, one-more-argument}
 use Rattle.lookup.specs.contracts.Shows.{shows-literal, shows-truth, shows-variable, shows-this, shows-new-array, shows-new-object}
 use Rattle.lookup.specs.contracts.Shows.{shows-negation, shows-binary, shows-element, shows-length, shows-call, shows-port-get}
@@ -258,24 +257,6 @@ module _ {tab : List ℕ} {s : Scope} {first end row : ℕ} where
     unfolding formE isAtom isName
     expression-dot is f = alone 31 is (f .says)
 
-    pub expression-not : k ≡ 29 → {part : ℕ} → part ≡ wordAt tab 4 row → SinglePost tab s (row + 1) end part 2049 2049 r
-        → ExpressionPost tab s first end row r
-    unfolding formE formCompound isAtom isName judge
-    expression-not is e₄ f = alone 29 is go
-      where
-        go : NodeJudged tab s aNegation first end row r
-        go ts G Γ i t (shows-negation {e = e} st x) =
-            f .says ts G Γ i e (rw e₄ x) (plain boolean) (plain boolean) (code-plain (code-boolean refl)) (code-plain (code-boolean refl))
-
-    pub expression-get : k ≡ 40 → {part : ℕ} → part ≡ wordAt tab 4 row → SinglePost tab s (row + 1) end part 2048 2048 r
-        → ExpressionPost tab s first end row r
-    unfolding formE formCompound isAtom isName judge
-    expression-get is e₄ f = alone 40 is go
-      where
-        go : NodeJudged tab s aPortGet first end row r
-        go ts G Γ i t (shows-port-get {e = e} st x) =
-            f .says ts G Γ i e (rw e₄ x) (plain int) (plain int) (code-plain (code-int refl)) (code-plain (code-int refl))
-
     pub expression-element : k ≡ 36 → NodePost tab s anElement first end row r → ExpressionPost tab s first end row r
     unfolding formE formCompound isAtom isName
     expression-element is f = alone 36 is (f .says)
@@ -285,6 +266,24 @@ module _ {tab : List ℕ} {s : Scope} {first end row : ℕ} where
     unfolding formE formCompound
     expression-binary ea other n₁ n₂ n₃ n₄ n₅ f =
         told (rw (sym ea ∙ other, ne-eqb k 14 n₁, ne-eqb k 31 n₂, ne-eqb k 29 n₃, ne-eqb k 40 n₄, ne-eqb k 36 n₅)) (f .says)
+
+-- the kinds of a node with one part, which is of its own type, and the number of that type
+pub data Unary : (kind want : ℕ) → Type 0 where
+  of-not : Unary 29 2049
+  of-get : Unary 40 2048
+
+pub expression-unary : {k′ want : ℕ} → Unary k′ want → {tab : List ℕ} {s : Scope} {first end row k : ℕ}
+    → k ≡ kindInTable tab (s .tokens) row → k ≡ k′ → {part : ℕ} → part ≡ wordAt tab 4 row → {r : Judged}
+    → SinglePost tab s (row + 1) end part want want r → ExpressionPost tab s first end row r
+unfolding formE formCompound isAtom isName judge
+expression-unary {k′} u {tab} {s} {first} {end} {row} kind is {part} e₄ {r} f = alone kind k′ is (go u f)
+  where
+    go : {k′ want : ℕ} → Unary k′ want → SinglePost tab s (row + 1) end part want want r
+        → NodeJudged tab s (formE k′ (kindInTable tab (s .tokens) (row + 1)) (kindInTable tab (s .tokens) (row + 2))) first end row r
+    go of-not g ts G Γ i t (shows-negation {e = e} st x) =
+        g .says ts G Γ i e (rw e₄ x) (plain boolean) (plain boolean) (code-plain (code-boolean refl)) (code-plain (code-boolean refl))
+    go of-get g ts G Γ i t (shows-port-get {e = e} st x) =
+        g .says ts G Γ i e (rw e₄ x) (plain int) (plain int) (code-plain (code-int refl)) (code-plain (code-int refl))
 
 -- PARTS THAT MUST FIT
 
@@ -406,17 +405,25 @@ module _ {tab : List ℕ} {s : Scope} {end row t : ℕ} (type : TypeOf tab (s .t
           let c = type .says ts (i .world .tokens) (row + 1) refl (arrayOf (u .element)) m in
           rw (sym (f .says ts G (i .world) (arrayOf (u .element)) c) ∙ is, sym q ∙ sym e₁) ill
 
+-- OPERATIONS AND CALLS, whose left part is judged first
+
+pub data LeftFirst : Form → Type 0 where
+  of-binary : LeftFirst aBinary
+  of-call : LeftFirst aCall
+
+pub left-refused : {F : Form} → LeftFirst F → {tab : List ℕ} {s : Scope} {first end row left : ℕ} → left ≡ wordAt tab 4 row
+    → {v : Judged} → ExpressionPost tab s first row left v → {n p : ℕ} → v ≡ Refused n p → NodePost tab s F first end row (Refused n p)
+unfolding judge
+left-refused l {tab} {s} {first} {end} {row} e₄ f {n} {p} is = record { says = go l }
+  where
+    go : {F : Form} → LeftFirst F → NodeJudged tab s F first end row (Refused n p)
+    go of-binary ts G Γ i e (shows-binary {l = l} st k x y) = judged-refused (rw (judges-refused (f .says ts G Γ i l (rw e₄ x)) is))
+    go of-call ts G Γ i t (shows-call {e = e} st sp q x y) = judged-refused (rw (judges-refused (f .says ts G Γ i e (rw e₄ x)) is))
+
 -- OPERATIONS
 
 module _ {tab : List ℕ} {s : Scope} {first end row left : ℕ} (e₄ : left ≡ wordAt tab 4 row) {v : Judged}
     (f : ExpressionPost tab s first row left v) where
-  pub binary-refused : {n p : ℕ} → v ≡ Refused n p → NodePost tab s aBinary first end row (Refused n p)
-  unfolding judge
-  binary-refused {n} {p} is = record { says = go }
-    where
-      go : NodeJudged tab s aBinary first end row (Refused n p)
-      go ts G Γ i e (shows-binary {l = l} st k x y) = judged-refused (rw (judges-refused (f .says ts G Γ i l (rw e₄ x)) is))
-
   module _ {t : ℕ} (is : v ≡ Fine t) {k : ℕ} (kind : k ≡ kindInTable tab (s .tokens) row) {answer : ℕ} (g : OperationPost k t answer) where
     pub binary-wrong : noType ≤ answer → {at₃ : ℕ} → at₃ ≡ wordAt tab 3 left → NodePost tab s aBinary first end row (Refused wrongType at₃)
     unfolding judge
@@ -479,13 +486,6 @@ module _ {tab : List ℕ} {s : Scope} {first end row k : ℕ} {r : Judged} where
 
 module _ {tab : List ℕ} {s : Scope} {first end row left : ℕ} (e₄ : left ≡ wordAt tab 4 row) {v : Judged}
     (f : ExpressionPost tab s first row left v) where
-  pub call-refused : {n p : ℕ} → v ≡ Refused n p → NodePost tab s aCall first end row (Refused n p)
-  unfolding judge
-  call-refused {n} {p} is = record { says = go }
-    where
-      go : NodeJudged tab s aCall first end row (Refused n p)
-      go ts G Γ i t (shows-call {e = e} st sp q x y) = judged-refused (rw (judges-refused (f .says ts G Γ i e (rw e₄ x)) is))
-
   module _ {t : ℕ} (is : v ≡ Fine t) where
     pub call-plain : 2048 ≤ t → {at₃ : ℕ} → at₃ ≡ wordAt tab 3 left → NodePost tab s aCall first end row (Refused wrongType at₃)
     unfolding judge

@@ -8,8 +8,9 @@ use lib.ListN.{length}
 use Rattle.base.specs.Outcome.{Outcome, accepted, refused, _>>=_}
 use Rattle.base.specs.laws.Tests.{apart}
 use Rattle.lexer.specs.Tokens.{Token}
-use Rattle.parser.specs.Tree.{Sort, Sort.arguments, Sort.statements, Part, Expression, Statement, placeE, Element, Ty, Ty.plain, Ty.arrayOf, Class}
-use Rattle.parser.specs.contracts.Layout.{absent}
+use Rattle.parser.specs.Tree.{Sort, Sort.expression, Sort.arguments, Sort.statement, Sort.statements, Part, Expression, Statement, placeE}
+use Rattle.parser.specs.Tree.{Part.noArguments, Part.argument, Part.noStatements, Part.sequence, Element, Ty, Ty.plain, Ty.arrayOf, Class}
+use Rattle.parser.specs.contracts.Layout.{absent, rowOf}
 use Rattle.parser.specs.contracts.Post.{kindInTable}
 use Rattle.reader.specs.contracts.Spans.{Among, Spans}
 use Rattle.reader.specs.laws.SpanLaws.{inside, inside-statement}
@@ -21,7 +22,7 @@ use Rattle.lookup.specs.declared.answer.Judged.the-variants.{Fine, Refused}
 use Rattle.lookup.specs.contracts.HeldClasses.{wordAt, ElementCodes, Codes, code-plain, code-array}
 use Rattle.lookup.specs.laws.HeldLaws.{element-below}
 use Rattle.lookup.specs.contracts.Answers.{asJudged, asJudged-fine, asJudged-refused, Judges, well, ill}
-use Rattle.lookup.specs.contracts.Shows.{Form, formAt, formS, GoesOn, one-more-argument, GoesOnS, one-more-statement}
+use Rattle.lookup.specs.contracts.Shows.{Form, formAt, formS, GoesOn, GoesOnS}
 use Rattle.lookup.specs.laws.ShowLaws.{Bounds, BoundsS, shown, shownS, starts, goes-on, goes-onS}
 use Rattle.bodies.specs.declared.scope.Scope.{Scope}
 use Rattle.bodies.specs.contracts.Scoping.{InScope, PartIn, ShowsIn, ShowsStatement}
@@ -126,27 +127,28 @@ module _ (first end row : ℕ) where
         of-port-put = λ {p} {n} {e} at h. (behind end n at (h .1), behind end e at (h .2));
       }
 
-  -- a list that stands in a row: one member and the rest, in their ranges; so the row is among those of the range
+  -- the row of a part of any sort is among those of its range, unless the part is an empty list
+  stands : (q : Sort) (t : Part q) → rowOf t < absent → Spans first end t → Among first end (rowOf t)
+  unfolding Spans
+  stands expression t here h = inside t h
+  stands arguments noArguments here h = absurd (omega arith)
+  stands arguments (argument e es) here h = inside e (h .0)
+  stands statement t here h = inside-statement t h
+  stands statements noStatements here h = absurd (omega arith)
+  stands statements (sequence t ss) here h = inside-statement t (h .0)
+
+  -- what stands in a row; of a list, one member and the rest, in their ranges
   module _ {tab : List ℕ} {ts : List Token} (near : row < absent) where
+    pub lies : {q : Sort} (t : Part q) → PartIn tab ts row first end t → Among first end row
+    lies {q} t h = subst (Among first end) (h .at) (stands q t (omega (arith, h .at)) (h .within))
+
     pub one-more : (es : Part arguments) → PartIn tab ts row first end es → GoesOn tab ts row (Spans first end) (Spans (row + 1) end) es
     unfolding Spans
     one-more es h = goes-on (λ e xs at w. (w .0, behind end xs at (w .1))) near es h
 
-    pub lies : (es : Part arguments) → PartIn tab ts row first end es → Among first end row
-    lies es h = go es (one-more es h)
-      where
-        go : (xs : Part arguments) → GoesOn tab ts row (Spans first end) (Spans (row + 1) end) xs → Among first end row
-        go xs (one-more-argument {e = e} x y) = subst (Among first end) (x .at) (inside e (x .within))
-
     pub one-moreS : (ss : Part statements) → PartIn tab ts row first end ss → GoesOnS tab ts row (Spans first end) (Spans (row + 1) end) ss
     unfolding Spans
     one-moreS ss h = goes-onS (λ t xs at w. (w .0, behind end xs at (w .1))) near ss h
-
-    pub liesS : (ss : Part statements) → PartIn tab ts row first end ss → Among first end row
-    liesS ss h = go ss (one-moreS ss h)
-      where
-        go : (xs : Part statements) → GoesOnS tab ts row (Spans first end) (Spans (row + 1) end) xs → Among first end row
-        go xs (one-more-statement {t = t} x y) = subst (Among first end) (x .at) (inside-statement t (x .within))
 
 -- WHAT A ROW SHOWS
 

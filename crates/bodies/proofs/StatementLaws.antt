@@ -30,7 +30,7 @@ use Rattle.bodies.specs.contracts.ExpressionPost.{NamePost, OperandPost}
 use Rattle.bodies.specs.contracts.StatementPost.{StatementPost, ListPost, StatementJudged, StatementNodePost, BranchesPost}
 use Rattle.bodies.specs.contracts.StatementPost.{ValuePost}
 use Rattle.bodies.proofs.PartLaws.{judges-fine, judges-refused, goes, halts, plain-code, array-code, few-tokens}
-use Rattle.bodies.proofs.PartLaws.{one-moreS, liesS, seen-inS}
+use Rattle.bodies.proofs.PartLaws.{one-moreS, lies, seen-inS}
 
 -- ASSIGNMENTS
 
@@ -238,10 +238,10 @@ module _ {tab : List ℕ} {s : Scope} {first end row : ℕ} where
 
   module _ (near : row < absent) where
     pub list-before : row < first → {n p : ℕ} → ListPost tab s first end row (Refused n p)
-    list-before low = record { says = λ ts G Γ sc ss h. absurd (omega (arith, liesS first end row near ss h .low)) }
+    list-before low = record { says = λ ts G Γ sc ss h. absurd (omega (arith, lies first end row near ss h .low)) }
 
     pub list-behind : end ≤ row → {n p : ℕ} → ListPost tab s first end row (Refused n p)
-    list-behind high = record { says = λ ts G Γ sc ss h. absurd (omega (arith, liesS first end row near ss h .high)) }
+    list-behind high = record { says = λ ts G Γ sc ss h. absurd (omega (arith, lies first end row near ss h .high)) }
 
     module _ {v : Judged} (f : StatementPost tab s first end row v) where
       pub list-refused : {n p : ℕ} → v ≡ Refused n p → ListPost tab s first end row (Refused n p)

@@ -70,149 +70,139 @@ module _ {tab : List ℕ} {n left stamp row : ℕ} {before : List ℕ} where
       go ts G w earlier [] a = refl
       go ts G w earlier (v ∷ vs) a = absurd (omega (arith, first-of (w .tokens) (a .here) (a .stand) .near))
 
-  module _ (near : row < absent) {t : ℕ} (e₃ : t ≡ wordAt tab 3 row) {b : Bool} (k : KnownAt tab n t b) where
-    pub fields-unknown : b ≡ false → {p : ℕ} → p ≡ wordAt tab 1 t → FieldsJudged tab n left stamp row before before (Refused typeUnknown p)
-    unfolding fields
-    fields-unknown is {p} e₁ = record { below = λ bound high b. b; says = go }
-      where
-        go : (ts : List Token) (G : List Class) → ClassTableHeld tab n ts G → (earlier : List (List ℕ)) (vs : List Variable)
-            → FieldsAt tab ts before stamp earlier vs left row
-            → Refused typeUnknown p ≡ asJudged (fields G earlier vs)
-        go ts G w earlier [] a = absurd (omega (arith, a .here))
-        go ts G w earlier (v ∷ vs) a =
-            let d = first-of (w .tokens) (a .here) (a .stand) .declared in
-            rw (declared-known k e₃ w d ∙ is) (ap (Refused typeUnknown) (type-place e₃ e₁ d))
+  module _ (near : row < absent) where
+    -- in a row of the table there is a first field
+    by-first : {r : Judged}
+        → ((ts : List Token) (G : List Class) → ClassTableHeld tab n ts G → (earlier : List (List ℕ)) (v : Variable) (vs : List Variable)
+        → FieldsAt tab ts before stamp earlier (v ∷ vs) left row → DeclaredAt tab ts v row → r ≡ asJudged (fields G earlier (v ∷ vs)))
+        → (ts : List Token) (G : List Class) → ClassTableHeld tab n ts G → (earlier : List (List ℕ)) (vs : List Variable)
+        → FieldsAt tab ts before stamp earlier vs left row → r ≡ asJudged (fields G earlier vs)
+    by-first h ts G w earlier [] a = absurd (omega (arith, a .here))
+    by-first h ts G w earlier (v ∷ vs) a = h ts G w earlier v vs a (first-of (w .tokens) (a .here) (a .stand) .declared)
 
-    module _ (is : b ≡ true) {x : ℕ} (e₂ : x ≡ wordAt tab 2 row) {mid : List ℕ} {c : Bool} (h : MarkPost x stamp before mid c) where
-      pub fields-repeated : c ≡ true → {p : ℕ} → p ≡ wordAt tab 1 row
-          → FieldsJudged tab n left stamp row before mid (Refused fieldRepeated p)
+    module _ {t : ℕ} (e₃ : t ≡ wordAt tab 3 row) {b : Bool} (k : KnownAt tab n t b) where
+      pub fields-unknown : b ≡ false → {p : ℕ} → p ≡ wordAt tab 1 t
+          → FieldsJudged tab n left stamp row before before (Refused typeUnknown p)
       unfolding fields
-      fields-repeated again {p} e₁ = record { below = h .below; says = go }
-        where
-          go : (ts : List Token) (G : List Class) → ClassTableHeld tab n ts G → (earlier : List (List ℕ)) (vs : List Variable)
-              → FieldsAt tab ts before stamp earlier vs left row
-              → Refused fieldRepeated p ≡ asJudged (fields G earlier vs)
-          go ts G w earlier [] a = absurd (omega (arith, a .here))
-          go ts G w earlier (v ∷ vs) a =
-              let d = first-of (w .tokens) (a .here) (a .stand) .declared in
-              rw (declared-known k e₃ w d ∙ is, marked-is (w .tokens) h (subst (NameNumber ts (textOf v)) (sym e₂) (d .number)) (a .marked) ∙ again)
-              (ap (Refused fieldRepeated) (e₁ ∙ d .start))
+      fields-unknown is e₁ =
+          record {
+            below = λ bound high b. b;
+            says = by-first λ ts G w earlier v vs a d.
+                rw (declared-known k e₃ w d ∙ is) (ap (Refused typeUnknown) (type-place e₃ e₁ d));
+          }
 
-      pub fields-next : c ≡ false → {next : ℕ} {after : List ℕ} {r : Judged} → next ≡ wordAt tab 6 row
-          → FieldsJudged tab n (left - 1) stamp next mid after r
-          → FieldsJudged tab n left stamp row before after r
-      unfolding fields
-      fields-next new {next} {after} {r} e₆ h′ = record { below = λ bound high b. h′ .below bound high (h .below bound high b); says = go }
-        where
-          go : (ts : List Token) (G : List Class) → ClassTableHeld tab n ts G → (earlier : List (List ℕ)) (vs : List Variable)
-              → FieldsAt tab ts before stamp earlier vs left row
-              → r ≡ asJudged (fields G earlier vs)
-          go ts G w earlier [] a = absurd (omega (arith, a .here))
-          go ts G w earlier (v ∷ vs) a =
-              let d = first-of (w .tokens) (a .here) (a .stand) .declared in
-              let sp = subst (NameNumber ts (textOf v)) (sym e₂) (d .number) in
-              rw (declared-known k e₃ w d ∙ is, marked-is (w .tokens) h sp (a .marked) ∙ new)
-              (h′ .says ts G w (textOf v ∷ earlier) vs (fields-rest (w .tokens) a e₆ (marked-next (w .tokens) h sp (a .marked))))
+      module _ (is : b ≡ true) {x : ℕ} (e₂ : x ≡ wordAt tab 2 row) {mid : List ℕ} {c : Bool} (h : MarkPost x stamp before mid c) where
+        pub fields-repeated : c ≡ true → {p : ℕ} → p ≡ wordAt tab 1 row
+            → FieldsJudged tab n left stamp row before mid (Refused fieldRepeated p)
+        unfolding fields
+        fields-repeated again e₁ =
+            record {
+              below = h .below;
+              says = by-first λ ts G w earlier v vs a d.
+                  let sp = subst (NameNumber ts (textOf v)) (sym e₂) (d .number) in
+                  rw (declared-known k e₃ w d ∙ is, marked-is (w .tokens) h sp (a .marked) ∙ again)
+                  (ap (Refused fieldRepeated) (e₁ ∙ d .start));
+            }
+
+        pub fields-next : c ≡ false → {next : ℕ} {after : List ℕ} {r : Judged} → next ≡ wordAt tab 6 row
+            → FieldsJudged tab n (left - 1) stamp next mid after r
+            → FieldsJudged tab n left stamp row before after r
+        unfolding fields
+        fields-next new e₆ h′ =
+            record {
+              below = λ bound high b. h′ .below bound high (h .below bound high b);
+              says = by-first λ ts G w earlier v vs a d.
+                  let sp = subst (NameNumber ts (textOf v)) (sym e₂) (d .number) in
+                  rw (declared-known k e₃ w d ∙ is, marked-is (w .tokens) h sp (a .marked) ∙ new)
+                  (h′ .says ts G w (textOf v ∷ earlier) vs (fields-rest (w .tokens) a e₆ (marked-next (w .tokens) h sp (a .marked))));
+            }
 
 -- PARAMETERS AND LOCALS
-
-module _ {tab : List ℕ} {n others before first index row t : ℕ} (e₃ : t ≡ wordAt tab 3 row) {b : Bool} (k : KnownAt tab n t b) where
-  pub variable-unknown : b ≡ false → {p : ℕ} → p ≡ wordAt tab 1 t
-      → VariableJudged tab n others before first index row (Refused typeUnknown p)
-  unfolding newVariable
-  variable-unknown is {p} e₁ = record { says = λ ts G w ps l us v vs a. go ts G w ps us v vs a }
-    where
-      go : (ts : List Token) (G : List Class) → ClassTableHeld tab n ts G → (ps us : List Variable) (v : Variable) (vs : List Variable)
-          → Along tab ts us (v ∷ vs) first index row
-          → Refused typeUnknown p ≡ asJudged (newVariable G (onto (map textOf ps) (map textOf us)) v)
-      go ts G w ps us v vs a =
-          let d = variable-declared (w .tokens) us v vs a in
-          rw (declared-known k e₃ w d ∙ is) (ap (Refused typeUnknown) (type-place e₃ e₁ d))
-
-  module _ (is : b ≡ true) {x : ℕ} (e₂ : x ≡ wordAt tab 2 row) {c : Bool} (h : Repeated tab before others x c) where
-    pub variable-other : c ≡ true → {p : ℕ} → p ≡ wordAt tab 1 row
-        → VariableJudged tab n others before first index row (Refused variableRepeated p)
-    unfolding newVariable
-    variable-other again {p} e₁ = record { says = λ ts G w ps l us v vs a. go ts G w ps l us v vs a }
-      where
-        go : (ts : List Token) (G : List Class) → ClassTableHeld tab n ts G → (ps : List Variable)
-            → VariablesListed tab ts ps others before → (us : List Variable) (v : Variable) (vs : List Variable)
-            → Along tab ts us (v ∷ vs) first index row
-            → Refused variableRepeated p ≡ asJudged (newVariable G (onto (map textOf ps) (map textOf us)) v)
-        go ts G w ps l us v vs a =
-            let d = variable-declared (w .tokens) us v vs a in
-            let o = listed-repeated (w .tokens) ps l h (textOf v) (subst (NameNumber ts (textOf v)) (sym e₂) (d .number)) in
-            rw (declared-known k e₃ w d ∙ is, onto-occurs (textOf v) (map textOf ps) (map textOf us), sym o ∙ again) (ap (Refused variableRepeated) (e₁ ∙ d .start))
-
-    module _ (new : c ≡ false) {c′ : Bool} (h′ : Repeated tab index first x c′) where
-      pub variable-twice : c′ ≡ true → {p : ℕ} → p ≡ wordAt tab 1 row
-          → VariableJudged tab n others before first index row (Refused variableRepeated p)
-      unfolding newVariable
-      variable-twice again {p} e₁ = record { says = λ ts G w ps l us v vs a. go ts G w ps l us v vs a }
-        where
-          go : (ts : List Token) (G : List Class) → ClassTableHeld tab n ts G → (ps : List Variable)
-              → VariablesListed tab ts ps others before → (us : List Variable) (v : Variable) (vs : List Variable)
-              → Along tab ts us (v ∷ vs) first index row
-              → Refused variableRepeated p ≡ asJudged (newVariable G (onto (map textOf ps) (map textOf us)) v)
-          go ts G w ps l us v vs a =
-              let d = variable-declared (w .tokens) us v vs a in
-              let sp = subst (NameNumber ts (textOf v)) (sym e₂) (d .number) in
-              rw (
-                declared-known k e₃ w d ∙ is,
-                onto-occurs (textOf v) (map textOf ps) (map textOf us),
-                sym (listed-repeated (w .tokens) ps l h (textOf v) sp) ∙ new,
-                sym (variable-repeated (w .tokens) us v vs a h′ (textOf v) sp) ∙ again,
-              )
-              (ap (Refused variableRepeated) (e₁ ∙ d .start))
-
-      module _ (fresh : c′ ≡ false) where
-        pub variable-fine : before + index < 32 → VariableJudged tab n others before first index row (Fine 0)
-        unfolding newVariable
-        variable-fine few = record { says = λ ts G w ps l us v vs a. go ts G w ps l us v vs a }
-          where
-            go : (ts : List Token) (G : List Class) → ClassTableHeld tab n ts G → (ps : List Variable)
-                → VariablesListed tab ts ps others before → (us : List Variable) (v : Variable) (vs : List Variable)
-                → Along tab ts us (v ∷ vs) first index row → Fine 0 ≡ asJudged (newVariable G (onto (map textOf ps) (map textOf us)) v)
-            go ts G w ps l us v vs a =
-                let d = variable-declared (w .tokens) us v vs a in
-                let sp = subst (NameNumber ts (textOf v)) (sym e₂) (d .number) in
-                let earlier = onto (map textOf ps) (map textOf us) in
-                rw (
-                  declared-known k e₃ w d ∙ is,
-                  onto-occurs (textOf v) (map textOf ps) (map textOf us),
-                  sym (listed-repeated (w .tokens) ps l h (textOf v) sp) ∙ new,
-                  sym (variable-repeated (w .tokens) us v vs a h′ (textOf v) sp) ∙ fresh,
-                  lt-ltb (length earlier) variablesMost
-                      (omega (arith, onto-length (map textOf ps) (map textOf us), length-map ps textOf, length-map us textOf, l .many, a .before)),
-                )
-
-        pub variable-many : 32 ≤ before + index → {p : ℕ} → p ≡ wordAt tab 1 row
-            → VariableJudged tab n others before first index row (Refused tooManyVariables p)
-        unfolding newVariable
-        variable-many many {p} e₁ = record { says = λ ts G w ps l us v vs a. go ts G w ps l us v vs a }
-          where
-            go : (ts : List Token) (G : List Class) → ClassTableHeld tab n ts G → (ps : List Variable)
-                → VariablesListed tab ts ps others before → (us : List Variable) (v : Variable) (vs : List Variable)
-                → Along tab ts us (v ∷ vs) first index row
-                → Refused tooManyVariables p ≡ asJudged (newVariable G (onto (map textOf ps) (map textOf us)) v)
-            go ts G w ps l us v vs a =
-                let d = variable-declared (w .tokens) us v vs a in
-                let sp = subst (NameNumber ts (textOf v)) (sym e₂) (d .number) in
-                let earlier = onto (map textOf ps) (map textOf us) in
-                rw (
-                  declared-known k e₃ w d ∙ is,
-                  onto-occurs (textOf v) (map textOf ps) (map textOf us),
-                  sym (listed-repeated (w .tokens) ps l h (textOf v) sp) ∙ new,
-                  sym (variable-repeated (w .tokens) us v vs a h′ (textOf v) sp) ∙ fresh,
-                  le-ltb (length earlier) variablesMost
-                      (omega (arith, onto-length (map textOf ps) (map textOf us), length-map ps textOf, length-map us textOf, l .many, a .before)),
-                )
-                (ap (Refused tooManyVariables) (e₁ ∙ d .start))
 
 -- the tests of a name, and what comes after them
 abbrev tests : (again few : Bool) (place : ℕ) (next : Outcome (Unit {0})) → Outcome (Unit {0})
 tests again few place next =
     if again then (λ _. refused variableRepeated place) else λ _. if few then (λ _. next) else λ _. refused tooManyVariables place
+
+-- whether the name of number x is that of an earlier variable of the method
+record OccursEarlier (tab : List ℕ) (n others before first index row x : ℕ) (again : Bool) : Type 0 where
+  says : (ts : List Token) → Lexemes tab n ts → (ps : List Variable) → VariablesListed tab ts ps others before
+      → (us : List Variable) (v : Variable) (vs : List Variable) → Along tab ts us (v ∷ vs) first index row → NameNumber ts (textOf v) x
+      → occurs (textOf v) (onto (map textOf ps) (map textOf us)) ≡ again
+
+-- how many variables are earlier
+earlier-many : {tab : List ℕ} {ts : List Token} {others before first index row : ℕ} {ps us vs : List Variable}
+    → VariablesListed tab ts ps others before → Along tab ts us vs first index row
+    → length (onto (map textOf ps) (map textOf us)) ≡ before + index
+earlier-many {ps = ps} {us = us} l a =
+    omega (arith, onto-length (map textOf ps) (map textOf us), length-map ps textOf, length-map us textOf, l .many, a .before)
+
+module _ {tab : List ℕ} {n others before first index row t : ℕ} (e₃ : t ≡ wordAt tab 3 row) {b : Bool} (k : KnownAt tab n t b) where
+  pub variable-unknown : b ≡ false → {p : ℕ} → p ≡ wordAt tab 1 t
+      → VariableJudged tab n others before first index row (Refused typeUnknown p)
+  unfolding newVariable
+  variable-unknown is e₁ =
+      record {
+        says = λ ts G w ps l us v vs a.
+            let d = variable-declared (w .tokens) us v vs a in
+            rw (declared-known k e₃ w d ∙ is) (ap (Refused typeUnknown) (type-place e₃ e₁ d));
+      }
+
+  module _ (is : b ≡ true) {x : ℕ} (e₂ : x ≡ wordAt tab 2 row) where
+    -- the type is known: the answer is that of the tests of the name
+    by-name : (again few : Bool) → OccursEarlier tab n others before first index row x again → ltb (before + index) variablesMost ≡ few
+        → {p : ℕ} → p ≡ wordAt tab 1 row
+        → VariableJudged tab n others before first index row (asJudged (tests again few p (accepted tt)))
+    unfolding newVariable
+    by-name again few o e e₁ =
+        record {
+          says = λ ts G w ps l us v vs a.
+              let d = variable-declared (w .tokens) us v vs a in
+              rw (
+                declared-known k e₃ w d ∙ is,
+                o .says ts (w .tokens) ps l us v vs a (subst (NameNumber ts (textOf v)) (sym e₂) (d .number)),
+                ap (λ (i : ℕ). ltb i variablesMost) (earlier-many l a) ∙ e,
+              )
+              (ap (λ (q : ℕ). asJudged (tests again few q (accepted tt))) (e₁ ∙ d .start));
+        }
+
+    module _ {c : Bool} (h : Repeated tab before others x c) where
+      pub variable-other : c ≡ true → {p : ℕ} → p ≡ wordAt tab 1 row
+          → VariableJudged tab n others before first index row (Refused variableRepeated p)
+      variable-other again e₁ = by-name true _ other refl e₁
+        where
+          other : OccursEarlier tab n others before first index row x true
+          other = record {
+            says = λ ts lx ps l us v vs a sp.
+                rw (onto-occurs (textOf v) (map textOf ps) (map textOf us), sym (listed-repeated lx ps l h (textOf v) sp) ∙ again);
+          }
+
+      module _ (new : c ≡ false) {c′ : Bool} (h′ : Repeated tab index first x c′) where
+        same-list : OccursEarlier tab n others before first index row x c′
+        same-list =
+            record {
+              says = λ ts lx ps l us v vs a sp.
+                  rw (
+                    onto-occurs (textOf v) (map textOf ps) (map textOf us),
+                    sym (listed-repeated lx ps l h (textOf v) sp) ∙ new,
+                    sym (variable-repeated lx us v vs a h′ (textOf v) sp),
+                  );
+            }
+
+        pub variable-twice : c′ ≡ true → {p : ℕ} → p ≡ wordAt tab 1 row
+            → VariableJudged tab n others before first index row (Refused variableRepeated p)
+        variable-twice again e₁ = by-name true _ (subst (OccursEarlier tab n others before first index row x) again same-list) refl e₁
+
+        module _ (fresh : c′ ≡ false) where
+          at-last : OccursEarlier tab n others before first index row x false
+          at-last = subst (OccursEarlier tab n others before first index row x) fresh same-list
+
+          pub variable-fine : before + index < 32 → VariableJudged tab n others before first index row (Fine 0)
+          variable-fine few = by-name false true at-last (lt-ltb (before + index) variablesMost few) refl
+
+          pub variable-many : 32 ≤ before + index → {p : ℕ} → p ≡ wordAt tab 1 row
+              → VariableJudged tab n others before first index row (Refused tooManyVariables p)
+          variable-many many e₁ = by-name false false at-last (le-ltb (before + index) variablesMost many) e₁
 
 tests-then : (o : Outcome (Unit {0})) (again few : Bool) (place : ℕ) (next : Outcome (Unit {0}))
     → (o >>= λ _. tests again few place next) ≡ ((o >>= λ _. tests again few place (accepted tt)) >>= λ _. next)

@@ -210,6 +210,20 @@ bucket-below (b ∷ t) h l = bucket-below t ((h * 31 + b) % 2048) (omega arith)
 abbrev FoundAt : (s tab : List ℕ) (n : ℕ) → List ℕ → Type 0
 FoundAt s tab n t = Reaches s tab n t (col tab 5 (bucketFrom 0 t))
 
+-- each name is found if those of the first rows still are and the new row's is
+found-each : (s : List ℕ) {tab tab′ : List ℕ} {n : ℕ} {r : TokenRow} → Chained s tab n → Becomes tab tab′ n r
+    → ((t : List ℕ) → FoundAt s tab n t → FoundAt s tab′ (n + 1) t) → (isName (r .kind) ≡ true → FoundAt s tab′ (n + 1) (textOf s r))
+    → (j : ℕ) → j < n + 1 → isName (col tab′ 0 j) ≡ true → FoundAt s tab′ (n + 1) (textAt s tab′ j)
+found-each s {tab} {tab′} {n} c m on new j hj q = elim (decLt j n) [
+  | yes l ↦
+      subst (FoundAt s tab′ (n + 1)) (sym (text-kept s (m .kept) j l))
+      (on (textAt s tab j) (c .found j l (sym (ap isName (m .kept .at 0 (λ e. omega arith) j l)) ∙ q)))
+  | no g ↦
+      let e : j ≡ n = omega arith in
+      subst (FoundAt s tab′ (n + 1)) (sym (ap (textAt s tab′) e ∙ new-text s m))
+      (new (sym (ap isName (m .kind)) ∙ ap (λ (i : ℕ). isName (col tab′ 0 i)) (sym e) ∙ q))
+]
+
 -- the heads stay: the row is no name, or a name whose text another row has
 module _ (s : List ℕ) {tab tab′ : List ℕ} {n : ℕ} {r : TokenRow} (c : Chained s tab n) (h : n < rows) (m : Becomes tab tab′ n r) (f : Fits s tab n r)
     (heads : (b : ℕ) → b < rows → col tab′ 5 b ≡ col tab 5 b) where
@@ -221,15 +235,7 @@ module _ (s : List ℕ) {tab tab′ : List ℕ} {n : ℕ} {r : TokenRow} (c : Ch
   chained-known k = record {
     filled = filled-more s m h f (c .filled);
     heads = λ b hb. subst (Link tab′ (n + 1)) (sym (heads b hb)) (link-more s m (c .heads b hb));
-    found = λ j hj q. elim (decLt j n) [
-      | yes l ↦
-          subst (FoundAt s tab′ (n + 1)) (sym (text-kept s (m .kept) j l))
-          (found-kept (c .found j l (sym (ap isName (m .kept .at 0 (λ e. omega arith) j l)) ∙ q)))
-      | no g ↦
-          let e : j ≡ n = omega arith in
-          subst (FoundAt s tab′ (n + 1)) (sym (ap (textAt s tab′) e ∙ new-text s m))
-          (found-kept (k (sym (ap isName (m .kind)) ∙ ap (λ (i : ℕ). isName (col tab′ 0 i)) (sym e) ∙ q)))
-    ];
+    found = found-each s c m (λ t. found-kept) (λ q. found-kept (k q));
   }
 
 -- the row is the new head of its bucket, and links to the old one
@@ -274,15 +280,7 @@ module _ (s : List ℕ) {tab tab₁ : List ℕ} {n : ℕ} {r : TokenRow} (c : Ch
       | yes e ↦ subst (Link tab₂ (n + 1)) (sym (ap (col tab₂ 5) e ∙ top)) new-head
       | no d ↦ subst (Link tab₂ (n + 1)) (sym (other-head a ha d)) (link-more s m₂ (c .heads a ha))
     ];
-    found = λ j hj q. elim (decLt j n) [
-      | yes l ↦
-          subst (FoundAt s tab₂ (n + 1)) (sym (text-kept s (m₂ .kept) j l))
-          (found-more (c .found j l (sym (ap isName (m₂ .kept .at 0 (λ e. omega arith) j l)) ∙ q)))
-      | no g ↦
-          let e : j ≡ n = omega arith in
-          subst (FoundAt s tab₂ (n + 1)) (sym (ap (textAt s tab₂) e))
-          (here n (omega arith) (ap (col tab₂ 5) (ap (bucketFrom 0) (new-text s m₂) ∙ sym is) ∙ top) refl)
-    ];
+    found = found-each s c m₂ (λ t. found-more) (λ q. here n (omega arith) (ap (col tab₂ 5) (sym is) ∙ top) (new-text s m₂));
   }
 
 -- ---- the row of a name

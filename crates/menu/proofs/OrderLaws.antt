@@ -402,6 +402,10 @@ child-is : (c : List ℕ) (k : Class) (ks : List Class) → isChild c k ≡ true
 unfolding childRows
 child-is c k ks e = rw e
 
+-- whether a class is a child, by its parent
+child-by : (c : List ℕ) (k : Class) {o : Option Name} → k .parent ≡ o → isChild c k ≡ option o false λ p. same c (p .text)
+child-by c k e = ap (λ (o : Option Name). option o false λ p. same c (p .text)) e
+
 -- a class may stand first just where it has no parent
 standing-root : (k : Class) (ks : List Class) (r : ℕ) → k .parent ≡ none → standing [] (k ∷ ks) r ≡ (eqb (nameRow k) r || standing [] ks r)
 unfolding standing mayStand among
@@ -424,10 +428,18 @@ module _ {ts : List Token} {c : ℕ} (few : length ts ≤ 2048) where
   a-parent none (no-name far) near = absurd (omega arith)
   a-parent (some p) h near = (p, refl)
 
+-- a class that the table does not hold
+nobody : {tab : List ℕ} {n : ℕ} {ts : List Token} {G : List Class} {x : List ℕ} {c parent : ℕ} → absent ≤ parent
+    → ClassAt tab n ts G (some x) c parent → classNamed G x ≡ none
+nobody far (no-class e far′) = e
+nobody far (a-class q e at near s sp) = absurd (omega arith)
+
 module _ {tab : List ℕ} {left row : ℕ} (more : left ≡ 0 → ⊥) (near : row < absent) {rest : ℕ} (e₆ : rest ≡ wordAt tab 6 row) {tree₀ first₀ tree first next : List ℕ}
     (g : Gathered tab (left - 1) rest tree₀ first₀ tree first next) {c : ℕ} (up : Above tab row c) where
   -- the class of the row, and what was gathered of the later ones
   record Later (n : ℕ) (ts : List Token) (G : List Class) (k : Class) (ks : List Class) : Type 0 where
+    table : Tabled tab n ts G
+    rises : All (λ (j : Class). nameRow k < nameRow j) ks
     here : nameRow k ≡ row
     kept : Keeps tree (standing [] ks)
     listed : ChildrenListed first next G ks
@@ -435,11 +447,13 @@ module _ {tab : List ℕ} {left row : ℕ} (more : left ≡ 0 → ⊥) (near : r
     few : length ts ≤ 2048
 
   later : Empty tree₀ first₀ → {n : ℕ} {ts : List Token} {G : List Class} → Tabled tab n ts G → {k : Class} {ks : List Class}
-      → ClassesAt tab n ts (k ∷ ks) left row → RowsRise ks → Later n ts G k ks
-  later e {n} {ts} {G} t {k} {ks} a rise =
+      → ClassesAt tab n ts (k ∷ ks) left row → RowsRise (k ∷ ks) → Later n ts G k ks
+  later e {n} {ts} {G} t {k} {ks} a (rising-more l rise) =
       let h = first-class (t .world .tokens) a in
       let q = g .says e n ts G t ks (h .rest e₆ more) rise in
       record {
+        table = t;
+        rises = l;
         here = h .here;
         kept = q .0;
         listed = q .1;
@@ -447,59 +461,56 @@ module _ {tab : List ℕ} {left row : ℕ} (more : left ≡ 0 → ⊥) (near : r
         few = omega (arith, t .world .tokens .count, t .world .tokens .few);
       }
 
-  pub gather-root : absent ≤ c → {tree′ : List ℕ} → Entered row tree tree′ → Gathered tab left row tree₀ first₀ tree′ first next
-  gather-root far {tree′} en = record { says = λ e n ts G t ks a rise. go e n ts G t ks a rise }
+  -- in a row of the table there is a first class
+  by-first : {tree′ first′ next′ : List ℕ}
+      → ((n : ℕ) (ts : List Token) (G : List Class) (k : Class) (ks : List Class) → Later n ts G k ks
+      → Keeps tree′ (standing [] (k ∷ ks)) × ChildrenListed first′ next′ G (k ∷ ks))
+      → Gathered tab left row tree₀ first₀ tree′ first′ next′
+  by-first {tree′} {first′} {next′} f = record { says = λ e n ts G t ks a rise. go e n ts G t ks a rise }
     where
       go : Empty tree₀ first₀ → (n : ℕ) (ts : List Token) (G : List Class) → Tabled tab n ts G → (ks : List Class)
           → ClassesAt tab n ts ks left row → RowsRise ks
-          → Keeps tree′ (standing [] ks) × ChildrenListed first next G ks
+          → Keeps tree′ (standing [] ks) × ChildrenListed first′ next′ G ks
       go e n ts G t [] a rise = absurd (omega (arith, a .here))
-      go e n ts G t (k ∷ ks) a (rising-more l s) =
-          let h = later e t a s in
-          let top = no-parent (h .few) (k .parent) (h .above) far in
-          let other : (d : List ℕ) → isChild d k ≡ false = λ d. ap (λ (o : Option Name). option o false λ p. same d (p .text)) top in (
-            keeps-same (λ r low. ap (λ (x : ℕ). eqb x r || standing [] ks r) (sym (h .here)) ∙ sym (standing-root k ks r top)) (en .says (standing [] ks) (h .kept)),
-            all-weaken (λ j x. rw (child-not (className j) k ks (other (className j))) x) (h .listed),
-          )
+      go e n ts G t (k ∷ ks) a rise = f n ts G k ks (later e t a rise)
+
+  pub gather-root : absent ≤ c → {tree′ : List ℕ} → Entered row tree tree′ → Gathered tab left row tree₀ first₀ tree′ first next
+  gather-root far en = by-first λ n ts G k ks h.
+      let top = no-parent (h .few) (k .parent) (h .above) far in
+      let stands : (r : ℕ) → (eqb row r || standing [] ks r) ≡ standing [] (k ∷ ks) r = λ r.
+      ap (λ (x : ℕ). eqb x r || standing [] ks r) (sym (h .here)) ∙ sym (standing-root k ks r top) in (
+        keeps-same (λ r low. stands r) (en .says (standing [] ks) (h .kept)),
+        all-weaken (λ j x. rw (child-not (className j) k ks (child-by (className j) k top)) x) (h .listed),
+      )
 
   module _ (low : c < absent) {parent : ℕ} (e₇ : parent ≡ wordAt tab 7 c) where
+    -- the first class has a parent, so it may not stand
+    by-child : {first′ next′ : List ℕ}
+        → ((n : ℕ) (ts : List Token) (G : List Class) (k : Class) (ks : List Class) → Later n ts G k ks
+        → (p : Name) → k .parent ≡ some p → ClassAt tab n ts G (some (p .text)) c parent → ChildrenListed first′ next′ G (k ∷ ks))
+        → Gathered tab left row tree₀ first₀ tree first′ next′
+    by-child f = by-first λ n ts G k ks h.
+        let p = a-parent (h .few) (k .parent) (h .above) low in
+        let named = subst (λ (o : Option Name). MaybeNumber ts (parentName o) c) (p .1) (h .above) in (
+          keeps-same (λ r here. sym (standing-child k ks r (p .1))) (h .kept),
+          f n ts G k ks h (p .0) (p .1) (class-at (h .table .world) (some (p .0 .text)) c parent named e₇),
+        )
+
     pub gather-unknown : absent ≤ parent → Gathered tab left row tree₀ first₀ tree first next
-    gather-unknown far = record { says = λ e n ts G t ks a rise. go e n ts G t ks a rise }
-      where
-        go : Empty tree₀ first₀ → (n : ℕ) (ts : List Token) (G : List Class) → Tabled tab n ts G → (ks : List Class)
-            → ClassesAt tab n ts ks left row → RowsRise ks
-            → Keeps tree (standing [] ks) × ChildrenListed first next G ks
-        go e n ts G t [] a rise = absurd (omega (arith, a .here))
-        go e n ts G t (k ∷ ks) a (rising-more l s) =
-            let h = later e t a s in
-            let p = a-parent (h .few) (k .parent) (h .above) low in
-            let unknown = nobody (p .0) (class-at (t .world) (some (p .0 .text)) c parent (subst (λ (o : Option Name). MaybeNumber ts (parentName o) c) (p .1) (h .above)) e₇) in
-            let other : (j : Class) → classNamed G (className j) ≡ some j → isChild (className j) k ≡ false = λ j own.
-            ap (λ (o : Option Name). option o false λ q. same (className j) (q .text)) (p .1)
-            ∙ apart-same (className j) (p .0 .text) (λ z. none-some unknown (ap (classNamed G) (sym z) ∙ own)) in (
-              keeps-same (λ r here. sym (standing-child k ks r (p .1))) (h .kept),
-              all-weaken (λ j x. rw (child-not (className j) k ks (other j (x .0))) (x .1)) (all-zip (t .own) (h .listed)),
-            )
-          where
-            nobody : (p : Name) → ClassAt tab n ts G (some (p .text)) c parent → classNamed G (p .text) ≡ none
-            nobody p (no-class e far) = e
-            nobody p (a-class q e at near s sp) = absurd (omega arith)
+    gather-unknown far = by-child λ n ts G k ks h p e at.
+        let other : (j : Class) → classNamed G (className j) ≡ some j → isChild (className j) k ≡ false = λ j own.
+        child-by (className j) k e ∙ apart-same (className j) (p .text) (λ z. none-some (nobody far at) (ap (classNamed G) (sym z) ∙ own)) in
+        all-weaken (λ j x. rw (child-not (className j) k ks (other j (x .0))) (x .1)) (all-zip (h .table .own) (h .listed))
 
     pub gather-child : parent < absent → {first′ next′ : List ℕ} → ChildJoined parent row first next first′ next′
         → Gathered tab left row tree₀ first₀ tree first′ next′
-    gather-child here {first′} {next′} put = record { says = λ e n ts G t ks a rise. go e n ts G t ks a rise }
+    gather-child here {first′} {next′} put = by-child go
       where
-        go : Empty tree₀ first₀ → (n : ℕ) (ts : List Token) (G : List Class) → Tabled tab n ts G → (ks : List Class)
-            → ClassesAt tab n ts ks left row → RowsRise ks
-            → Keeps tree (standing [] ks) × ChildrenListed first′ next′ G ks
-        go e n ts G t [] a rise = absurd (omega (arith, a .here))
-        go e n ts G t (k ∷ ks) a (rising-more l s) =
-            let h = later e t a s in
-            let p = a-parent (h .few) (k .parent) (h .above) low in
-            let at = class-at (t .world) (some (p .0 .text)) c parent (subst (λ (o : Option Name). MaybeNumber ts (parentName o) c) (p .1) (h .above)) e₇ in (
-              keeps-same (λ r here. sym (standing-child k ks r (p .1))) (h .kept),
-              all-weaken (λ j x. entry j (x .0) (x .1 .0) (x .1 .1) (h .here) (p .0) (p .1) at) (all-zip (all-stand (t .world .classes)) (all-zip (t .own) (h .listed))),
-            )
+        go : (n : ℕ) (ts : List Token) (G : List Class) (k : Class) (ks : List Class) → Later n ts G k ks → (p : Name)
+            → k .parent ≡ some p → ClassAt tab n ts G (some (p .text)) c parent → ChildrenListed first′ next′ G (k ∷ ks)
+        go n ts G k ks h p e at =
+            all-weaken (λ j x. entry j (x .0) (x .1 .0) (x .1 .1) (h .here) p e at)
+            (all-zip (all-stand (h .table .world .classes)) (all-zip (h .table .own) (h .listed)))
           where
             entry : (j : Class) → ClassHeld tab n ts j → classNamed G (className j) ≡ some j
                 → RowsLinked next (getD first (nameRow j) 0) (childRows (className j) ks) → nameRow k ≡ row
@@ -508,18 +519,23 @@ module _ {tab : List ℕ} {left row : ℕ} (more : left ≡ 0 → ⊥) (near : r
             entry j stands own old is p e (no-class nobody far) = absurd (omega arith)
             entry j stands own old is p e (a-class q found at near′ s sp) = rw (put .link, put .head) (by (ℕ-discrete (nameRow j) parent))
               where
+                kept : RowsLinked (set next row (getD first parent 0)) (getD first (nameRow j) 0) (childRows (className j) ks)
+                kept =
+                    let later = subst (λ (i : ℕ). All (λ (j : Class). i < nameRow j) ks) is (h .rises) in
+                    linked-kept row (getD first parent 0) (child-later (className j) row ks later) old
+
                 by : Dec (nameRow j ≡ parent)
                     → RowsLinked (set next row (getD first parent 0)) (getD (set first parent row) (nameRow j) 0) (childRows (className j) (k ∷ ks))
                 by (yes z) =
                     let name : className j ≡ p .text = one-text stands s (z ∙ sym at) ∙ class-name G (p .text) found in
-                    let child : isChild (className j) k ≡ true = ap (λ (o : Option Name). option o false λ q. same (className j) (q .text)) e ∙ same-of name in
-                    let first-is : getD (set first parent row) (nameRow j) 0 ≡ nameRow k = ap (λ (i : ℕ). getD (set first parent row) i 0) z ∙ getD-set-same first parent row 0 (put .is-parent) ∙ sym is in
+                    let child : isChild (className j) k ≡ true = child-by (className j) k e ∙ same-of name in
+                    let first-is : getD (set first parent row) (nameRow j) 0 ≡ nameRow k =
+                    ap (λ (i : ℕ). getD (set first parent row) i 0) z ∙ getD-set-same first parent row 0 (put .is-parent) ∙ sym is in
                     let link : getD (set next row (getD first parent 0)) (nameRow k) 0 ≡ getD first (nameRow j) 0 =
-                    ap (λ (i : ℕ). getD (set next row (getD first parent 0)) i 0) is ∙ getD-set-same next row (getD first parent 0) 0 (put .is-row) ∙ ap (λ (i : ℕ). getD first i 0) (sym z) in
-                    rw (child-is (className j) k ks child, first-is) (linked-more {row = nameRow k} (omega (arith, is)) link (linked-kept row (getD first parent 0) (child-later (className j) row ks (subst (λ (i : ℕ). All (λ (j : Class). i < nameRow j) ks) is l)) old))
+                    ap (λ (i : ℕ). getD (set next row (getD first parent 0)) i 0) is
+                    ∙ getD-set-same next row (getD first parent 0) 0 (put .is-row) ∙ ap (λ (i : ℕ). getD first i 0) (sym z) in
+                    rw (child-is (className j) k ks child, first-is) (linked-more {row = nameRow k} (omega (arith, is)) link kept)
                 by (no other) =
                     let child : isChild (className j) k ≡ false =
-                    ap (λ (o : Option Name). option o false λ q. same (className j) (q .text)) e
-                    ∙ apart-same (className j) (p .text) (λ z. other (ap nameRow (one-class G own found z) ∙ at)) in
-                    rw (child-not (className j) k ks child, getD-set-other first parent (nameRow j) row 0 other)
-                    (linked-kept row (getD first parent 0) (child-later (className j) row ks (subst (λ (i : ℕ). All (λ (j : Class). i < nameRow j) ks) is l)) old)
+                    child-by (className j) k e ∙ apart-same (className j) (p .text) (λ z. other (ap nameRow (one-class G own found z) ∙ at)) in
+                    rw (child-not (className j) k ks child, getD-set-other first parent (nameRow j) row 0 other) kept

@@ -246,9 +246,4 @@ module _ {n i k : ℕ} {T : List ℕ} (ek : k ≡ kindInTable T n i) where
 
   pub to-postfix : {T₁ : List ℕ} {r : Answer} → k ≢ 29 → ModePost postfix n n i T r T₁ → ModePost unary n n i T r T₁
   unfolding step
-  to-postfix q p =
-      record {
-        kept = p .kept;
-        within = p .within;
-        says = λ ts h. stepped unary ts i (fuel unary n i) (λ f enough. rw (is-not h i ek q) (p .says ts h f (omega arith)));
-      }
+  to-postfix q p = as-mode (omega arith) (omega arith) (λ f ts h. rw (is-not h i ek q) refl) (of-mode (fuel postfix n i) (omega arith) p)

@@ -4,6 +4,7 @@ pub mod Laws
 pub mod Types
 pub mod Cycles
 pub mod Pieces
+pub mod Lists
 pub mod Expressions
 pub mod Matched
 pub mod Heads

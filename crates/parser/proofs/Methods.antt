@@ -1,8 +1,8 @@
 -- What each return of the functions on methods, classes and the program shows: from what the callees ensure and the kinds of the tokens read, what the
 -- function ensures.
-use Prim.Native.Nat.{ℕ, _+_, _*_, _-_, _≤_, _<_}
+use Prim.Native.Nat.{ℕ, suc, _+_, _*_, _-_, _≤_, _<_}
 use mathlib.Core.Path.{_≡_, refl, sym, ap, _∙_, subst}
-use mathlib.Core.List.{List, _∷_}
+use mathlib.Core.List.{List, [], _∷_}
 use mathlib.Core.Logic.{_≢_}
 use mathlib.Core.Bool.{Bool, true, false}
 use native.Mathlib.Omega.{arith}
@@ -21,16 +21,17 @@ use Rattle.parser.specs.Parse.{methodFrom, methodsFrom, parentFrom, clas
 use Rattle.parser.specs.contracts.Layout.{given, rowOf, store, headOf, rowVariables, storeVariable, storeVariables, methodRow}
 use Rattle.parser.specs.contracts.Layout.{storeMethod, rowMethods, storeMethods, rowParent, classRow, storeClass, rowClasses}
 use Rattle.parser.specs.contracts.Layout.{storeClasses, storeProgram}
-use Rattle.parser.specs.contracts.Post.{kindInTable, TokensIn, part, Met, met-ok, met-bad, Within, ModePost, ListPost, levelAt}
+use Rattle.parser.specs.contracts.Post.{kindInTable, TokensIn, Stored, part, Met, met-ok, met-bad, Within, ModePost, ListPost, levelAt}
 use Rattle.parser.specs.contracts.Post.{matchedIn}
 use Rattle.parser.specs.contracts.DeclarationPost.{aVariable, formals, aMethod, methodList, aParent, aClass, classList}
 use Rattle.parser.specs.contracts.DeclarationPost.{declarationStored, DeclPost, OpenedPost, LocalsPost, BodyPost, ReturnedPost}
 use Rattle.parser.specs.contracts.DeclarationPost.{MembersPost, ClassMethodsPost, ProgramPost, EndsThere}
 use Rattle.parser.specs.contracts.Parts.{Follows, present, missing, nothing, ListOf, PiecePost}
-use Rattle.parser.proofs.Pieces.{andToken, regroup, regroup-two, follows-ok, then-token, then-bad, then-on, then-list, of-mode}
-use Rattle.parser.proofs.Pieces.{of-list, of-declaration, as-declaration, as-declarations}
-use Rattle.parser.proofs.Laws.{there, tokens-kept, given-put, is, is-not, passes, at-result, bind-ok, bind-bad, at-suc, within-ok}
+use Rattle.parser.proofs.Pieces.{andToken, regroup, regroup-two, follows-ok, then-token, then-bad, then-on, of-mode}
+use Rattle.parser.proofs.Pieces.{of-list, of-declaration, as-declaration}
+use Rattle.parser.proofs.Laws.{there, tokens-kept, given-put, is, is-not, passes, at-result, bind-ok, bind-bad, within-ok}
 use Rattle.parser.proofs.Laws.{within-more, plus-two}
+use Rattle.parser.proofs.Lists.{list-end, list-bad, list-more}
 use Rattle.parser.proofs.Postfix.{name-there}
 use Rattle.parser.proofs.Matched.{all-matched, not-matched}
 
@@ -123,24 +124,44 @@ headed {A} {B} ts q j k g = go (eqb (kindAt ts j) q)
     go true = refl
     go false = refl
 
-module _ {n name first j : ℕ} {T T₁ : List ℕ} {r₁ : Answer} (p : OpenedPost false n j T r₁ T₁) where
+-- `{`, variables, and what goes on after them
+pub opened-ends : {c : Bool} {n j x m : ℕ} {T T₁ : List ℕ} {r : Answer} → OpenedPost c n j T r T₁ → r ≡ At x m
+    → (j + 1 ≤ m) × (m ≤ n) × (x < 2049)
+opened-ends p e = within-ok e (p .piece .within)
+
+module _ {c : Bool} {n j : ℕ} {T T₁ : List ℕ} {r₁ : Answer} (few : n ≤ 2048) (p : OpenedPost c n j T r₁ T₁) where
+  opened-bad : {B : Type 0} {S : Stored B} {y : ℕ} {base : List ℕ} {ts : List Token} {f : ℕ} (g : List Variable → ℕ → Parsed B) → r₁ ≡ Bad y
+      → TokensIn T n ts
+      → 16 * (n - j) < f → Met S base T₁ (Bad y) (expect ts 38 j λ j. bind (variablesFrom f c ts j) g)
+  opened-bad {ts = ts} {f} g e h en = at-result (headed ts 38 j (variablesFrom f c ts) g) (bind-bad g e (p .piece .says ts h f en))
+
+  module _ {x m : ℕ} (e : r₁ ≡ At x m) where
+    opened-within : (r : Answer) → Within (m + 1) n n r → Within (j + 1) n n r
+    opened-within r v = let w = opened-ends p e in within-more (m + 1) (j + 1) n n n r (omega arith) (omega arith) v
+
+    opened-on : {B : Type 0} {S : Stored B} {r : Answer} {base T₂ : List ℕ} {ts : List Token} {f : ℕ} (g : List Variable → ℕ → Parsed B)
+        → TokensIn T n ts
+        → 16 * (n - j) < f
+        → ((vs : List Variable) → x ≡ rowVariables vs → T₁ ≡ storeVariables vs T → TokensIn T₁ n ts → 16 * (n - m) + 3 < f
+        → Met S base T₂ r (g vs m))
+        → Met S base T₂ r (expect ts 38 j λ j. bind (variablesFrom f c ts j) g)
+    opened-on {ts = ts} {f} g h en on =
+        let w = opened-ends p e in
+        at-result (headed ts 38 j (variablesFrom f c ts) g)
+        (bind-ok g e (p .piece .says ts h f en) (λ vs ea ta. on vs ea ta (tokens-kept few (p .piece .kept) h) (omega arith)))
+
+module _ {n name first j : ℕ} {T T₁ : List ℕ} {r₁ : Answer} (few : n ≤ 2048) (p : OpenedPost false n j T r₁ T₁) where
   pub locals-bad : {y : ℕ} → r₁ ≡ Bad y → LocalsPost n name first j T (Bad y) T₁
   locals-bad e =
-      record {
-        kept = p .piece .kept;
-        within = tt;
-        says = λ hd ps base _ _ _ ts h f en. at-result (headed ts 38 j (variablesFrom f false ts) (bodyFrom f ts hd ps)) (bind-bad _ e (p .piece .says ts h f en));
-      }
+      record { kept = p .piece .kept; within = tt; says = λ hd ps base _ _ _ ts h f en. opened-bad few p (bodyFrom f ts hd ps) e h en }
 
-  pub locals-ok : {x m : ℕ} {T₂ : List ℕ} {r : Answer} → n ≤ 2048 → r₁ ≡ At x m → BodyPost n name first x m T₁ r T₂
-      → LocalsPost n name first j T r T₂
-  locals-ok {x} {m} {r = r} few e q =
-      let w = within-ok e (p .piece .within) in
+  pub locals-ok : {x m : ℕ} {T₂ : List ℕ} {r : Answer} → r₁ ≡ At x m → BodyPost n name first x m T₁ r T₂ → LocalsPost n name first j T r T₂
+  locals-ok {r = r} e q =
       record {
         kept = q .kept ∙ p .piece .kept;
-        within = within-more (m + 1) (j + 1) n n n r (omega arith) (omega arith) (q .within);
-        says = λ hd ps base en ep et ts h f enough. at-result (headed ts 38 j (variablesFrom f false ts) (bodyFrom f ts hd ps)) (bind-ok _ e (p .piece .says ts h f enough)
-            (λ a ea ta. q .says hd ps a base en ep ea (ta ∙ ap (storeVariables a) et) ts (tokens-kept few (p .piece .kept) h) f (omega arith)));
+        within = opened-within few p e r (q .within);
+        says = λ hd ps base en ep et ts h f enough. opened-on few p e (bodyFrom f ts hd ps) h enough
+            (λ a ea ta h′ l. q .says hd ps a base en ep ea (ta ∙ ap (storeVariables a) et) ts h′ f (omega arith));
       }
 
 -- METHODS
@@ -201,32 +222,27 @@ is-more-methods : (m : Method) (ms : List Method) (t : List ℕ)
 unfolding storeMethods
 is-more-methods m ms t = (refl, refl)
 
+more-methods : (T : List ℕ) (n i : ℕ) → kindInTable T n i ≡ 15 → (f : ℕ) (ts : List Token) → TokensIn T n ts
+    → methodsFrom (suc f) ts i ≡ bind (methodFrom f ts i) λ m j. bind (methodsFrom f ts j) λ ms j. ok (m ∷ ms) j
+unfolding methodsFrom
+more-methods T n i z f ts h = rw (is h i refl z) refl
+
 module _ {n i k : ℕ} {T : List ℕ} (ek : k ≡ kindInTable T n i) where
   pub methods-end : i ≤ n → k ≢ 15 → DeclPost methodList n i T (At 2048 i) T
   unfolding methodsFrom storeMethods
-  methods-end le z =
-      record {
-        kept = refl;
-        within = (omega arith, le, omega arith);
-        says = λ ts h. at-suc (λ f. methodsFrom f ts i) (λ f enough. rw (is-not h i ek z) (met-ok refl refl));
-      }
+  methods-end le z = list-end methodList [] (omega arith) le (omega arith) refl refl (λ f ts h. rw (is-not h i ek z) refl)
 
   module _ {T₁ : List ℕ} {r₁ : Answer} (few : n ≤ 2048) (z : k ≡ 15) (p : DeclPost aMethod n i T r₁ T₁) where
     pub methods-bad : {y : ℕ} → r₁ ≡ Bad y → DeclPost methodList n i T (Bad y) T₁
-    unfolding methodsFrom
     methods-bad e =
-        as-declarations (omega arith)
-        (then-bad few (of-declaration (16 * (n - i) + 2) (omega arith) p) i 2049 (λ f ts m j. bind (methodsFrom f ts j) λ ms j. ok (m ∷ ms) j) e)
-        (omega arith) (λ f ts h. rw (is h i ek z) refl)
+        list-bad methodList i _∷_ few (of-declaration (16 * (n - i) + 2) (omega arith) p) (omega arith) (more-methods T n i (sym ek ∙ z)) e
 
     pub methods-more : {x j : ℕ} {T₂ T₃ : List ℕ} {r₂ r : Answer} → r₁ ≡ At x j → DeclPost methodList n j T₁ r₂ T₂ → ListOf x T₂ r₂ r T₃
         → DeclPost methodList n i T r T₃
-    unfolding methodsFrom
     methods-more e q l =
-        let w = within-ok e (p .within) in
-        as-declarations (omega arith)
-        (then-list few (of-declaration (16 * (n - i) + 2) (omega arith) p) _∷_ is-more-methods (λ f ts j. methodsFrom f ts j) (omega arith) (w .0) e
-        (of-declaration (16 * (n - i) + 2) (omega arith) q) l) (omega arith) (λ f ts h. rw (is h i ek z) refl)
+        list-more methodList i _∷_ few (of-declaration (16 * (n - i) + 2) (omega arith) p) (omega arith) (more-methods T n i (sym ek ∙ z))
+        is-more-methods (λ m. refl)
+        (omega arith) (omega arith) (omega arith) (omega arith) e q l
 
 -- CLASSES
 module _ {n i k : ℕ} {T : List ℕ} (ek : k ≡ kindInTable T n i) where
@@ -277,24 +293,23 @@ module _ {n name above first j : ℕ} {T T₁ : List ℕ} {r₁ r₂ : Answer} (
             (eT ∙ cc (is-class (record { name = nameAt ts name; parent = q; fields = fs; methods = a }) base))));
       }
 
-module _ {n name above j : ℕ} {T T₁ : List ℕ} {r₁ : Answer} (p : OpenedPost true n j T r₁ T₁) where
+module _ {n name above j : ℕ} {T T₁ : List ℕ} {r₁ : Answer} (few : n ≤ 2048) (p : OpenedPost true n j T r₁ T₁) where
   pub members-bad : {y : ℕ} → r₁ ≡ Bad y → MembersPost n name above j T (Bad y) T₁
   members-bad e =
       record {
         kept = p .piece .kept;
         within = tt;
-        says = λ q _ ts h f en. at-result (headed ts 38 j (variablesFrom f true ts) (classMethodsFrom f ts (nameAt ts name) q)) (bind-bad _ e (p .piece .says ts h f en));
+        says = λ q _ ts h f en. opened-bad few p (classMethodsFrom f ts (nameAt ts name) q) e h en;
       }
 
-  pub members-ok : {x m : ℕ} {T₂ : List ℕ} {r : Answer} → n ≤ 2048 → r₁ ≡ At x m → ClassMethodsPost n name above x m T₁ r T₂
+  pub members-ok : {x m : ℕ} {T₂ : List ℕ} {r : Answer} → r₁ ≡ At x m → ClassMethodsPost n name above x m T₁ r T₂
       → MembersPost n name above j T r T₂
-  members-ok {x} {m} {r = r} few e s =
-      let w = within-ok e (p .piece .within) in
+  members-ok {r = r} e s =
       record {
         kept = s .kept ∙ p .piece .kept;
-        within = within-more (m + 1) (j + 1) n n n r (omega arith) (omega arith) (s .within);
-        says = λ q eq ts h f enough. at-result (headed ts 38 j (variablesFrom f true ts) (classMethodsFrom f ts (nameAt ts name) q))
-            (bind-ok _ e (p .piece .says ts h f enough) (λ a ea ta. s .says q a T eq ea ta ts (tokens-kept few (p .piece .kept) h) f (omega arith)));
+        within = opened-within few p e r (s .within);
+        says = λ q eq ts h f enough. opened-on few p e (classMethodsFrom f ts (nameAt ts name) q) h enough
+            (λ a ea ta h′ l. s .says q a T eq ea ta ts h′ f l);
       }
 
 module _ {n i k : ℕ} {T : List ℕ} (ek : k ≡ kindInTable T n i) where
@@ -336,32 +351,28 @@ is-more-classes : (k : Class) (ks : List Class) (t : List ℕ)
 unfolding storeClasses
 is-more-classes k ks t = (refl, refl)
 
+more-classes : (T : List ℕ) (n i : ℕ) → kindInTable T n i ≢ 0 → (f : ℕ) (ts : List Token) → TokensIn T n ts
+    → classesFrom (suc f) ts i ≡ bind (classFrom f ts i) λ c j. bind (classesFrom f ts j) λ cs j. ok (c ∷ cs) j
+unfolding classesFrom
+more-classes T n i z f ts h = rw (is-not h i refl z) refl
+
 module _ {n i k : ℕ} {T : List ℕ} (ek : k ≡ kindInTable T n i) where
   pub classes-end : i ≤ n → k ≡ 0 → DeclPost classList n i T (At 2048 i) T
   unfolding classesFrom storeClasses
-  classes-end le z =
-      record {
-        kept = refl;
-        within = (omega arith, le, omega arith);
-        says = λ ts h. at-suc (λ f. classesFrom f ts i) (λ f enough. rw (is h i ek z) (met-ok refl refl));
-      }
+  classes-end le z = list-end classList [] (omega arith) le (omega arith) refl refl (λ f ts h. rw (is h i ek z) refl)
 
   module _ {T₁ : List ℕ} {r₁ : Answer} (few : n ≤ 2048) (z : k ≢ 0) (p : DeclPost aClass n i T r₁ T₁) where
     pub classes-bad : {y : ℕ} → r₁ ≡ Bad y → DeclPost classList n i T (Bad y) T₁
-    unfolding classesFrom
     classes-bad e =
-        as-declarations (omega arith)
-        (then-bad few (of-declaration (16 * (n - i) + 3) (omega arith) p) i 2049 (λ f ts c j. bind (classesFrom f ts j) λ cs j. ok (c ∷ cs) j) e)
-        (omega arith) (λ f ts h. rw (is-not h i ek z) refl)
+        list-bad classList i _∷_ few (of-declaration (16 * (n - i) + 3) (omega arith) p) (omega arith)
+        (more-classes T n i (λ w. z (ek ∙ w))) e
 
     pub classes-more : {x j : ℕ} {T₂ T₃ : List ℕ} {r₂ r : Answer} → r₁ ≡ At x j → DeclPost classList n j T₁ r₂ T₂ → ListOf x T₂ r₂ r T₃
         → DeclPost classList n i T r T₃
-    unfolding classesFrom
     classes-more e q l =
-        let w = within-ok e (p .within) in
-        as-declarations (omega arith)
-        (then-list few (of-declaration (16 * (n - i) + 3) (omega arith) p) _∷_ is-more-classes (λ f ts j. classesFrom f ts j) (omega arith) (w .0) e
-        (of-declaration (16 * (n - i) + 3) (omega arith) q) l) (omega arith) (λ f ts h. rw (is-not h i ek z) refl)
+        list-more classList i _∷_ few (of-declaration (16 * (n - i) + 3) (omega arith) p) (omega arith)
+        (more-classes T n i (λ w. z (ek ∙ w))) is-more-classes (λ m. refl)
+        (omega arith) (omega arith) (omega arith) (omega arith) e q l
 
 -- THE PROGRAM
 is-program : (p : Program) (t : List ℕ)

@@ -45,6 +45,17 @@ module _ (row : ℕ) (write : ℕ → List ℕ) {T : List ℕ} {a : Answer} wher
   pub whole-refused : {k : ℕ} → a ≡ Bad k → WholeOf row write T a (Bad k) T
   whole-refused e = rw e refused
 
+-- a list, and nodes of one and two parts
+module _ {row : ℕ} {T T₁ : List ℕ} {a : Answer} {x j : ℕ} (e : a ≡ At x j) where
+  pub list-done : T₁ ≡ put T 6 row x → ListOf row T a (At row j) T₁
+  list-done eT = whole-done row (λ x. put T 6 row x) e eT
+
+  pub one-part-done : T₁ ≡ node T row (col T 1 row) x absent → OnePart row T a (At row j) T₁
+  one-part-done eT = whole-done row (λ x. node T row (col T 1 row) x absent) e eT
+
+  pub two-parts-done : (first left : ℕ) → T₁ ≡ node T row (col T 1 first) left x → TwoParts row first left T a (At row j) T₁
+  two-parts-done first left eT = whole-done row (λ x. node T row (col T 1 first) left x) e eT
+
 pub fits-at : {a : Answer} {x j : ℕ} → a ≡ At x j → RowFits a → x ≤ 2048
 fits-at e h = subst RowFits e h
 
@@ -92,6 +103,13 @@ follows-within low n top nothing pos w = tt
 pub follows-ok : {low n top x j : ℕ} {T : List ℕ} {q : ℕ} {r r′ : Answer} → r′ ≡ At x j → Follows T n q r r′ → 0 < q → Within low n top r
     → (low < j) × (j ≤ n) × (x < top)
 follows-ok {low} {n} {top} e s pos w = let v = within-ok e (follows-within low n top s pos w) in (omega (arith, v), v .1, v .2)
+
+pub two-follow : {low n top x j : ℕ} {T : List ℕ} {q q′ : ℕ} {r r′ r″ : Answer} → r″ ≡ At x j → Follows T n q r r′ → Follows T n q′ r′ r″
+    → 0 < q
+    → 0 < q′
+    → Within low n top r → (suc low < j) × (j ≤ n) × (x < top)
+two-follow {low} {n} {top} e s s₂ pos pos′ w =
+    let v = follows-ok e s₂ pos′ (follows-within low n top s pos w) in (omega (arith, v .0), v .1, v .2)
 
 pub follows-fits : {T : List ℕ} {n q : ℕ} {r r′ : Answer} → Follows T n q r r′ → RowFits r → RowFits r′
 follows-fits (present e) f = f
@@ -157,14 +175,14 @@ module _ {A : Type 0} {S : Stored A} {P : ℕ → List Token → Parsed A} {enou
   -- a list whose first member it is; R is the definition of the rest
   pub then-list : {B : Type 0} {L : Stored B} (cons : A → B → B)
       → ((a : A) (b : B) (t : List ℕ) → (S .row a ≡ L .row (cons a b)) × (put (L .write b (S .write a t)) 6 (S .row a) (L .row b) ≡ L .write (cons a b) t))
-      → {x j low₂ : ℕ} {r₂ r′ : Answer} {T₂ T₃ : List ℕ} (R : ℕ → List Token → ℕ → Parsed B) → top ≤ 2049 → low ≤ low₂ → r ≡ At x j
-      → PiecePost L (λ f ts. R f ts j) enough low₂ n 2049 T₁ r₂ T₂ → ListOf x T₂ r₂ r′ T₃
-      → PiecePost L (λ f ts. bind (P f ts) λ a j. bind (R f ts j) λ b j. ok (cons a b) j) enough low n 2049 T r′ T₃
-  then-list {L = L} cons is-cons {x} {j} {low₂} {r₂} {r′} {T₂} {T₃} R high le e q s =
+      → {x j low₂ top₂ : ℕ} {r₂ r′ : Answer} {T₂ T₃ : List ℕ} (R : ℕ → List Token → ℕ → Parsed B) → top ≤ top₂ → low ≤ low₂ → r ≡ At x j
+      → PiecePost L (λ f ts. R f ts j) enough low₂ n top₂ T₁ r₂ T₂ → ListOf x T₂ r₂ r′ T₃
+      → PiecePost L (λ f ts. bind (P f ts) λ a j. bind (R f ts j) λ b j. ok (cons a b) j) enough low n top₂ T r′ T₃
+  then-list {L = L} cons is-cons {x} {j} {low₂} {top₂} {r₂} {r′} {T₂} {T₃} R high le e q s =
       let w = within-ok e (p .within) in
       then-on (λ f ts a j. bind (R f ts j) λ b j. ok (cons a b) j) e
       (whole-kept (λ y. given-put T₂ 6 x y (omega arith)) s ∙ q .kept)
-      (whole-within low₂ low n 2049 2049 le (omega arith) s (q .within))
+      (whole-within low₂ low n top₂ top₂ le (omega arith) s (q .within))
       (λ ts h f en a ea ta. whole-met (cons a)
       (λ b tb. let m = is-cons a b T in (ea ∙ m .0, rw (ea, tb, ta) (m .1))) s (q .says ts h f en))
 

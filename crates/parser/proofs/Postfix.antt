@@ -482,11 +482,7 @@ module _ {n i k : ℕ} {T : List ℕ} (ek : k ≡ kindInTable T n i) where
   pub arguments-some : {T₁ : List ℕ} {r : Answer} → k ≢ 35 → ModePost someArguments n 2049 i T r T₁ → ModePost argumentList n 2049 i T r T₁
   unfolding step
   arguments-some z p =
-      record {
-        kept = p .kept;
-        within = p .within;
-        says = λ ts h. stepped argumentList ts i (fuel argumentList n i) (λ f enough. rw (is-not h i ek z) (p .says ts h f (omega arith)));
-      }
+      as-mode (omega arith) (omega arith) (λ f ts h. rw (is-not h i ek z) refl) (of-mode (fuel someArguments n i) (omega arith) p)
 
 module _ (i : ℕ) where
   abbrev rest : ℕ → List Token → ℕ → Parsed (Part arguments)

@@ -116,6 +116,11 @@ while-steps : (i f : ℕ) (ts : List Token) → kindAt ts i ≡ 23
 unfolding step
 while-steps i f ts e = rw e (tested i f ts (repeatedFrom ts (λ s m j. parseAs f ts m j) i))
 
+-- the bounds where a test was read
+pub after-test : {n i q x j : ℕ} {T T₁ : List ℕ} {r : Answer} → kindInTable T n i ≡ q → 0 < q → TestPost n i T r T₁ → r ≡ At x j
+    → (i < n) × (i + 1 ≤ j) × (j ≤ n) × (x < n)
+after-test {n} {i} {q} {T = T} z pos p e = let w = within-ok e (p .piece .within) in (there T n i _ q refl z pos, w .0, w .1, w .2)
+
 module _ {n i : ℕ} {T T₁ : List ℕ} {r₁ : Answer} (few : n ≤ 2048) (p : TestPost n i T r₁ T₁) where
   pub conditional-bad : {y : ℕ} → kindInTable T n i ≡ 10 → r₁ ≡ Bad y → ModePost aStatement n n i T (Bad y) T₁
   conditional-bad z e = test-bad few z (omega arith) p (λ f ts. branchesFrom ts (λ s m j. parseAs f ts m j) i) (conditional-steps i) e

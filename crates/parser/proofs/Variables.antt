@@ -21,9 +21,10 @@ use Rattle.parser.specs.contracts.Post.{kindInTable, TokensIn, met-ok, m
 use Rattle.parser.specs.contracts.DeclarationPost.{declarationStored, OpenedPost, aType, aVariable, variableList, parameterList}
 use Rattle.parser.specs.contracts.DeclarationPost.{formals, DeclPost, followsType, startsVariable}
 use Rattle.parser.specs.contracts.Parts.{Follows, ListOf, PiecePost}
-use Rattle.parser.proofs.Pieces.{andToken, regroup, member, then-token, then-bad, then-list, last-member, no-member, more-members}
+use Rattle.parser.proofs.Pieces.{andToken, regroup, member, then-token, then-bad, last-member, no-member, more-members}
 use Rattle.parser.proofs.Pieces.{of-declaration, as-declarations, as-piece}
-use Rattle.parser.proofs.Laws.{there, given-put, is, is-not, passes, bind-ok, bind-bad, at-suc, within-ok, plus-three}
+use Rattle.parser.proofs.Laws.{there, given-put, is, is-not, passes, bind-ok, bind-bad, within-ok, plus-three}
+use Rattle.parser.proofs.Lists.{list-end, list-bad, list-more}
 use Rattle.parser.proofs.Postfix.{name-there}
 use Rattle.parser.proofs.Types.{ElementRead, element-read, element-not, type-there}
 
@@ -152,27 +153,21 @@ module _ {n i : ℕ} {T : List ℕ} {c : Bool} where
   pub variables-end : {b : Bool} → i ≤ n → b ≡ startsVariable T c n i → b ≡ false → DeclPost (variableList c) n i T (At 2048 i) T
   unfolding variablesFrom
   variables-end le eb t =
-      record {
-        kept = refl;
-        within = (omega arith, le, omega arith);
-        says = λ ts h. at-suc (λ f. variablesFrom f c ts i) (λ f enough. rw (begins T c n i h ∙ sym eb ∙ t) (met-ok refl (sym (is-none T .1))));
-      }
+      list-end (variableList c) [] (omega arith) le (omega arith) refl (sym (is-none T .1))
+      (λ f ts h. rw (begins T c n i h ∙ sym eb ∙ t) refl)
 
   module _ {T₁ : List ℕ} {r₁ r₂ : Answer} {b : Bool} (few : n ≤ 2048) (eb : b ≡ startsVariable T c n i) (t : b ≡ true)
       (p : DeclPost aVariable n i T r₁ T₁) (s : Follows T₁ n 33 r₁ r₂) where
     pub variables-bad : {y : ℕ} → r₂ ≡ Bad y → DeclPost (variableList c) n i T (Bad y) T₁
-    variables-bad e =
-        as-declarations (omega arith) (then-bad few (first-variable few p s) i 2049 (λ f ts v j. bind (variablesFrom f c ts j) λ vs j. ok (v ∷ vs) j) e)
-        (omega arith) (more-variables T c n i (sym eb ∙ t))
+    variables-bad e = list-bad (variableList c) i _∷_ few (first-variable few p s) (omega arith) (more-variables T c n i (sym eb ∙ t)) e
 
     pub variables-more : {x j : ℕ} {T₂ T₃ : List ℕ} {r₃ r : Answer} → r₂ ≡ At x j → DeclPost (variableList c) n j T₁ r₃ T₂
         → ListOf x T₂ r₃ r T₃
         → DeclPost (variableList c) n i T r T₃
     variables-more e q l =
-        let w = within-ok e (first-variable few p s .within) in
-        as-declarations (omega arith)
-        (then-list few (first-variable few p s) _∷_ is-more (λ f ts j. variablesFrom f c ts j) (omega arith) (omega arith) e
-        (of-declaration (16 * (n - i)) (omega arith) q) l) (omega arith) (more-variables T c n i (sym eb ∙ t))
+        list-more (variableList c) i _∷_ few (first-variable few p s) (omega arith) (more-variables T c n i (sym eb ∙ t)) is-more
+        (λ m. refl)
+        (omega arith) (omega arith) (omega arith) (omega arith) e q l
 
 -- `{` and variables
 module _ {c : Bool} {n j k : ℕ} {T : List ℕ} (ek : k ≡ kindInTable T n j) where

@@ -8,8 +8,10 @@ use lib.ListN.{length}
 use Rattle.base.specs.Outcome.{_>>=_}
 use Rattle.base.specs.contracts.Table.{col}
 use Rattle.lexer.specs.Tokens.{Token}
-use Rattle.parser.specs.Tree.{Method, Class, Program}
-use Rattle.parser.specs.contracts.Layout.{absent, rowVariables, rowMethods, rowClasses}
+use Rattle.parser.specs.Tree.{Sort, Part, Method, Class, Program}
+use Rattle.parser.specs.contracts.Layout.{absent, rowOf, rowMethods, rowClasses}
+use Rattle.reader.specs.contracts.Holds.{Holds}
+use Rattle.reader.specs.contracts.Matches.{Matches}
 use Rattle.reader.specs.contracts.Spans.{Spans}
 use Rattle.typesystem.specs.ClassTable.{Context, mainContext, contextOf, textOf}
 use Rattle.typesystem.specs.Judge.{judge, must}
@@ -25,19 +27,37 @@ use Rattle.lookup.specs.contracts.Answers.{asJudged, goes-on, stops}
 use Rattle.declarations.specs.contracts.Judgements.{VariablesJudged}
 use Rattle.declarations.specs.contracts.Indexing.{Ready}
 use Rattle.bodies.specs.declared.scope.Scope.{Scope}
-use Rattle.bodies.specs.contracts.Scoping.{InScope}
+use Rattle.bodies.specs.contracts.Scoping.{InScope, PartIn}
 use Rattle.bodies.specs.contracts.ExpressionPost.{OperandPost}
 use Rattle.bodies.specs.contracts.StatementPost.{StatementPost, ListPost}
 use Rattle.typecheck.specs.contracts.MethodPost.{CarriedJudged, BodyJudged, MethodsJudged, ClassJudged, ClassesJudged, BodiesJudged}
 
--- STATEMENTS AND RETURN EXPRESSION
+-- ROWS
 
--- what a column of the row after a method's name leads to
-led : {tab : List ℕ} {n : ℕ} {ts : List Token} → Lexemes tab n ts → {m : Method} {row : ℕ} → m .name .row ≡ row → MethodHeld tab n ts m
-    → (k : ℕ) {v w : ℕ} → col tab k (m .name .row + 1) ≡ v → w ≡ wordAt tab k (row + 1) → v ≡ w
-led {tab} lx {m} at st k e d =
-    sym (word-in tab k (m .name .row + 1) (row-there lx (m .name .row + 1) (st .after .there)) e)
-    ∙ ap (λ (i : ℕ). wordAt tab k (i + 1)) at ∙ sym d
+-- what a column of a row leads to
+leads : {tab : List ℕ} {n : ℕ} {ts : List Token} → Lexemes tab n ts → {i row : ℕ} → i ≡ row → i < length ts → (k : ℕ) {v w : ℕ}
+    → col tab k i ≡ v → w ≡ wordAt tab k row → v ≡ w
+leads {tab} lx {i} at there k e d = sym (word-in tab k i (row-there lx i there) e) ∙ ap (wordAt tab k) at ∙ sym d
+
+-- a method of the table, and its row
+module _ {tab : List ℕ} {n : ℕ} {ts : List Token} (lx : Lexemes tab n ts) {m : Method} {row : ℕ} (at : m .name .row ≡ row)
+    (st : MethodHeld tab n ts m) (k : ℕ) where
+  -- what a column of the row of its name leads to
+  named : {v w : ℕ} → col tab k (m .name .row) ≡ v → w ≡ wordAt tab k row → v ≡ w
+  named e d = leads lx at (st .head .name .token .there) k e d
+
+  -- a part of it, to which a column of the row after its name leads
+  part : {q : Sort} (t : Part q) → col tab k (m .name .row + 1) ≡ rowOf t → {w : ℕ} → w ≡ wordAt tab k (row + 1) → Holds tab t
+      → Matches ts t → Spans (m .name .row) n t → PartIn tab ts w row n t
+  part t e d h ma sp =
+      record {
+        at = leads lx (ap (λ (i : ℕ). i + 1) at) (st .after .there) k e d;
+        holds = h;
+        matches = ma;
+        within = subst (λ (i : ℕ). Spans i n t) at sp;
+      }
+
+-- STATEMENTS AND RETURN EXPRESSION
 
 module _ {tab : List ℕ} {s : Scope} {row first : ℕ} (e₄ : first ≡ wordAt tab 4 (row + 1)) {v : Judged}
     (f : ListPost tab s row (s .tokens) first v) where
@@ -45,12 +65,7 @@ module _ {tab : List ℕ} {s : Scope} {row first : ℕ} (e₄ : first ≡ wordAt
       → MethodHeld tab (s .tokens) ts m → v ≡ asJudged (judge G Γ (m .body))
   statements ts G Γ sc m at st =
       f .says ts G Γ sc (m .body)
-      (record {
-        at = led (sc .world .tokens) at st 4 (st .start) e₄;
-        holds = st .body;
-        matches = st .body-matches;
-        within = subst (λ (i : ℕ). Spans i (s .tokens) (m .body)) at (st .body-within);
-      })
+      (part (sc .world .tokens) at st 4 (m .body) (st .start) e₄ (st .body) (st .body-matches) (st .body-within))
 
   pub carried-refused : {n p : ℕ} → v ≡ Refused n p → CarriedJudged tab s row (Refused n p)
   carried-refused is =
@@ -65,33 +80,14 @@ module _ {tab : List ℕ} {s : Scope} {row first : ℕ} (e₄ : first ≡ wordAt
   carried-value is {t} {want} {second} e₃ type e₅ g =
       record {
         says = λ ts G Γ sc m at st.
-            let d : m .result .row ≡ t
-            = sym (word-in tab 3 (m .name .row) (row-there (sc .world .tokens) (m .name .row) (st .head .name .token .there)) (st .result)) ∙ ap (wordAt tab 3) at ∙ sym e₃ in
+            let d : m .result .row ≡ t = named (sc .world .tokens) at st 3 (st .result) e₃ in
             rw (goes-on (judge G Γ (m .body)) (λ _. judge G Γ (m .value) >>= λ t. must G (m .value) (m .result .type) t) (statements ts G Γ sc m at st) is)
             (g .says ts G Γ sc (m .value)
-            (record {
-              at = led (sc .world .tokens) at st 5 (st .return) e₅;
-              holds = st .value;
-              matches = st .value-matches;
-              within = subst (λ (i : ℕ). Spans i (s .tokens) (m .value)) at (st .value-within);
-            })
+            (part (sc .world .tokens) at st 5 (m .value) (st .return) e₅ (st .value) (st .value-matches) (st .value-within))
             (m .result .type) (type .says ts (sc .world .tokens) (m .result .row) d (m .result .type) (st .head .type)));
       }
 
 -- BODIES
-
--- where a method's parameters and locals begin
-given-at : {tab : List ℕ} {n : ℕ} (row parameters : ℕ) → parameters ≡ wordAt tab 4 row → (ts : List Token) → Lexemes tab n ts
-    → (m : Method) → m .name .row ≡ row → MethodHeld tab n ts m
-    → rowVariables (m .parameters) ≡ parameters
-given-at {tab} row parameters e₄ ts lx m at st =
-    sym (word-in tab 4 (m .name .row) (row-there lx (m .name .row) (st .head .name .token .there)) (st .first)) ∙ ap (wordAt tab 4) at ∙ sym e₄
-
-own-at : {tab : List ℕ} {n : ℕ} (row locals : ℕ) → locals ≡ wordAt tab 5 row → (ts : List Token) → Lexemes tab n ts → (m : Method)
-    → m .name .row ≡ row → MethodHeld tab n ts m
-    → rowVariables (m .locals) ≡ locals
-own-at {tab} row locals e₅ ts lx m at st =
-    sym (word-in tab 5 (m .name .row) (row-there lx (m .name .row) (st .head .name .token .there)) (st .second)) ∙ ap (wordAt tab 5) at ∙ sym e₅
 
 declared : {tab : List ℕ} {n : ℕ} (row parameters locals before : ℕ) → parameters ≡ wordAt tab 4 row → locals ≡ wordAt tab 5 row
     → Counts tab n parameters before → {v : Judged}
@@ -99,11 +95,12 @@ declared : {tab : List ℕ} {n : ℕ} (row parameters locals before : ℕ) → p
     → (m : Method) → m .name .row ≡ row → MethodHeld tab n ts m
     → v ≡ asJudged (variables G (map textOf (m .parameters)) (m .locals))
 declared {tab} row parameters locals before e₄ e₅ many f ts G w m at st =
-    let count : length (m .parameters) ≡ before
-    = sym (many .says (length (m .parameters))
-    (subst (λ (i : ℕ). Many tab i (length (m .parameters))) (given-at row parameters e₄ ts (w .tokens) m at st) (variables-many (w .tokens) (st .parameters))) (st .few-parameters)) in
-    f .says ts G w (m .parameters) (record { stand = st .parameters; begins = given-at row parameters e₄ ts (w .tokens) m at st; many = count }) [] (m .locals)
-    (record { stand = st .locals; begins = own-at row locals e₅ ts (w .tokens) m at st; before = refl; here = own-at row locals e₅ ts (w .tokens) m at st }) (st .few-locals)
+    let given = named (w .tokens) at st 4 (st .first) e₄ in
+    let own = named (w .tokens) at st 5 (st .second) e₅ in
+    let rows = subst (λ (i : ℕ). Many tab i (length (m .parameters))) given (variables-many (w .tokens) (st .parameters)) in
+    let count : length (m .parameters) ≡ before = sym (many .says (length (m .parameters)) rows (st .few-parameters)) in
+    f .says ts G w (m .parameters) (record { stand = st .parameters; begins = given; many = count }) [] (m .locals)
+    (record { stand = st .locals; begins = own; before = refl; here = own }) (st .few-locals)
 
 module _ {tab : List ℕ} {n classes owner row parameters locals before : ℕ} (e₄ : parameters ≡ wordAt tab 4 row) (e₅ : locals ≡ wordAt tab 5 row) (many : Counts tab n parameters before)
     {v : Judged} (f : VariablesJudged tab n n parameters before locals 0 locals v) where
@@ -127,8 +124,8 @@ module _ {tab : List ℕ} {n classes owner row parameters locals before : ℕ} (
               own = m .locals;
               seen = refl;
               given-listed =
-                  record { at = given-at row parameters e₄ ts (w .tokens) m at st; stand = st .parameters; few = st .few-parameters };
-              own-listed = record { at = own-at row locals e₅ ts (w .tokens) m at st; stand = st .locals; few = st .few-locals };
+                  record { at = named (w .tokens) at st 4 (st .first) e₄; stand = st .parameters; few = st .few-parameters };
+              own-listed = record { at = named (w .tokens) at st 5 (st .second) e₅; stand = st .locals; few = st .few-locals };
             })
             m at st);
       }
@@ -171,7 +168,7 @@ module _ {tab : List ℕ} {n classes left owner row : ℕ} where
         go ts G w l c sp [] at st few = absurd (omega (arith, at))
         go ts G w l c sp (m ∷ ms) at (more-methods s c₆ st) few =
             rw (goes-on (body G c m) (λ _. bodies G c ms) (f .says ts G w l c sp m at s) is)
-            (g .says ts G w l c sp ms (sym (word-in tab 6 (m .name .row) (omega (arith, at, near)) c₆) ∙ ap (wordAt tab 6) at ∙ sym e₆) st (omega arith))
+            (g .says ts G w l c sp ms (leads (w .tokens) at (s .head .name .token .there) 6 c₆ e₆) st (omega arith))
 
 -- CLASSES
 
@@ -184,10 +181,9 @@ module _ {tab : List ℕ} {n classes row first : ℕ} (e₅ : first ≡ wordAt t
           → ClassHeld tab n ts k
           → r ≡ asJudged (bodies G (k .name .text) (k .methods))
       go ts G w l k at s =
-          let there = row-there (w .tokens) (k .name .row) (s .named .token .there) in
           f .says ts G w l (k .name .text)
           (subst (NameNumber ts (k .name .text)) (ap (wordAt tab 2) at ∙ sym e₂) (name-word (w .tokens) (k .name .row) (s .named .token)))
-          (k .methods) (sym (word-in tab 5 (k .name .row) there (s .second)) ∙ ap (wordAt tab 5) at ∙ sym e₅) (s .methods) (s .few-methods)
+          (k .methods) (leads (w .tokens) at (s .named .token .there) 5 (s .second) e₅) (s .methods) (s .few-methods)
 
   pub class-empty : absent ≤ first → ClassJudged tab n classes row (Fine 0)
   class-empty far = class-judged refl (methods-end far)
@@ -226,7 +222,7 @@ module _ {tab : List ℕ} {n classes left row : ℕ} where
         go ts G w l [] at st few = absurd (omega (arith, at))
         go ts G w l (c ∷ ks) at (more-classes s c₆ st) few =
             rw (goes-on (bodies G (c .name .text) (c .methods)) (λ _. classBodies G ks) (f .says ts G w l c at s) is)
-            (g .says ts G w l ks (record { here = sym (word-in tab 6 (c .name .row) (omega (arith, at, near)) c₆) ∙ ap (wordAt tab 6) at ∙ sym e₆; stand = st; few = omega arith }))
+            (g .says ts G w l ks (record { here = leads (w .tokens) at (s .named .token .there) 6 c₆ e₆; stand = st; few = omega arith }))
 
 -- ALL BODIES
 

@@ -1,6 +1,6 @@
 -- What the functions on expressions return meets their contracts: a row shows the form of its node, and the code of a form is that of its
 -- parts, one behind another, and one instruction.
-use Prim.Native.Nat.{ℕ, suc, _+_, _-_, _≤_, _<_}
+use Prim.Native.Nat.{ℕ, suc, _+_, _-_, _≤_}
 use native.Mathlib.Omega.{arith}
 use mathlib.Core.Path.{_≡_, refl, sym, ap, _∙_, subst}
 use mathlib.Core.List.{List, _∷_}
@@ -13,9 +13,8 @@ use Rattle.lexer.specs.contracts.Rows.{firstNamed}
 use Rattle.parser.specs.Tree.{Operator, Operator.and, Operator.less, Operator.plus, Operator.minus, Operator.times}
 use Rattle.parser.specs.Tree.{Sort, Sort.expression, Sort.arguments, Part, Expression, Class, placeE}
 use Rattle.parser.specs.Tree.{Part.literal, Part.truth, Part.variable, Part.this, Part.newArray, Part.newObject, Part.negation, Part.binary}
-use Rattle.parser.specs.Tree.{Part.element, Part.arrayLength, Part.call, Part.portGet, Part.noArguments, Part.argument}
+use Rattle.parser.specs.Tree.{Part.element, Part.arrayLength, Part.call, Part.portGet}
 use Rattle.parser.specs.contracts.Layout.{absent}
-use Rattle.parser.specs.Measure.{nodes}
 use Rattle.parser.specs.contracts.Post.{kindInTable, isAtom}
 use Rattle.reader.specs.contracts.Matches.{operatorKind}
 use Rattle.typesystem.specs.ClassTable.{Context, meaning, fieldsOf}
@@ -26,8 +25,7 @@ use Rattle.lookup.specs.contracts.Shows.{PartAt, Form, aLiteral, aTruth, aVaria
 use Rattle.lookup.specs.contracts.Shows.{anElement, aLength, aCall, aPortGet, formAtom, formCompound, formE}
 use Rattle.lookup.specs.contracts.Shows.{Shows, shows-literal, shows-truth, shows-variable, shows-this, shows-new-array, shows-new-object}
 use Rattle.lookup.specs.contracts.Shows.{shows-negation, shows-binary, shows-element, shows-length, shows-call, shows-port-get}
-use Rattle.lookup.specs.contracts.Shows.{GoesOn, one-more-argument}
-use Rattle.lookup.specs.laws.ShowLaws.{shown, starts, goes-on, ended}
+use Rattle.lookup.specs.laws.ShowLaws.{shown, starts}
 use Rattle.semantics.specs.Machine.{number, flag, isAnd, slot, initial}
 use Rattle.writer.specs.declared.scope.Scope.{Scope}
 use Rattle.writer.specs.contracts.Scoping.{Sees, SlotPost}
@@ -35,12 +33,11 @@ use Rattle.codegen.specs.contracts.Code as Code
 use Rattle.codegen.specs.contracts.Code.{push, load, self, negate, operate, keep, fetch, measure, makeArray, makeObject, readRegister}
 use Rattle.codegen.specs.contracts.Compile.{endBinary, emitBinary, end, emit, cellsOf}
 use Rattle.writer.specs.contracts.Words.{words, encode}
-use Rattle.writer.specs.laws.Emits.{no-code}
 use Rattle.writer.specs.laws.Lengths.{grows}
 use Rattle.writer.specs.contracts.Posts.{room, PutPost, NextPost, Wrote, AtMost, Written, Whatever, WritePost, innerE, endE, Says}
 use Rattle.writer.specs.contracts.Posts.{ExpressionPost, CompoundPost}
 use Rattle.writer.specs.contracts.Posts.{LoadPost, FollowedPost, PairPost, ConjunctionPost}
-use Rattle.writer.proofs.RowLaws.{positive, fewer, fewer-arguments, counted}
+use Rattle.writer.proofs.RowLaws.{positive, fewer, counted}
 use Rattle.writer.proofs.PieceLaws.{put-one, next-to, over, Opens, node-wrote}
 
 pub few-tokens : {tab names : List ℕ} {ts : List Token} {G : List Class} {Γ : Context} {s : Scope} → Sees tab names ts G Γ s
@@ -65,19 +62,6 @@ pub both-wrote : {tab names : List ℕ} {s : Scope} {p q : Sort} {left left′ r
 both-wrote {at = at} f g ts G Γ w x y h h′ l =
     let u = f .says ts G Γ w x h (omega (arith, grows y (end x at))) in
     next-to (emit G Γ y) (end y) u (g .says ts G Γ w y h′ (rw (u .ends) l))
-
--- no code for a list that is empty
-pub nothing-wrote : {tab names : List ℕ} {s : Scope} {q : Sort} {left row at : ℕ} {c : List ℕ} (none : Part q)
-    → ((ν : List ℕ → ℕ) (G : List Class) (Γ : Context) → Wrote ν (emit G Γ none at) (end none at) at c c at) → at ≤ room
-    → ((ts : List Token) → length ts ≤ 2048 → (t : Part q) → PartAt tab ts row (AtMost left q) t → none ≡ t)
-    → WritePost tab names s q left row at c c at
-nothing-wrote {q = q} {at = at} {c = c} none nothing low is =
-    record {
-      within = low;
-      says = λ ts G Γ w t h l.
-          subst (λ (x : Part q). Wrote (firstNamed ts) (emit G Γ x at) (end x at) at c c at) (is ts (few-tokens w) t h)
-          (nothing (firstNamed ts) G Γ);
-    }
 
 pub loaded-wrote : {tab names : List ℕ} {s : Scope} {row at x v r : ℕ} {c c′ : List ℕ} → x ≡ wordAt tab 2 row → SlotPost tab names s x v
     → PutPost at 2 v 0 0 c c′ r → LoadPost tab names s row at c c′ r
@@ -372,31 +356,3 @@ module _ {tab names : List ℕ} {s : Scope} {left row at : ℕ} {c : List ℕ} w
         → WritePost tab names s expression left row at c c₂ r
     unfolding formE
     expression-compound is f = behind-mark (rw (sym test ∙ is)) f
-
--- ARGUMENTS
-
-module _ {tab names : List ℕ} {s : Scope} {left row at : ℕ} {c : List ℕ} where
-  pub arguments-none : left ≡ 0 → at ≤ room → WritePost tab names s arguments left row at c c at
-  unfolding nodes emit end
-  arguments-none z low =
-      nothing-wrote noArguments (λ ν G Γ. record { ends = refl; code = no-code }) low (λ ts few es h. go es (h .within))
-    where
-      go : (es : Part arguments) → nodes es ≤ left → noArguments ≡ es
-      go noArguments few = refl
-      go (argument e es) few = absurd (omega (arith, positive e))
-
-  pub arguments-end : absent ≤ row → at ≤ room → WritePost tab names s arguments left row at c c at
-  unfolding emit end
-  arguments-end far low =
-      nothing-wrote noArguments (λ ν G Γ. record { ends = refl; code = no-code }) low (λ ts few es h. ended few far es h)
-
-  pub arguments-more : (left ≡ 0 → ⊥) → row < absent → {a next r : ℕ} {c₁ c₂ : List ℕ}
-      → WritePost tab names s expression left row at c c₁ a → next ≡ wordAt tab 6 row
-      → WritePost tab names s arguments (left - 1) next a c₁ c₂ r → WritePost tab names s arguments left row at c c₂ r
-  unfolding emit end
-  arguments-more more near {a} {next} {r} {c₁} {c₂} f e₆ g =
-      record { within = g .within; says = λ ts G Γ w es h l. go ts G Γ w es (goes-on (fewer-arguments row left more) near es h) l }
-    where
-      go : Whatever tab names s λ ts G Γ. (es : Part arguments)
-          → GoesOn tab ts row (AtMost left expression) (AtMost (left - 1) arguments) es → Written ts (emit G Γ es at) (end es at) at c c₂ r
-      go ts G Γ w t (one-more-argument {e = e} {es = es} x y) l = both-wrote f g ts G Γ w e es x (rw e₆ y) l

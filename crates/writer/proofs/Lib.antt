@@ -6,6 +6,7 @@ pub mod RowLaws
 pub mod PieceLaws
 pub mod ExpressionLaws
 pub mod StatementLaws
+pub mod ListLaws
 pub mod MethodLaws
 pub mod ClassLaws
 pub mod ProgramLaws

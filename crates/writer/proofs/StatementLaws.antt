@@ -1,37 +1,33 @@
 -- What the functions on statements return meets their contracts, as with expressions; a jump over a part is written after it, when the
 -- place behind the part is known.
-use Prim.Native.Nat.{ℕ, suc, _+_, _-_, _≤_, _<_}
+use Prim.Native.Nat.{ℕ, suc, _+_, _-_, _≤_}
 use native.Mathlib.Omega.{arith}
 use mathlib.Core.Path.{_≡_, refl, sym, ap, _∙_, subst}
 use mathlib.Core.List.{List, _∷_}
 use borrow.Author.Tests.{ne-eqb}
 use Rattle.lexer.specs.Tokens.{Token}
-use Rattle.parser.specs.Tree.{Sort.expression, Sort.statement, Sort.statements, Part, Statement, Class, placeS}
+use Rattle.parser.specs.Tree.{Sort.expression, Sort.statement, Sort.statements, Statement, Class, placeS}
 use Rattle.parser.specs.Tree.{Part.block, Part.conditional, Part.loop, Part.print, Part.assign, Part.assignElement, Part.portPut}
-use Rattle.parser.specs.Tree.{Part.noStatements, Part.sequence}
-use Rattle.parser.specs.contracts.Layout.{absent}
-use Rattle.parser.specs.Measure.{nodes}
 use Rattle.parser.specs.contracts.Post.{kindInTable}
 use Rattle.typesystem.specs.ClassTable.{Context, meaning}
 use Rattle.lookup.specs.contracts.HeldClasses.{wordAt}
 use Rattle.lookup.specs.contracts.Shows.{Form, aBlock, aConditional, aLoop, aPrint, anAssignment, anElementStore, aPortPut, formS}
 use Rattle.lookup.specs.contracts.Shows.{Bound, ShowsS, shows-block, shows-conditional, shows-loop, shows-print, shows-assignment}
-use Rattle.lookup.specs.contracts.Shows.{shows-element-store, shows-port-put, GoesOnS, one-more-statement}
-use Rattle.lookup.specs.laws.ShowLaws.{shownS, goes-onS, endedS}
+use Rattle.lookup.specs.contracts.Shows.{shows-element-store, shows-port-put}
+use Rattle.lookup.specs.laws.ShowLaws.{shownS}
 use Rattle.writer.specs.declared.scope.Scope.{Scope}
 use Rattle.writer.specs.contracts.Scoping.{SlotPost}
 use Rattle.codegen.specs.contracts.Code as Code
 use Rattle.codegen.specs.contracts.Code.{save, jump, unless, storeElement, writeRegister}
 use Rattle.codegen.specs.contracts.Compile.{end, emit}
 use Rattle.writer.specs.contracts.Words.{words}
-use Rattle.writer.specs.laws.Emits.{no-code}
 use Rattle.writer.specs.laws.Lengths.{grows}
-use Rattle.writer.specs.contracts.Posts.{room, PutPost, NextPost, AtMost, Written, Whatever, WritePost, innerS, endS}
+use Rattle.writer.specs.contracts.Posts.{room, PutPost, NextPost, AtMost, WritePost, innerS, endS}
 use Rattle.writer.specs.contracts.Posts.{formTested, SaysS}
 use Rattle.writer.specs.contracts.Posts.{StatementPost, LoadPost, FollowedPost, PairPost, BranchesPost, OtherwisePost, BodyPost}
-use Rattle.writer.proofs.RowLaws.{positive-statement, fewerS, fewer-statements}
+use Rattle.writer.proofs.RowLaws.{positive-statement, fewerS}
 use Rattle.writer.proofs.PieceLaws.{put-one, next-to, over, Opens, node-wrote}
-use Rattle.writer.proofs.ExpressionLaws.{lexemes, both-wrote, nothing-wrote}
+use Rattle.writer.proofs.ExpressionLaws.{lexemes}
 
 -- PARTS AND AN INSTRUCTION
 
@@ -226,31 +222,3 @@ module _ {tab names : List ℕ} {s : Scope} {left row at : ℕ} {c : List ℕ} w
       statement-assignment no′ f =
           behind-mark (rw (ne-eqb k 38 n₁, ne-eqb k 10 n₂, ne-eqb k 23 n₃, ne-eqb k 19 n₄, ne-eqb k 40 n₅, sym next, ne-eqb after 36 no′))
           (f .within) (f .says)
-
--- LISTS
-
-module _ {tab names : List ℕ} {s : Scope} {left row at : ℕ} {c : List ℕ} where
-  pub list-none : left ≡ 0 → at ≤ room → WritePost tab names s statements left row at c c at
-  unfolding nodes emit end
-  list-none z low =
-      nothing-wrote noStatements (λ ν G Γ. record { ends = refl; code = no-code }) low (λ ts few ss h. go ss (h .within))
-    where
-      go : (ss : Part statements) → nodes ss ≤ left → noStatements ≡ ss
-      go noStatements few = refl
-      go (sequence t ss) few = absurd (omega (arith, positive-statement t))
-
-  pub list-end : absent ≤ row → at ≤ room → WritePost tab names s statements left row at c c at
-  unfolding emit end
-  list-end far low =
-      nothing-wrote noStatements (λ ν G Γ. record { ends = refl; code = no-code }) low (λ ts few ss h. endedS few far ss h)
-
-  pub list-more : (left ≡ 0 → ⊥) → row < absent → {a next r : ℕ} {c₁ c₂ : List ℕ} → WritePost tab names s statement left row at c c₁ a
-      → next ≡ wordAt tab 6 row → WritePost tab names s statements (left - 1) next a c₁ c₂ r
-      → WritePost tab names s statements left row at c c₂ r
-  unfolding emit end
-  list-more more near {a} {next} {r} {c₁} {c₂} f e₆ g =
-      record { within = g .within; says = λ ts G Γ w ss h l. go ts G Γ w ss (goes-onS (fewer-statements row left more) near ss h) l }
-    where
-      go : Whatever tab names s λ ts G Γ. (ss : Part statements)
-          → GoesOnS tab ts row (AtMost left statement) (AtMost (left - 1) statements) ss → Written ts (emit G Γ ss at) (end ss at) at c c₂ r
-      go ts G Γ w t (one-more-statement {t = x} {ss = ss} y z) l = both-wrote f g ts G Γ w x ss y (rw e₆ z) l

@@ -58,10 +58,10 @@ use Rattle.bodies.proofs.expr.+arguments+array+binary+call+creation+dot
 use borrow.Author.Needs.{needs}
 use Prim.Native.Nat.{_+_, _*_, _-_}
 use Rattle.bodies.proofs.ExpressionLaws.{arguments-before, arguments-behind, arguments-end, arguments-next, arguments-refused}
-use Rattle.bodies.proofs.ExpressionLaws.{binary-refused, binary-right, binary-wrong, call-object, call-plain, call-refused}
+use Rattle.bodies.proofs.ExpressionLaws.{of-binary, of-call, left-refused, binary-right, binary-wrong, call-object, call-plain}
 use Rattle.bodies.proofs.ExpressionLaws.{creation-array, creation-object, dotted-call, dotted-length, element-first}
 use Rattle.bodies.proofs.ExpressionLaws.{element-second, expression-atom, expression-before, expression-behind, expression-binary}
-use Rattle.bodies.proofs.ExpressionLaws.{expression-dot, expression-element, expression-get, expression-new, expression-not}
+use Rattle.bodies.proofs.ExpressionLaws.{of-not, of-get, expression-unary, expression-dot, expression-element, expression-new}
 use Rattle.bodies.proofs.ExpressionLaws.{invocation-count}
 use Rattle.bodies.proofs.ExpressionLaws.{invocation-fine, invocation-refused, invocation-unknown, operand-fits, operand-refused}
 use Rattle.bodies.proofs.ExpressionLaws.{operand-wrong, single-fine, single-refused}
@@ -140,12 +140,12 @@ pub +arguments+array+binary+call+creation+dotted+element+expression+invocation+m
     (word-reads.Asked, word-reads.Learnt, expression-below t, expression.Post, operation-reads.Asked, operation-reads.Learnt, single-below t, single.Post)
     (and 2 binary-kinds.ps (is 2 binary-kinds.ps μ-binary t) binary.Pre) binary.Post (λ c κs. search needs) (λ c κs. search needs)
     (λ c. search needs) (λ c κs. search needs) (λ c κs. search needs) (λ c. search binary-wrong) (λ c κs. search needs)
-    (λ c. search needs) (λ c κs. search needs) (λ c. search needs) (λ c. search binary-right) (λ c. search binary-refused))
+    (λ c. search needs) (λ c κs. search needs) (λ c. search needs) (λ c. search binary-right) (λ c. search (left-refused of-binary)))
     (λ t. call-lts.spec
     (word-reads.Asked, word-reads.Learnt, expression-below t, expression.Post, and 2 invocation-kinds.ps (falls 2 invocation-kinds.ps _<_ μ-invocation t) invocation.Pre, invocation.Post)
     (and 2 call-kinds.ps (is 2 call-kinds.ps μ-call t) call.Pre) call.Post (λ c κs. search needs) (λ c κs. search needs)
     (λ c. search needs) (λ c κs. search needs) (λ c. search call-plain) (λ c κs. search needs) (λ c. search needs)
-    (λ c. search call-object) (λ c. search call-refused))
+    (λ c. search call-object) (λ c. search (left-refused of-call)))
     (λ t. creation-lts.spec
     (kind-reads.Asked, kind-reads.Learnt, and 2 new-array-kinds.ps (falls 2 new-array-kinds.ps _<_ μ-new-array t) new-array.Pre, new-array.Post, new-object-reads.Asked, new-object-reads.Learnt)
     (and 2 creation-kinds.ps (is 2 creation-kinds.ps μ-creation t) creation.Pre) creation.Post (λ c. search needs) (λ c κs. search needs)
@@ -163,9 +163,9 @@ pub +arguments+array+binary+call+creation+dotted+element+expression+invocation+m
     (and 2 expression-kinds.ps (is 2 expression-kinds.ps μ-expression t) expression.Pre) expression.Post (λ c. search expression-before)
     (λ c. search expression-behind) (λ c κs. search needs) (λ c κs. search needs) (λ c κs. search needs) (λ c. search expression-atom)
     (λ c κs. search needs) (λ c. search expression-new) (λ c κs. search needs) (λ c. search expression-dot) (λ c κs. search needs)
-    (λ c. search needs) (λ c κs. search needs) (λ c. search expression-not) (λ c κs. search needs) (λ c. search needs)
-    (λ c κs. search needs) (λ c. search expression-get) (λ c κs. search needs) (λ c. search expression-element) (λ c κs. search needs)
-    (λ c. search expression-binary))
+    (λ c. search needs) (λ c κs. search needs) (λ c. search (expression-unary of-not)) (λ c κs. search needs) (λ c. search needs)
+    (λ c κs. search needs) (λ c. search (expression-unary of-get)) (λ c κs. search needs) (λ c. search expression-element)
+    (λ c κs. search needs) (λ c. search expression-binary))
     (λ t. invocation-lts.spec
     (word-reads.Asked, word-reads.Learnt, find-method-reads.Asked, find-method-reads.Learnt, same-count-reads.Asked, same-count-reads.Learnt, arguments-below t, arguments.Post, type-of-reads.Asked, type-of-reads.Learnt)
     (and 2 invocation-kinds.ps (is 2 invocation-kinds.ps μ-invocation t) invocation.Pre) invocation.Post (λ c. search needs)

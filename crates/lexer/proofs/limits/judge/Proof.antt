@@ -1,6 +1,7 @@
 -- `lexer::limits::judge` meets its contract: the tests of the definition in their order.
 use borrow.Author.Needs.{needs}
-use mathlib.Core.Path.{sym, ap, _∙_}
+use mathlib.Core.Path.{_≡_, sym, ap, _∙_}
+use Rattle.lexer.specs.contracts.Verdicts.{verdictOf}
 use Rattle.lexer.proofs.Verdicts.{verdict-many, verdict-long, verdict-name, verdict-zero, verdict-literal, verdict-plain, onLiteral}
 use Rattle.lexer.proofs.limits.judge.Statement.{statement}
 use Rattle.lexer.proofs.limits.judge.Tie as tie
@@ -38,29 +39,24 @@ returns-4 c =
 enum-told : tie.Need-enum-told
 enum-told c = c .match .keys2
 
-returns-5 : tie.Need-returns-5
-returns-5 c =
-    let v = c .before .before .before in
+-- where the value of a literal was read
+literal : (v : tie.After-value-of)
+    → let a = v .before .before .before .before .before .before .before .before .args in
+    onLiteral (v .value-of .result) ≡ verdictOf (a .count) (a .kind) (a .text .now)
+literal v =
     let z = v .before .before in
     let f = z .before in
     let n = f .before .before in
     let g = n .before .before .before in
     let a = g .args in
-    ap onLiteral (sym (c .before .v .given .1))
-    ∙ verdict-literal (a .count) (a .kind) (a .text .now) (n .before .if1 .left) (n .is-name .ensures)
+    verdict-literal (a .count) (a .kind) (a .text .now) (n .before .if1 .left) (n .is-name .ensures)
     (f .before .if2 .left) (f .if4 .taken) (z .starts-with-zero .ensures) (v .before .if5 .left) (v .value-of .ensures)
 
+returns-5 : tie.Need-returns-5
+returns-5 c = ap onLiteral (sym (c .before .v .given .1)) ∙ literal (c .before .before .before)
+
 returns-6 : tie.Need-returns-6
-returns-6 c =
-    let v = c .before .before in
-    let z = v .before .before in
-    let f = z .before in
-    let n = f .before .before in
-    let g = n .before .before .before in
-    let a = g .args in
-    ap onLiteral (sym (c .enum-told .given .1))
-    ∙ verdict-literal (a .count) (a .kind) (a .text .now) (n .before .if1 .left) (n .is-name .ensures)
-    (f .before .if2 .left) (f .if4 .taken) (z .starts-with-zero .ensures) (v .before .if5 .left) (v .value-of .ensures)
+returns-6 c = ap onLiteral (sym (c .enum-told .given .1)) ∙ literal (c .before .before)
 
 returns-7 : tie.Need-returns-7
 returns-7 c =

@@ -1,7 +1,8 @@
 -- `lexer::names::lookup` meets its contract: each turn passes one row of the chain, and the links fall.
 use borrow.Author.Needs.{needs}
-use Prim.Native.Nat.{_+_, _-_}
+use Prim.Native.Nat.{_+_, _-_, _≤_, _<_}
 use native.Mathlib.Omega.{arith}
+use lib.ListN.{length}
 use mathlib.Core.Path.{sym, _∙_}
 use Rattle.base.specs.contracts.Table.{col}
 use Rattle.lexer.specs.contracts.Chains.{Sought}
@@ -15,6 +16,12 @@ Inv-loop source table count head text link₀ link = Sought source table count l
 abbrev μ-loop : tie.MeasureT-loop
 μ-loop source table count head text link₀ link = link
 
+-- the row of the chain is in the table
+inside : (c : tie.In-loop Inv-loop μ-loop)
+    → let a = c .before .before .before .before .before .args in
+    (c .before .loop .link - 1 < a .count) × (a .count ≤ 2048) × (16384 ≤ length (a .table .now))
+inside c = let v = c .before .loop .inv in (row-inside (c .loop-test .taken) v, v .filled .few, v .filled .big)
+
 has-text-requires : tie.Need-has-text-requires Inv-loop μ-loop
 has-text-requires c κs =
     let v = c .before .loop .inv in
@@ -22,47 +29,28 @@ has-text-requires c κs =
     (v .filled .big, omega (arith, row-inside h v, v .filled .few), sought-row h v .inside)
 
 add-result : tie.Need-add-result Inv-loop μ-loop
-add-result c =
-    let v = c .before .before .before .loop .inv in
-    let h = c .before .before .loop-test .taken in
-    omega (arith, row-inside h v, v .filled .few)
+add-result c = omega (arith, inside (c .before .before))
 
 mul-result : tie.Need-mul-result Inv-loop μ-loop
-mul-result c =
-    let v = c .before .before .before .loop .inv in
-    let h = c .before .before .loop-test .taken in
-    omega (arith, row-inside h v, v .filled .few)
+mul-result c = omega (arith, inside (c .before .before))
 
 shared-slice-read-result : tie.Need-shared-slice-read-result Inv-loop μ-loop
-shared-slice-read-result c =
-    let v = c .before .before .before .before .loop .inv in
-    let h = c .before .before .before .loop-test .taken in
-    omega (arith, row-inside h v, v .filled .few, v .filled .big)
+shared-slice-read-result c = omega (arith, inside (c .before .before .before))
 
 returns : tie.Need-returns Inv-loop μ-loop
 unfolding col
 returns c =
-    let v = c .before .before .before .before .loop .inv in
-    let h = c .before .before .before .loop-test .taken in
-    sought-hit h v (sym (c .before .before .has-text .ensures) ∙ c .before .if1 .taken)
+    let l = c .before .before .before in
+    sought-hit (l .loop-test .taken) (l .before .loop .inv) (sym (c .before .before .has-text .ensures) ∙ c .before .if1 .taken)
 
 add-link : tie.Need-add-link Inv-loop μ-loop
-add-link c =
-    let v = c .before .before .before .loop .inv in
-    let h = c .before .before .loop-test .taken in
-    omega (arith, row-inside h v, v .filled .few)
+add-link c = omega (arith, inside (c .before .before))
 
 mul-link : tie.Need-mul-link Inv-loop μ-loop
-mul-link c =
-    let v = c .before .before .before .loop .inv in
-    let h = c .before .before .loop-test .taken in
-    omega (arith, row-inside h v, v .filled .few)
+mul-link c = omega (arith, inside (c .before .before))
 
 shared-slice-read-link : tie.Need-shared-slice-read-link Inv-loop μ-loop
-shared-slice-read-link c =
-    let v = c .before .before .before .before .loop .inv in
-    let h = c .before .before .before .loop-test .taken in
-    omega (arith, row-inside h v, v .filled .few, v .filled .big)
+shared-slice-read-link c = omega (arith, inside (c .before .before .before))
 
 cast-link : tie.Need-cast-link Inv-loop μ-loop
 cast-link c = omega (arith, c .shared-slice-known5 .given (12288 + (c .before .before .before .before .loop .link - 1)))
@@ -77,9 +65,8 @@ loop-less c =
 loop-again : tie.Need-loop-again Inv-loop μ-loop
 unfolding col
 loop-again c =
-    let v = c .before .before .before .before .loop .inv in
-    let h = c .before .before .before .loop-test .taken in
-    sought-next h v (sym (c .before .before .has-text .ensures) ∙ c .before .if1 .left)
+    let l = c .before .before .before in
+    sought-next (l .loop-test .taken) (l .before .loop .inv) (sym (c .before .before .has-text .ensures) ∙ c .before .if1 .left)
 
 pub lookup-spec : {M : Type 1} → statement M
 lookup-spec =

@@ -1,6 +1,5 @@
 -- `classes` meets its contract. The measure is the number of tokens left. Each return is a law of `Methods`.
 use Prim.Native.Nat.{ℕ}
-use borrow.Fn.Kinds.{In}
 use borrow.Fn.PlainCycle.{Measures}
 use Rattle.parser.proofs.decl.classes.Reads as classes
 use Rattle.parser.proofs.decl.classes.Kinds as classes-kinds
@@ -21,27 +20,18 @@ use Rattle.parser.proofs.Methods.{classes-end, classes-bad, classes-mor
 abbrev μ-classes : Measures 1 classes-kinds.ps ℕ
 μ-classes κs a = a .1 .0 - a .1 .1 .0
 
-abbrev classes-at : ℕ → In 1 classes-kinds.ps
-classes-at t = given classes-kinds.ps μ-classes classes.Pre t
-
 abbrev classes-calls : ℕ → classes-lts.Claims
 classes-calls t = (kind-reads.Asked, kind-reads.Learnt, class-reads.Asked, class-reads.Learnt, asked classes-kinds.ps μ-classes classes.Pre t, classes.Post, linked-reads.Asked, linked-reads.Learnt)
-
-module _ (t : ℕ) where
-  classes-classes-requires : classes-lts.Need-classes-requires (classes-calls t) (classes-at t) classes.Post
-  classes-classes-requires c κs =
-      let w = within-ok (c .before .before .a .given .1) (c .before .before .before .before .before .before .class .ensures .within) in
-      omega arith
-
-  classes-linked-requires : classes-lts.Need-linked-requires (classes-calls t) (classes-at t) classes.Post
-  classes-linked-requires c κs =
-      let w = within-ok (c .before .before .before .before .before .before .a .given .1)
-      (c .before .before .before .before .before .before .before .before .before .before .class .ensures .within) in
-      (omega arith, omega arith, declared-fits (c .before .before .before .classes .ensures) (omega arith))
 
 pub +classes-spec : {M : Type 1} → statement M
 +classes-spec =
     close μ-classes
-    (λ t. classes-lts.spec (classes-calls t) (classes-at t) classes.Post (λ c κs. search needs) (λ c. search needs)
-    (λ c. search classes-end) (λ c κs. search needs) (λ c. search needs) (classes-classes-requires t) (classes-linked-requires t)
+    (λ t. classes-lts.spec (classes-calls t) (given classes-kinds.ps μ-classes classes.Pre t) classes.Post
+    (λ c κs. search needs) (λ c. search needs)
+    (λ c. search classes-end) (λ c κs. search needs) (λ c. search needs)
+    (λ c κs. let a = c .before .before in
+    let w = within-ok (a .a .given .1) (a .before .before .before .before .class .ensures .within) in omega arith)
+    (λ c κs. let a = c .before .before .before .before .before .before in
+    let w = within-ok (a .a .given .1) (a .before .before .before .before .class .ensures .within) in
+    (omega arith, omega arith, declared-fits (c .before .before .before .classes .ensures) (omega arith)))
     (λ c. search needs) (λ c. search needs) (λ c. search classes-more) (λ c. search needs) (λ c. search classes-bad))

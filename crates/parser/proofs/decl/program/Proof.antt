@@ -4,7 +4,7 @@ use native.Mathlib.Omega.{arith}
 use lib.Dec.{lit<}
 use Rattle.parser.proofs.Laws.{within-ok}
 use Rattle.parser.proofs.Matched.{matched-there}
-use Rattle.parser.proofs.Pieces.{follows-within}
+use Rattle.parser.proofs.Pieces.{two-follow}
 use Rattle.parser.proofs.Methods.{program-head, program-bad, program-classes, program-ok}
 use Rattle.parser.specs.Parse.{mainHead}
 use Rattle.parser.proofs.decl.program.Statement.{statement}
@@ -19,13 +19,10 @@ single-requires c κs =
 
 classes-requires : tie.Need-classes-requires
 classes-requires c κs =
-    let g = c .before .before .before .before .before .before .before .before .before .before .before .before .before .before .before .before .before in
-    let w = within-ok (c .before .before .c .given .1)
-    (follows-within _ _ _ (c .before .before .before .before .followed2 .ensures) (lit< tt)
-    (follows-within _ _ _ (c .before .before .before .before .before .before .followed .ensures) (lit< tt)
-    (c .before .before .before .before .before .before .before .before .before .before .single .ensures .within))) in
-    let l = g .pre .few in
-    omega arith
+    let o = c .before .before .before .before in
+    let w = two-follow (c .before .before .c .given .1) (o .before .before .followed .ensures) (o .followed2 .ensures) (lit< tt) (lit< tt)
+    (o .before .before .before .before .before .before .single .ensures .within) in
+    omega (arith, o .before .before .before .before .before .before .before .before .before .before .before .before .before .pre)
 
 link-requires : tie.Need-link-requires
 link-requires c κs =

@@ -2,21 +2,17 @@
 use borrow.Author.Needs.{needs}
 use native.Mathlib.Omega.{arith}
 use lib.Dec.{lit<}
-use Rattle.parser.proofs.Laws.{within-ok}
-use Rattle.parser.proofs.Pieces.{follows-within}
+use Rattle.parser.proofs.Pieces.{two-follow}
 use Rattle.parser.proofs.Methods.{returned-bad, returned-ok}
 use Rattle.parser.proofs.decl.returned.Statement.{statement}
 use Rattle.parser.proofs.decl.returned.Tie as tie
 
 method-row-requires : tie.Need-method-row-requires
 method-row-requires c κs =
-    let g = c .before .before .before .before .before .before .before .before .before .before .before .before .before in
-    let w = within-ok (c .before .before .c .given .1)
-    (follows-within _ _ _ (c .before .before .before .before .followed2 .ensures) (lit< tt)
-    (follows-within _ _ _ (c .before .before .before .before .before .before .followed .ensures) (lit< tt)
-    (c .before .before .before .before .before .before .before .before .before .before .operation .ensures .within))) in
-    let l = g .pre in
-    omega arith
+    let o = c .before .before .before .before in
+    let w = two-follow (c .before .before .c .given .1) (o .before .before .followed .ensures) (o .followed2 .ensures) (lit< tt) (lit< tt)
+    (o .before .before .before .before .before .before .operation .ensures .within) in
+    omega (arith, o .before .before .before .before .before .before .before .before .before .pre)
 
 returns : tie.Need-returns
 returns c =

@@ -1,5 +1,9 @@
 -- `begins_type` meets its contract: the first test that holds decides.
-use mathlib.Core.Path.{sym, _∙_}
+use Prim.Native.Nat.{ℕ}
+use mathlib.Core.Path.{_≡_, sym, _∙_}
+use mathlib.Core.Logic.{_≢_}
+use mathlib.Core.Bool.{Bool, _&&_}
+use Rattle.lexer.specs.Kinds.{isName, kInt, kBoolean}
 use borrow.Author.Tests.{eq-eqb, ne-eqb}
 use Rattle.parser.specs.Parse.{beginsType}
 use borrow.Author.Needs.{needs}
@@ -14,23 +18,28 @@ returns-2 : tie.Need-returns-2
 unfolding beginsType
 returns-2 c = simp (ne-eqb _ _ (c .before .if1 .left), eq-eqb _ _ (c .if2 .taken))
 
-returns-3 : tie.Need-returns-3
+-- a kind that is neither `int` nor `boolean`
+other : (k : ℕ) (named : Bool) → k ≢ kInt → k ≢ kBoolean → beginsType k named ≡ (isName k && named)
 unfolding beginsType
+other k named z z′ = simp (ne-eqb _ _ z, ne-eqb _ _ z′)
+
+returns-3 : tie.Need-returns-3
 returns-3 c =
+    let a = c .before .before .before .before .args in
     simp (
-      ne-eqb _ _ (c .before .before .before .if1 .left),
-      ne-eqb _ _ (c .before .before .if2 .left),
-      sym (c .before .is-name .ensures) ∙ c .if3 .taken,
+      other (a .k) (a .named) (c .before .before .before .if1 .left) (c .before .before .if2 .left),
+      sym (c .before .is-name .ensures)
+          ∙ c .if3 .taken,
     )
 
 returns-4 : tie.Need-returns-4
-unfolding beginsType
 returns-4 c =
+    let a = c .before .before .before .before .args in
     simp (
-      ne-eqb _ _ (c .before .before .before .if1 .left),
-      ne-eqb _ _ (c .before .before .if2 .left),
+      other (a .k) (a .named) (c .before .before .before .if1 .left) (c .before .before .if2 .left),
       c .if3 .left,
-      sym (c .before .is-name .ensures) ∙ c .if3 .left,
+      sym
+          (c .before .is-name .ensures) ∙ c .if3 .left,
     )
 
 pub begins-type-spec : {M : Type 1} → statement M

@@ -1,26 +1,15 @@
 -- `two_parts` meets its contract: the node is written.
-use Prim.Native.Nat.{ℕ}
 use borrow.Author.Needs.{needs}
 use native.Mathlib.Omega.{arith}
-use Rattle.base.specs.contracts.Table.{col}
-use Rattle.parser.specs.contracts.Layout.{node}
-use Rattle.parser.proofs.Pieces.{whole-done, whole-refused, fits-at}
+use Rattle.parser.proofs.Pieces.{two-parts-done, whole-refused, fits-at}
 use Rattle.parser.proofs.parts.two_parts.Statement.{statement}
 use Rattle.parser.proofs.parts.two_parts.Tie as tie
 
-node-requires : tie.Need-node-requires
-node-requires c κs = omega (arith, fits-at (c .before .before .right .given .1) (c .before .before .before .before .before .pre .4))
-
-returns : tie.Need-returns
-returns c =
-    whole-done _ (λ (x : ℕ). node (c .before .before .before .before .before .before .before .before .args .table .now)
-    (c .before .before .before .before .before .before .before .before .args .row)
-    (col (c .before .before .before .before .before .before .before .before .args .table .now) 1
-    (c .before .before .before .before .before .before .before .before .args .first))
-    (c .before .before .before .before .before .before .before .before .args .left) x)
-    (c .before .before .before .before .before .right .given .1) (c .before .before .node .ensures)
-
 pub two-parts-spec : {M : Type 1} → statement M
 two-parts-spec =
-    tie.close (tie.spec (λ c. search needs) node-requires (λ c. search needs) (λ c. search needs) returns
+    tie.close (tie.spec (λ c. search needs)
+    (λ c κs. omega (arith, fits-at (c .before .before .right .given .1) (c .before .before .before .before .before .pre .4)))
+    (λ c. search needs) (λ c. search needs)
+    (λ c. let a = c .before .before .before .before .before .before .before .before .args in
+    two-parts-done (c .before .before .before .before .before .right .given .1) (a .first) (a .left) (c .before .before .node .ensures))
     (λ c. whole-refused _ _ (c .before .right2 .given .1)))

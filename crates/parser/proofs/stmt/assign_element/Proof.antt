@@ -1,14 +1,24 @@
 -- `assign_element` meets its contract. Each return is a law of `Statements`.
-use Prim.Native.Nat.{_+_}
+use Prim.Native.Nat.{_+_, _≤_, _<_}
 use mathlib.Core.Path.{refl}
 use borrow.Author.Needs.{needs}
 use native.Mathlib.Omega.{arith}
 use lib.Dec.{lit<}
-use Rattle.parser.proofs.Laws.{there, within-ok}
+use Rattle.parser.proofs.Laws.{there}
 use Rattle.parser.proofs.Statements.{index-bad, value-ok}
-use Rattle.parser.proofs.Pieces.{mode-fits, follows-within, follows-fits}
+use Rattle.parser.proofs.Pieces.{mode-fits, two-follow, follows-fits}
 use Rattle.parser.proofs.stmt.assign_element.Statement.{statement}
 use Rattle.parser.proofs.stmt.assign_element.Tie as tie
+
+-- an index was read, and `] =` after it
+bounds : (c : tie.After-c)
+    → let g = c .before .before .before .before .before .before .before .before .before .before .before .args in
+    (g .i + 4 < c .c .given .0 .1 .0) × (c .c .given .0 .1 .0 ≤ g .n) × (c .c .given .0 .0 < g .n)
+bounds c =
+    let o = c .before .before in
+    let w = two-follow (c .c .given .1) (o .before .before .followed .ensures) (o .followed2 .ensures) (lit< tt) (lit< tt)
+    (o .before .before .before .before .before .before .operation .ensures .within) in
+    (omega (arith, w .0), w .1, w .2)
 
 operation-requires : tie.Need-operation-requires
 operation-requires c κs =
@@ -18,31 +28,20 @@ operation-requires c κs =
 
 operation-requires-2 : tie.Need-operation-requires-2
 operation-requires-2 c κs =
-    let g = c .before .before .before .before .before .before .before .before .before .before .before .before .before in
-    let w = within-ok (c .before .before .c .given .1)
-    (follows-within _ _ _ (c .before .before .before .before .followed2 .ensures) (lit< tt)
-    (follows-within _ _ _ (c .before .before .before .before .before .before .followed .ensures) (lit< tt)
-    (c .before .before .before .before .before .before .before .before .before .before .operation .ensures .within))) in
-    let l = g .pre .0 in
-    omega arith
+    let o = c .before .before in
+    omega (arith, bounds o, o .before .before .before .before .before .before .before .before .before .before .before .pre .0)
 
 two-parts-requires : tie.Need-two-parts-requires
 two-parts-requires c κs =
     let g = c .before .before .before .before .before .before .before .before .before .before .before .before .before .before .before .before .before .before .before in
-    let w = there (g .args .table .now) (g .args .n) (g .args .i + 1) _ 36 refl (g .pre .2) (lit< tt) in
     let l = g .pre .0 in
-    let w₂ = within-ok (c .before .before .before .before .before .before .before .before .c .given .1)
-    (follows-within _ _ _ (c .before .before .before .before .before .before .before .before .before .before .followed2 .ensures)
-    (lit< tt) (follows-within _ _ _
-    (c .before .before .before .before .before .before .before .before .before .before .before .before .followed .ensures) (lit< tt)
-    (c .before .before .before .before .before .before .before .before .before .before .before .before .before .before .before .before
-    .operation .ensures .within))) in (
+    let w = bounds (c .before .before .before .before .before .before .before .before) in (
       omega arith,
       omega arith,
       omega arith,
       omega arith,
       follows-fits (c .before .followed3 .ensures)
-          (mode-fits (g .pre .0 .few) (c .before .before .before .before .before .operation2 .ensures)),
+          (mode-fits (l .few) (c .before .before .before .before .before .operation2 .ensures)),
     )
 
 returns : tie.Need-returns

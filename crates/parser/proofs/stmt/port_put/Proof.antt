@@ -1,4 +1,5 @@
 -- `port_put` meets its contract. Each return is a law of `Statements`; that the head is there is `head-there`.
+use Prim.Native.Nat.{_<_}
 use mathlib.Core.Path.{refl}
 use borrow.Author.Needs.{needs}
 use native.Mathlib.Omega.{arith}
@@ -11,11 +12,12 @@ use Rattle.parser.proofs.Statements.{put-head, register-bad, put-ok}
 use Rattle.parser.proofs.stmt.port_put.Statement.{statement}
 use Rattle.parser.proofs.stmt.port_put.Tie as tie
 
+-- the `Port` is there
+begun : (g : tie.Start) → g .args .i < g .args .n
+begun g = there (g .args .table .now) (g .args .n) (g .args .i) _ 40 refl (g .pre .1) (lit< tt)
+
 member-head-requires : tie.Need-member-head-requires
-member-head-requires c κs =
-    let g = c .before .before in
-    let w = there (g .args .table .now) (g .args .n) (g .args .i) _ 40 refl (g .pre .1) (lit< tt) in
-    omega arith
+member-head-requires c κs = omega (arith, begun (c .before .before), c .before .before .pre .0)
 
 returns : tie.Need-returns
 returns c =
@@ -44,7 +46,7 @@ two-parts-requires c κs =
     let o = f .before .before .before .before in
     let g = o .before .before .before .before .before .before in
     let l = g .pre .0 in
-    let w = there (g .args .table .now) (g .args .n) (g .args .i) _ 40 refl (g .pre .1) (lit< tt) in
+    let w = begun g in
     let w₂ = within-ok (c .before .before .before .before .before .before .before .before .before .before .b .given .1) (follows-within _ _ _ (f .followed .ensures) (lit< tt) (o .operation .ensures .within)) in (
       omega arith,
       omega arith,

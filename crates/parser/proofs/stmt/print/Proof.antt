@@ -1,4 +1,5 @@
 -- `print` meets its contract. Each return is a law of `Statements`; that the head and the end are there is `matched-there` and `follows-within`.
+use Prim.Native.Nat.{_<_}
 use mathlib.Core.Path.{refl}
 use borrow.Author.Needs.{needs}
 use native.Mathlib.Omega.{arith}
@@ -11,11 +12,12 @@ use Rattle.parser.proofs.Pieces.{mode-fits, follows-fits}
 use Rattle.parser.proofs.stmt.print.Statement.{statement}
 use Rattle.parser.proofs.stmt.print.Tie as tie
 
+-- the `System.out.println` is there
+begun : (g : tie.Start) → g .args .i < g .args .n
+begun g = there (g .args .table .now) (g .args .n) (g .args .i) _ 19 refl (g .pre .1) (lit< tt)
+
 matched-requires : tie.Need-matched-requires
-matched-requires c κs =
-    let g = c .before .before .before in
-    let w = there (g .args .table .now) (g .args .n) (g .args .i) _ 19 refl (g .pre .1) (lit< tt) in
-    omega arith
+matched-requires c κs = omega (arith, begun (c .before .before .before), c .before .before .before .pre .0)
 
 operation-requires : tie.Need-operation-requires
 operation-requires c κs =
@@ -27,7 +29,7 @@ operation-requires c κs =
 one-part-requires : tie.Need-one-part-requires
 one-part-requires c κs =
     let g = c .before .before .before .before .before .before .before .before .before .before .before .before .before .before in
-    let w = there (g .args .table .now) (g .args .n) (g .args .i) _ 19 refl (g .pre .1) (lit< tt) in (
+    let w = begun g in (
       omega arith,
       omega arith,
       follows-fits (c .before .followed2 .ensures)

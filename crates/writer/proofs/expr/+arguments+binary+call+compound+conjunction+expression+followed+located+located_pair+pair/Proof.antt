@@ -1,5 +1,5 @@
 -- The cycle of calls on expressions. The measure is 5 for each node that may still come, and the rank of the function. Each return is a
--- law of `ExpressionLaws`.
+-- law of `ExpressionLaws` or of `ListLaws`.
 use Prim.Native.Nat.{ℕ, _<_}
 use borrow.Fn.Kinds.{In}
 use borrow.Fn.PlainCycle.{Measures, is, falls, and}
@@ -49,7 +49,8 @@ use Rattle.writer.proofs.ExpressionLaws.{compound-length, compound-call
 use Rattle.writer.proofs.ExpressionLaws.{compound-binary}
 use Rattle.writer.proofs.ExpressionLaws.{binary-and, binary-operation, followed-wrote, located-wrote, pair-wrote, conjunction-wrote}
 use Rattle.writer.proofs.ExpressionLaws.{located-pair-wrote}
-use Rattle.writer.proofs.ExpressionLaws.{call-wrote, arguments-none, arguments-end, arguments-more}
+use Rattle.writer.proofs.ExpressionLaws.{call-wrote}
+use Rattle.writer.proofs.ListLaws.{of-arguments, list-none, list-end, list-more}
 use borrow.Author.Needs.{needs}
 use Prim.Native.Nat.{_+_, _*_}
 
@@ -160,9 +161,9 @@ pub +arguments+binary+call+compound+conjunction+expression+followed+located+loca
 +arguments+binary+call+compound+conjunction+expression+followed+located+located-pair+pair-spec =
     close μ-arguments μ-binary μ-call μ-compound μ-conjunction μ-expression μ-followed μ-located μ-located-pair μ-pair
     (λ t. arguments-lts.spec (expression-below t, expression.Post, word-reads.Asked, word-reads.Learnt, arguments-below t, arguments.Post)
-    (and 3 arguments-kinds.ps (is 3 arguments-kinds.ps μ-arguments t) arguments.Pre) arguments.Post (λ c. search arguments-none)
-    (λ c. search arguments-end) (λ c κs. search needs) (λ c κs. search needs) (λ c. search needs) (λ c κs. search needs)
-    (λ c. search needs) (λ c. search arguments-more))
+    (and 3 arguments-kinds.ps (is 3 arguments-kinds.ps μ-arguments t) arguments.Pre) arguments.Post (λ c. search (list-none of-arguments))
+    (λ c. search (list-end of-arguments)) (λ c κs. search needs) (λ c κs. search needs) (λ c. search needs) (λ c κs. search needs)
+    (λ c. search needs) (λ c. search (list-more of-arguments)))
     (λ t. binary-lts.spec
     (kind-reads.Asked, kind-reads.Learnt, and 3 conjunction-kinds.ps (falls 3 conjunction-kinds.ps _<_ μ-conjunction t) conjunction.Pre, conjunction.Post, pair-below t, pair.Post)
     (and 3 binary-kinds.ps (is 3 binary-kinds.ps μ-binary t) binary.Pre) binary.Post (λ c κs. search needs) (λ c κs. search needs)

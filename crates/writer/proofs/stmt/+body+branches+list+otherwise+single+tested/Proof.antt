@@ -1,9 +1,10 @@
 -- The cycle of calls on statements. The measure is 4 for each node that may still come, and the rank of the function. Each return is a
--- law of `StatementLaws`.
+-- law of `StatementLaws` or of `ListLaws`.
 use Rattle.writer.proofs.StatementLaws.{statement-none, statement-block, statement-if, statement-while, statement-print}
 use Rattle.writer.proofs.StatementLaws.{statement-put}
 use Rattle.writer.proofs.StatementLaws.{statement-element, statement-assignment, conditional-wrote, loop-wrote, branches-wrote}
-use Rattle.writer.proofs.StatementLaws.{otherwise-wrote, body-wrote, list-none, list-end, list-more}
+use Rattle.writer.proofs.StatementLaws.{otherwise-wrote, body-wrote}
+use Rattle.writer.proofs.ListLaws.{of-statements, list-none, list-end, list-more}
 use borrow.Author.Needs.{needs}
 use Prim.Native.Nat.{ℕ, _<_}
 use borrow.Fn.Kinds.{In}
@@ -103,16 +104,7 @@ branches-calls t = (
 )
 
 abbrev otherwise-calls : ℕ → otherwise-lts.Claims
-otherwise-calls t = (
-  word-reads.Asked,
-  word-reads.Learnt,
-  next-reads.Asked,
-  next-reads.Learnt,
-  single-below t,
-  single.Post,
-  put-reads.Asked,
-  put-reads.Learnt,
-)
+otherwise-calls t = body-calls t
 
 abbrev tested-calls : ℕ → tested-lts.Claims
 tested-calls t = (
@@ -163,8 +155,9 @@ pub +body+branches+list+otherwise+single+tested-spec : {M : Type 1} → statemen
     (λ t. branches-lts.spec (branches-calls t) (branches-at t) branches.Post (λ c κs. search needs) (λ c κs. search needs)
     (λ c κs. search needs) (λ c κs. search needs) (λ c κs. search needs) (λ c κs. search needs) (λ c. search needs) (branches-returns t))
     (λ t. list-lts.spec (single-below t, single.Post, word-reads.Asked, word-reads.Learnt, list-below t, list.Post)
-    (and 3 list-kinds.ps (is 3 list-kinds.ps μ-list t) list.Pre) list.Post (λ c. search list-none) (λ c. search list-end)
-    (λ c κs. search needs) (λ c κs. search needs) (λ c. search needs) (λ c κs. search needs) (λ c. search needs) (λ c. search list-more))
+    (and 3 list-kinds.ps (is 3 list-kinds.ps μ-list t) list.Pre) list.Post (λ c. search (list-none of-statements))
+    (λ c. search (list-end of-statements)) (λ c κs. search needs) (λ c κs. search needs) (λ c. search needs) (λ c κs. search needs)
+    (λ c. search needs) (λ c. search (list-more of-statements)))
     (λ t. otherwise-lts.spec (otherwise-calls t) (otherwise-at t) otherwise.Post (λ c κs. search needs) (λ c κs. search needs)
     (λ c κs. search needs) (λ c κs. search needs) (λ c. search needs) (otherwise-returns t))
     (λ t. single-lts.spec

@@ -1,8 +1,7 @@
 -- The answers of `new_array`.
-use Prim.Native.Nat.{ℕ}
+use Prim.Native.Nat.{ℕ, _+_, _≤_, _<_}
 use Rattle.parser.proofs.expr.new_array.Reads as new-array
 use Rattle.parser.proofs.expr.+arguments+call+element+levels+new_array+operand+operation+operations+parentheses+port_get+postfix+primary+some_arguments+suffixes+unary.Lts-new_array as new-array-lts
-use Prim.Native.Nat.{_+_}
 use borrow.Author.Needs.{needs}
 use native.Mathlib.Omega.{arith}
 use lib.Dec.{lit<}
@@ -14,6 +13,16 @@ use Rattle.parser.proofs.expr.+arguments+call+element+levels+new_array+
 use Rattle.parser.proofs.expr.+arguments+call+element+levels+new_array+operand+operation+operations+parentheses+port_get+postfix+primary+some_arguments+suffixes+unary.Proof.At.{new-array-calls}
 
 module _ (t : ℕ) where
+  -- a length was read, and the `]` after it
+  bounds : (c : new-array-lts.After-b (new-array-calls t) (new-array-at t) new-array.Post)
+      → let g = c .before .before .before .before .before .before .before .before .before .before .before .before .args in
+      (g .n ≤ 2048) × (g .i + 4 < c .b .given .0 .1 .0) × (c .b .given .0 .1 .0 ≤ g .n) × (c .b .given .0 .0 < g .n)
+  bounds c =
+      let l = follows-ok (c .b .given .1) (c .before .before .followed .ensures) (lit< tt)
+      (c .before .before .before .before .before .before .operation .ensures .within) in
+      let r = c .before .before .before .before .before .before .before .before .before .before .before .before .pre .1 in
+      (r .0 .few, omega (arith, l .0), l .1, l .2)
+
   pub new-array-add-kind : new-array-lts.Need-add-kind (new-array-calls t) (new-array-at t) new-array.Post
   new-array-add-kind c = search needs
 
@@ -25,9 +34,9 @@ module _ (t : ℕ) where
 
   pub new-array-operation-requires : new-array-lts.Need-operation-requires (new-array-calls t) (new-array-at t) new-array.Post
   new-array-operation-requires c κs =
-      let g = c .before .before .before .before .before in
-      let w = there (g .args .table .now) (g .args .n) (g .args .i + 2) _ 36 (c .before .before .kind .ensures) (c .before .if1 .taken)
-      (lit< tt) in
+      let k = c .before in
+      let g = k .before .before .before .before .args in
+      let w = there (g .table .now) (g .n) (g .i + 2) _ 36 (k .before .kind .ensures) (k .if1 .taken) (lit< tt) in
       omega arith
 
   pub new-array-followed-requires : new-array-lts.Need-followed-requires (new-array-calls t) (new-array-at t) new-array.Post
@@ -37,41 +46,21 @@ module _ (t : ℕ) where
   new-array-enum-known-b c = search needs
 
   pub new-array-node-requires : new-array-lts.Need-node-requires (new-array-calls t) (new-array-at t) new-array.Post
-  new-array-node-requires c κs =
-      let g = c .before .before .before .before .before .before .before .before .before .before .before .before .before .before in
-      let w = there (g .args .table .now) (g .args .n) (g .args .i + 2) _ 36
-      (c .before .before .before .before .before .before .before .before .before .before .before .kind .ensures)
-      (c .before .before .before .before .before .before .before .before .before .before .if1 .taken) (lit< tt) in
-      let l = follows-ok (c .before .before .b .given .1) (c .before .before .before .before .followed .ensures) (lit< tt)
-      (c .before .before .before .before .before .before .before .before .operation .ensures .within) in
-      omega arith
+  new-array-node-requires c κs = omega (arith, bounds (c .before .before))
 
   pub new-array-suffixes-requires : new-array-lts.Need-suffixes-requires (new-array-calls t) (new-array-at t) new-array.Post
-  new-array-suffixes-requires c κs =
-      let g = c .before .before .before .before .before .before .before .before .before .before .before .before .before .before .before .before .before .before in
-      let w = there (g .args .table .now) (g .args .n) (g .args .i + 2) _ 36
-      (c .before .before .before .before .before .before .before .before .before .before .before .before .before .before .before .kind
-      .ensures) (c .before .before .before .before .before .before .before .before .before .before .before .before .before .before .if1
-      .taken) (lit< tt) in
-      let l = follows-ok (c .before .before .before .before .before .before .b .given .1)
-      (c .before .before .before .before .before .before .before .before .followed .ensures) (lit< tt)
-      (c .before .before .before .before .before .before .before .before .before .before .before .before .operation .ensures .within) in
-      omega arith
+  new-array-suffixes-requires c κs = omega (arith, bounds (c .before .before .before .before .before .before))
 
   pub new-array-same-length : new-array-lts.Need-same-length (new-array-calls t) (new-array-at t) new-array.Post
   new-array-same-length c = search needs
 
   pub new-array-returns : new-array-lts.Need-returns (new-array-calls t) (new-array-at t) new-array.Post
   new-array-returns c =
-      let g = c .before .before .before .before .before .before .before .before .before .before .before .before .before .before .before .before .before .before .before .before .before in
-      array-ok (g .args .table .now) (g .args .n) (g .args .i) (g .pre .1 .1) (g .pre .1 .0 .few)
-      (c .before .before .before .before .before .before .before .before .before .before .before .before .before .before .before .before
-      .before .before .kind .ensures)
-      (c .before .before .before .before .before .before .before .before .before .before .before .before .before .before .before .before
-      .before .if1 .taken)
-      (c .before .before .before .before .before .before .before .before .before .before .before .before .before .before .before
-      .operation .ensures) (c .before .before .before .before .before .before .before .before .before .before .before .followed .ensures)
-      (c .before .before .before .before .before .before .before .before .before .b .given .1)
+      let b = c .before .before .before .before .before .before .before .before .before in
+      let k = b .before .before .before .before .before .before .before .before in
+      let g = k .before .before .before .before in
+      array-ok (g .args .table .now) (g .args .n) (g .args .i) (g .pre .1 .1) (g .pre .1 .0 .few) (k .before .kind .ensures) (k .if1 .taken)
+      (b .before .before .before .before .before .before .operation .ensures) (b .before .before .followed .ensures) (b .b .given .1)
       (c .before .before .before .before .before .before .node .ensures) (c .before .before .suffixes .ensures)
 
   pub new-array-enum-known-b-2 : new-array-lts.Need-enum-known-b-2 (new-array-calls t) (new-array-at t) new-array.Post
@@ -82,12 +71,12 @@ module _ (t : ℕ) where
 
   pub new-array-returns-2 : new-array-lts.Need-returns-2 (new-array-calls t) (new-array-at t) new-array.Post
   new-array-returns-2 c =
-      let g = c .before .before .before .before .before .before .before .before .before .before .before .before .before in
-      array-bad (g .args .table .now) (g .args .n) (g .args .i) (g .pre .1 .1) (g .pre .1 .0 .few)
-      (c .before .before .before .before .before .before .before .before .before .before .kind .ensures)
-      (c .before .before .before .before .before .before .before .before .before .if1 .taken)
-      (c .before .before .before .before .before .before .before .operation .ensures) (c .before .before .before .followed .ensures)
-      (c .before .b2 .given .1)
+      let b = c .before in
+      let k = b .before .before .before .before .before .before .before .before in
+      let g = k .before .before .before .before in
+      array-bad (g .args .table .now) (g .args .n) (g .args .i) (g .pre .1 .1) (g .pre .1 .0 .few) (k .before .kind .ensures)
+      (k .if1 .taken)
+      (b .before .before .before .before .before .before .operation .ensures) (b .before .before .followed .ensures) (b .b2 .given .1)
 
   pub new-array-add-t12 : new-array-lts.Need-add-t12 (new-array-calls t) (new-array-at t) new-array.Post
   new-array-add-t12 c = search needs

@@ -1,5 +1,5 @@
 -- The answers of `port_get`.
-use Prim.Native.Nat.{ℕ}
+use Prim.Native.Nat.{ℕ, _<_}
 use Rattle.parser.proofs.expr.port_get.Reads as port-get
 use Rattle.parser.proofs.expr.+arguments+call+element+levels+new_array+operand+operation+operations+parentheses+port_get+postfix+primary+some_arguments+suffixes+unary.Lts-port_get as port-get-lts
 use mathlib.Core.Path.{refl}
@@ -15,11 +15,12 @@ use Rattle.parser.proofs.expr.+arguments+call+element+levels+new_array+
 use Rattle.parser.proofs.expr.+arguments+call+element+levels+new_array+operand+operation+operations+parentheses+port_get+postfix+primary+some_arguments+suffixes+unary.Proof.At.{port-get-calls}
 
 module _ (t : ℕ) where
+  -- the `Port` is there
+  begun : (g : port-get-lts.Start (port-get-calls t) (port-get-at t) port-get.Post) → g .args .i < g .args .n
+  begun g = there (g .args .table .now) (g .args .n) (g .args .i) _ 40 refl (g .pre .1 .1) (lit< tt)
+
   pub port-get-member-head-requires : port-get-lts.Need-member-head-requires (port-get-calls t) (port-get-at t) port-get.Post
-  port-get-member-head-requires c κs =
-      let g = c .before .before in
-      let w = there (g .args .table .now) (g .args .n) (g .args .i) _ 40 refl (g .pre .1 .1) (lit< tt) in
-      omega arith
+  port-get-member-head-requires c κs = omega (arith, begun (c .before .before), c .before .before .pre .1)
 
   pub port-get-add-t10 : port-get-lts.Need-add-t10 (port-get-calls t) (port-get-at t) port-get.Post
   port-get-add-t10 c = search needs
@@ -52,10 +53,11 @@ module _ (t : ℕ) where
   pub port-get-one-part-requires : port-get-lts.Need-one-part-requires (port-get-calls t) (port-get-at t) port-get.Post
   port-get-one-part-requires c κs =
       let g = c .before .before .before .before .before .before .before .before .before .before .before in
-      let w = there (g .args .table .now) (g .args .n) (g .args .i) _ 40 refl (g .pre .1 .1) (lit< tt) in (
+      let w = begun g in (
         omega arith,
         omega arith,
-        follows-fits (c .before .followed .ensures) (mode-fits (g .pre .1 .0 .few) (c .before .before .before .before .before .operation .ensures)),
+        follows-fits (c .before .followed .ensures)
+            (mode-fits (g .pre .1 .0 .few) (c .before .before .before .before .before .operation .ensures)),
       )
 
   pub port-get-same-length-2 : port-get-lts.Need-same-length-2 (port-get-calls t) (port-get-at t) port-get.Post

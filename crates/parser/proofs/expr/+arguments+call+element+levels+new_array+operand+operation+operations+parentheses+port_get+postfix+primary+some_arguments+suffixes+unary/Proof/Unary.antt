@@ -1,5 +1,5 @@
 -- The answers of `unary`.
-use Prim.Native.Nat.{ℕ}
+use Prim.Native.Nat.{ℕ, _<_}
 use Rattle.parser.proofs.expr.unary.Reads as unary
 use Rattle.parser.proofs.expr.+arguments+call+element+levels+new_array+operand+operation+operations+parentheses+port_get+postfix+primary+some_arguments+suffixes+unary.Lts-unary as unary-lts
 use borrow.Author.Needs.{needs}
@@ -12,6 +12,12 @@ use Rattle.parser.proofs.expr.+arguments+call+element+levels+new_array+
 use Rattle.parser.proofs.expr.+arguments+call+element+levels+new_array+operand+operation+operations+parentheses+port_get+postfix+primary+some_arguments+suffixes+unary.Proof.At.{unary-calls}
 
 module _ (t : ℕ) where
+  -- the `!` is there
+  begun : (c : unary-lts.Then1 (unary-calls t) (unary-at t) unary.Post) → let g = c .before .before .before .before .args in g .i < g .n
+  begun c =
+      let g = c .before .before .before .before .args in
+      there (g .table .now) (g .n) (g .i) _ 29 (c .before .kind .ensures) (c .if1 .taken) (lit< tt)
+
   pub unary-kind-requires : unary-lts.Need-kind-requires (unary-calls t) (unary-at t) unary.Post
   unary-kind-requires c κs = search needs
 
@@ -19,19 +25,13 @@ module _ (t : ℕ) where
   unary-add-unary c = search needs
 
   pub unary-unary-requires : unary-lts.Need-unary-requires (unary-calls t) (unary-at t) unary.Post
-  unary-unary-requires c κs =
-      let g = c .before .before .before .before .before in
-      let w = there (g .args .table .now) (g .args .n) (g .args .i) _ 29 (c .before .before .kind .ensures) (c .before .if1 .taken)
-      (lit< tt) in
-      omega arith
+  unary-unary-requires c κs = omega (arith, begun (c .before))
 
   pub unary-one-part-requires : unary-lts.Need-one-part-requires (unary-calls t) (unary-at t) unary.Post
   unary-one-part-requires c κs =
-      let g = c .before .before .before .before .before .before .before .before .before in
-      let w = there (g .args .table .now) (g .args .n) (g .args .i) _ 29
-      (c .before .before .before .before .before .before .kind .ensures) (c .before .before .before .before .before .if1 .taken)
-      (lit< tt) in
-      (omega arith, omega arith, mode-fits (g .pre .1 .few) (c .before .before .before .unary .ensures))
+      let k = c .before .before .before .before .before in
+      let w = begun k in
+      (omega arith, omega arith, mode-fits (k .before .before .before .before .pre .1 .few) (c .before .before .before .unary .ensures))
 
   pub unary-postfix-requires : unary-lts.Need-postfix-requires (unary-calls t) (unary-at t) unary.Post
   unary-postfix-requires c κs = search needs

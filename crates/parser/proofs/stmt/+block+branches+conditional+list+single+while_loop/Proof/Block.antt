@@ -1,5 +1,5 @@
 -- The answers of `block`.
-use Prim.Native.Nat.{ℕ}
+use Prim.Native.Nat.{ℕ, _<_}
 use Rattle.parser.proofs.stmt.block.Reads as block
 use Rattle.parser.proofs.stmt.+block+branches+conditional+list+single+while_loop.Lts-block as block-lts
 use mathlib.Core.Path.{refl}
@@ -12,22 +12,22 @@ use Rattle.parser.proofs.Pieces.{list-fits, follows-fits}
 use Rattle.parser.proofs.stmt.+block+branches+conditional+list+single+while_loop.Proof.At.{block-at, block-calls}
 
 module _ (t : ℕ) where
+  -- the `{` is there
+  begun : (g : block-lts.Start (block-calls t) (block-at t) block.Post) → g .args .i < g .args .n
+  begun g = there (g .args .table .now) (g .args .n) (g .args .i) _ 38 refl (g .pre .1 .1) (lit< tt)
+
   pub block-add-list : block-lts.Need-add-list (block-calls t) (block-at t) block.Post
   block-add-list c = search needs
 
   pub block-list-requires : block-lts.Need-list-requires (block-calls t) (block-at t) block.Post
-  block-list-requires c κs =
-      let w = there (c .before .before .args .table .now) (c .before .before .args .n) (c .before .before .args .i) _ 38 refl
-      (c .before .before .pre .1 .1) (lit< tt) in
-      omega arith
+  block-list-requires c κs = omega (arith, begun (c .before .before), c .before .before .pre .1)
 
   pub block-followed-requires : block-lts.Need-followed-requires (block-calls t) (block-at t) block.Post
   block-followed-requires c κs = search needs
 
   pub block-one-part-requires : block-lts.Need-one-part-requires (block-calls t) (block-at t) block.Post
   block-one-part-requires c κs =
-      let g = c .before .before .before .before .before .before .before .before in
-      let w = there (g .args .table .now) (g .args .n) (g .args .i) _ 38 refl (g .pre .1 .1) (lit< tt) in (
+      let w = begun (c .before .before .before .before .before .before .before .before) in (
         omega arith,
         omega arith,
         follows-fits (c .before .followed .ensures)

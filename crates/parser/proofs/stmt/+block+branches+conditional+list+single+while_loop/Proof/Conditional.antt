@@ -2,12 +2,10 @@
 use Prim.Native.Nat.{ℕ}
 use Rattle.parser.proofs.stmt.conditional.Reads as conditional
 use Rattle.parser.proofs.stmt.+block+branches+conditional+list+single+while_loop.Lts-conditional as conditional-lts
-use mathlib.Core.Path.{refl}
 use borrow.Author.Needs.{needs}
 use native.Mathlib.Omega.{arith}
 use lib.Dec.{lit<}
-use Rattle.parser.proofs.Laws.{there, within-ok}
-use Rattle.parser.proofs.Statements.{conditional-bad, conditional-ok}
+use Rattle.parser.proofs.Statements.{after-test, conditional-bad, conditional-ok}
 use Rattle.parser.proofs.stmt.+block+branches+conditional+list+single+while_loop.Proof.At.{conditional-at, conditional-calls}
 
 module _ (t : ℕ) where
@@ -19,10 +17,9 @@ module _ (t : ℕ) where
 
   pub conditional-branches-requires : conditional-lts.Need-branches-requires (conditional-calls t) (conditional-at t) conditional.Post
   conditional-branches-requires c κs =
-      let g = c .before .before .before .before .before .before .before .before .before in
-      let w = within-ok (c .before .before .a .given .1)
-      (c .before .before .before .before .before .before .test .ensures .piece .within) in
-      let l = there (g .args .table .now) (g .args .n) (g .args .i) _ 10 refl (g .pre .1 .1) (lit< tt) in
+      let a = c .before .before in
+      let w = after-test (a .before .before .before .before .before .before .before .pre .1 .1) (lit< tt)
+      (a .before .before .before .before .test .ensures) (a .a .given .1) in
       omega arith
 
   pub conditional-enum-known-a-2 : conditional-lts.Need-enum-known-a-2 (conditional-calls t) (conditional-at t) conditional.Post

@@ -1,17 +1,23 @@
 -- The answers of `while_loop`.
-use Prim.Native.Nat.{ℕ}
+use Prim.Native.Nat.{ℕ, _+_, _≤_, _<_}
 use Rattle.parser.proofs.stmt.while_loop.Reads as while-loop
 use Rattle.parser.proofs.stmt.+block+branches+conditional+list+single+while_loop.Lts-while_loop as while-loop-lts
-use mathlib.Core.Path.{refl}
 use borrow.Author.Needs.{needs}
 use native.Mathlib.Omega.{arith}
 use lib.Dec.{lit<}
-use Rattle.parser.proofs.Laws.{there, within-ok}
-use Rattle.parser.proofs.Statements.{while-bad, while-ok}
+use Rattle.parser.proofs.Statements.{after-test, while-bad, while-ok}
 use Rattle.parser.proofs.Pieces.{mode-fits}
 use Rattle.parser.proofs.stmt.+block+branches+conditional+list+single+while_loop.Proof.At.{while-loop-at, while-loop-calls}
 
 module _ (t : ℕ) where
+  -- a test was read
+  bounds : (c : while-loop-lts.After-a (while-loop-calls t) (while-loop-at t) while-loop.Post)
+      → let g = c .before .before .before .before .before .before .before .args in
+      (g .i < g .n) × (g .i + 1 ≤ c .a .given .0 .1 .0) × (c .a .given .0 .1 .0 ≤ g .n) × (c .a .given .0 .0 < g .n)
+  bounds c =
+      after-test (c .before .before .before .before .before .before .before .pre .1 .1) (lit< tt)
+      (c .before .before .before .before .test .ensures) (c .a .given .1)
+
   pub while-loop-test-requires : while-loop-lts.Need-test-requires (while-loop-calls t) (while-loop-at t) while-loop.Post
   while-loop-test-requires c κs = search needs
 
@@ -19,20 +25,15 @@ module _ (t : ℕ) where
   while-loop-enum-known-a c = search needs
 
   pub while-loop-single-requires : while-loop-lts.Need-single-requires (while-loop-calls t) (while-loop-at t) while-loop.Post
-  while-loop-single-requires c κs =
-      let g = c .before .before .before .before .before .before .before .before .before in
-      let w = within-ok (c .before .before .a .given .1)
-      (c .before .before .before .before .before .before .test .ensures .piece .within) in
-      let l = there (g .args .table .now) (g .args .n) (g .args .i) _ 23 refl (g .pre .1 .1) (lit< tt) in
-      omega arith
+  while-loop-single-requires c κs = omega (arith, bounds (c .before .before))
 
   pub while-loop-two-parts-requires : while-loop-lts.Need-two-parts-requires (while-loop-calls t) (while-loop-at t) while-loop.Post
   while-loop-two-parts-requires c κs =
-      let g = c .before .before .before .before .before .before .before .before .before .before .before .before .before in
-      let w = there (g .args .table .now) (g .args .n) (g .args .i) _ 23 refl (g .pre .1 .1) (lit< tt) in
-      let l = within-ok (c .before .before .before .before .before .before .a .given .1)
-      (c .before .before .before .before .before .before .before .before .before .before .test .ensures .piece .within) in
-      (omega arith, omega arith, omega arith, omega arith, mode-fits (g .pre .1 .0 .few) (c .before .before .before .single .ensures))
+      let a = c .before .before .before .before .before .before in
+      let w = bounds a in
+      let f = mode-fits (a .before .before .before .before .before .before .before .pre .1 .0 .few)
+      (c .before .before .before .single .ensures) in
+      (omega arith, omega arith, omega arith, omega arith, f)
 
   pub while-loop-enum-known-a-2 : while-loop-lts.Need-enum-known-a-2 (while-loop-calls t) (while-loop-at t) while-loop.Post
   while-loop-enum-known-a-2 c = search needs

@@ -1,0 +1,237 @@
+"""The lesson engine: MiniJava from bytes to printed numbers.
+
+A lesson goes in, an answer comes out. The operations are proved; this module, which lends them what they need, is tested.
+
+>>> run(b"class M{public static void main(String[] a){System.out.println(1+2);}}").printed
+[3]
+>>> try:
+...     check(b"class M{public static void main(String[] a){x=1;}}")
+... except Refusal as refusal:
+...     print(refusal.number, refusal.position, refusal.name)
+30 44 name unknown
+
+It takes libengine.so from the folder that the environment names as ENGINE_LIBRARY, or from where ./build of the repository writes it. A call needs up to STACK_BYTES of stack
+beside the interpreter's own. Any number of threads may call at once.
+"""
+import ctypes
+import dataclasses
+import os
+import pathlib
+import typing
+
+VERSION = 1  # of include/engine.h, whose declarations stand here again
+TABLE_WORDS = 16384
+HEAP_MOST = 16384
+REGISTERS = 16
+CLASSES_MOST = 2048
+STACK_BYTES = 1048576
+
+
+class Words(typing.NamedTuple):
+    """What a number means. `cause` is `call` where what was lent does not fit, `lesson` where the lesson is refused, `fault` or `limit` where a run ended so."""
+
+    name: str
+    sentence: str
+    cause: str
+
+
+WORDS = {
+    # [words/write
+    1: Words("table too short", "The work table has fewer than 16,384 words.", "call"),
+    2: Words("call limit out of range", "The call limit is not 1 to 64.", "call"),
+    3: Words("heap too long", "The heap strip has more than 16,384 words.", "call"),
+    4: Words("strip too short", "The strip has fewer words than the lesson has classes beside main's.", "call"),
+    10: Words("source too long", "The lesson has more than 16,384 bytes.", "lesson"),
+    11: Words("no token", "No word, number or mark of the language begins with this byte.", "lesson"),
+    12: Words("comment not closed", "A block comment is opened and never closed; comments nest, so each opening needs its own closing.", "lesson"),
+    13: Words("name too long", "A name has more than 255 letters, digits and underscores.", "lesson"),
+    14: Words("literal too large", "A number is larger than 2147483647.", "lesson"),
+    15: Words("too many tokens", "The lesson has more than 2,048 words, numbers and marks.", "lesson"),
+    16: Words("not in grammar", "No program goes on like this from here: something is missing, misplaced or too much.", "lesson"),
+    17: Words("too deep", "A statement or an expression lies inside more than 63 others.", "lesson"),
+    20: Words("class repeated", "Another class before this one has the same name.", "lesson"),
+    21: Words("parent unknown", "The lesson has no class of the name after `extends`; the main class cannot be extended.", "lesson"),
+    22: Words("chain endless", "The class extends itself, or its parents lead into a loop.", "lesson"),
+    23: Words("field repeated", "The class has another field of the same name.", "lesson"),
+    24: Words("type unknown", "The lesson has no class of this name; the main class is no type.", "lesson"),
+    25: Words("method repeated", "The class has another method of the same name.", "lesson"),
+    26: Words("bad redeclaration", "A method of this name in a class above has other parameter types, or a result that this one's does not fit.", "lesson"),
+    27: Words("variable repeated", "The method has another parameter or local of the same name.", "lesson"),
+    28: Words("too many variables", "The method has more than 32 parameters and locals together.", "lesson"),
+    30: Words("name unknown", "No local, parameter or field of this name can be seen here; main sees none at all.", "lesson"),
+    31: Words("wrong type", "This part has another type than its place needs.", "lesson"),
+    32: Words("method unknown", "Neither the class nor a class above it has a method of this name.", "lesson"),
+    33: Words("argument count", "The method takes another number of arguments.", "lesson"),
+    34: Words("this in main", "Main belongs to no object, so it has no `this`.", "lesson"),
+    40: Words("null reference", "There is no object or array here: the reference is null.", "fault"),
+    41: Words("index out of range", "The index is negative, or not below the array's length.", "fault"),
+    42: Words("negative size", "An array cannot have a negative length.", "fault"),
+    50: Words("budget spent", "The budget of steps is spent, and another part is about to begin.", "limit"),
+    51: Words("heap full", "The heap strip has no room for this object or array.", "limit"),
+    52: Words("calls full", "As many calls are open as the call limit allows.", "limit"),
+    53: Words("output full", "The output strip has no room for another number.", "limit"),
+    60: Words("leading zero", "A number of two or more digits begins with 0, which means another number in Java.", "lesson"),
+    62: Words("registers not sixteen", "The register strip has not exactly 16 bytes.", "call"),
+    63: Words("register out of range", "The cable has registers 0 to 15 only.", "fault"),
+    64: Words("value out of range", "A register takes 0 to 255 only.", "fault"),
+    # words/write]
+}
+
+
+class Refusal(Exception):
+    """Why a lesson is refused, or how its run ended otherwise than by itself, and where: a position in bytes, from 0."""
+
+    def __init__(self, number, position):
+        super().__init__(number, position)
+        self.number = number
+        self.position = position
+        self.name, self.sentence, self.cause = WORDS[number]
+
+    def __str__(self):
+        return "%d %s, at byte %d: %s" % (self.number, self.name, self.position, self.sentence)
+
+    def __eq__(self, other):
+        return isinstance(other, Refusal) and self.args == other.args
+
+    def __hash__(self):
+        return hash(self.args)
+
+
+@dataclasses.dataclass(frozen=True)
+class Size:
+    """What Read counts; nodes are statements and expressions."""
+
+    tokens: int
+    nodes: int
+
+
+@dataclasses.dataclass(frozen=True)
+class Limits:
+    """The limits of a run: steps; open calls, 1 to 64; words of objects and arrays, at most 16,384; printed numbers. The default are those of `bayrun`."""
+
+    budget: int = 100000
+    calls: int = 64
+    heap: int = 4096
+    output: int = 256
+
+
+@dataclasses.dataclass(frozen=True)
+class Run:
+    """How a run went. `end` is the fault or limit that ended it, None where the lesson came to its end."""
+
+    end: typing.Optional[Refusal]
+    steps: int
+    climbs: int
+    words: int
+    printed: typing.List[int]
+    registers: bytes
+
+
+class ReadAnswer(ctypes.Structure):
+    _fields_ = [("number", ctypes.c_uint32), ("position", ctypes.c_size_t), ("tokens", ctypes.c_size_t), ("nodes", ctypes.c_size_t)]
+
+
+class CheckAnswer(ctypes.Structure):
+    _fields_ = [("number", ctypes.c_uint32), ("position", ctypes.c_size_t), ("classes", ctypes.c_size_t)]
+
+
+class RunLimits(ctypes.Structure):
+    _fields_ = [("budget", ctypes.c_uint32), ("calls", ctypes.c_size_t)]
+
+
+class RunAnswer(ctypes.Structure):
+    _fields_ = [
+        ("number", ctypes.c_uint32),
+        ("position", ctypes.c_size_t),
+        ("steps", ctypes.c_size_t),
+        ("climbs", ctypes.c_uint64),
+        ("words", ctypes.c_size_t),
+        ("printed", ctypes.c_size_t),
+    ]
+
+
+def load():
+    """The library, with its functions declared; a strip is a pointer and a length."""
+    here = pathlib.Path(__file__).resolve().parent
+    folder = pathlib.Path(os.environ.get("ENGINE_LIBRARY", here.parent.parent / "target" / "lib"))
+    found = ctypes.CDLL(str(folder / "libengine.so"))
+    lesson = [ctypes.c_char_p, ctypes.c_size_t]
+    words = [ctypes.POINTER(ctypes.c_uint32), ctypes.c_size_t]
+    numbers = [ctypes.POINTER(ctypes.c_int32), ctypes.c_size_t]
+    registers = [ctypes.POINTER(ctypes.c_uint8), ctypes.c_size_t]
+    found.engine_version.argtypes, found.engine_version.restype = [], ctypes.c_uint32
+    found.engine_read.argtypes, found.engine_read.restype = lesson + words, ReadAnswer
+    found.engine_check.argtypes, found.engine_check.restype = lesson + words, CheckAnswer
+    found.engine_menu.argtypes, found.engine_menu.restype = lesson + words + words, CheckAnswer
+    found.engine_run.argtypes, found.engine_run.restype = lesson + words + [RunLimits] + numbers + numbers + registers + lesson, RunAnswer
+    if found.engine_version() != VERSION:
+        raise ImportError("libengine.so has version %d, not %d" % (found.engine_version(), VERSION))
+    return found
+
+
+LIBRARY = load()
+
+
+def strip(kind, length):
+    """Room for so many numbers of a kind, and the length; never null, as a pointer of ctypes to no elements could be."""
+    return (kind * max(length, 1))(), length
+
+
+def table():
+    return strip(ctypes.c_uint32, TABLE_WORDS)
+
+
+def accepted(answer):
+    if answer.number:
+        raise Refusal(answer.number, answer.position)
+    return answer
+
+
+def read(lesson):
+    """Is the lesson in the grammar, and within the bounds? Raises a Refusal where it is not.
+
+    >>> read(b"class M{public static void main(String[] a){{}}}")
+    Size(tokens=18, nodes=1)
+    """
+    answer = accepted(LIBRARY.engine_read(lesson, len(lesson), *table()))
+    return Size(answer.tokens, answer.nodes)
+
+
+def check(lesson):
+    """May the lesson run? How many classes it has beside main's; raises a Refusal where it may not.
+
+    >>> check(b"class M{public static void main(String[] a){{}}} class A{}")
+    1
+    """
+    return accepted(LIBRARY.engine_check(lesson, len(lesson), *table())).classes
+
+
+def menu(lesson):
+    """Where the names of the classes beside main's stand, a parent before the classes that extend it.
+
+    >>> menu(b"class M{public static void main(String[] a){{}}} class B extends A{} class A{}")
+    [75, 55]
+    """
+    positions, length = strip(ctypes.c_uint32, CLASSES_MOST)
+    answer = accepted(LIBRARY.engine_menu(lesson, len(lesson), *table(), positions, length))
+    return positions[: answer.classes]
+
+
+def run(lesson, limits=Limits(), tape=b""):
+    """Checks the lesson and runs it, with samples of a tape. Raises a Refusal where the lesson does not run; a run that began is answered, however it ended.
+
+    >>> run(b"class M{public static void main(String[] a){while(true){}}}", Limits(budget=10)).end.name
+    'budget spent'
+    """
+    if not (0 <= limits.budget < 1 << 32 and limits.calls >= 0 and limits.heap >= 0 and limits.output >= 0):
+        raise ValueError("a limit is below 0, or the budget is above 4294967295")
+    # One word more than is allowed is refused as any longer heap is; no run prints more numbers than it has steps.
+    heap = strip(ctypes.c_int32, min(limits.heap, HEAP_MOST + 1))
+    output = strip(ctypes.c_int32, min(limits.output, limits.budget))
+    registers = strip(ctypes.c_uint8, REGISTERS)
+    bounds = RunLimits(limits.budget, min(limits.calls, (1 << 64) - 1))
+    answer = LIBRARY.engine_run(lesson, len(lesson), *table(), bounds, *heap, *output, *registers, tape, len(tape))
+    end = Refusal(answer.number, answer.position) if answer.number else None
+    if end and end.cause in ("call", "lesson"):
+        raise end
+    return Run(end, answer.steps, answer.climbs, answer.words, output[0][: answer.printed], bytes(registers[0]))

@@ -1,0 +1,141 @@
+/* The lesson engine: Read, Check, Menu and Run of a MiniJava lesson, for C and C++ on x86-64 Linux.
+ *
+ * Link libengine.a or libengine.so, which ./build writes into target/lib/. The functions of the library are proved to answer what the definitions say, for all inputs;
+ * this header, like everything outside the library, is tested and not proved.
+ *
+ * What the caller owes. A strip is a pointer and the number of its elements. The pointer is not null, not even for 0 elements, and aligned for its type; the elements are
+ * initialised, readable and, where the pointer is not to const, writable; and nothing that is lent to be written overlaps anything else that is lent. A function keeps no
+ * pointer. Nothing else is asked: every lesson, every length and every number is answered.
+ *
+ * Threads. The library has no state of its own: any number of threads may call it at once, each with strips of its own.
+ *
+ * Stack. A call takes at most ENGINE_STACK_BYTES of stack, whatever the lesson is. It allocates nothing, and calls nothing but memset.
+ *
+ * Time. Read, Check and Menu end within milliseconds. Run takes a time proportional to the steps, which the budget bounds: a few nanoseconds each.
+ *
+ * Positions count the bytes of the lesson from 0. Every answer has a number and a position: 0 at position 0 for success, else one of the numbers below.
+ */
+#ifndef ENGINE_H
+#define ENGINE_H
+
+#include <stddef.h>
+#include <stdint.h>
+
+#ifdef __cplusplus
+extern "C" {
+#endif
+
+/* The version of this header; engine_version() is that of the library. It goes up when a declaration or the meaning of one changes. */
+#define ENGINE_VERSION 1
+
+#define ENGINE_TABLE_WORDS 16384 /* the work table has at least so many words */
+#define ENGINE_SOURCE_MOST 16384 /* a lesson has at most so many bytes; a longer one is refused, and never read past its end */
+#define ENGINE_HEAP_MOST 16384 /* the heap strip has at most so many words */
+#define ENGINE_CALLS_MOST 64 /* the call limit is 1 to this */
+#define ENGINE_REGISTERS 16 /* the register strip has exactly so many bytes */
+#define ENGINE_CLASSES_MOST 2048 /* no lesson has more classes: a strip of so many words is long enough for Menu */
+#define ENGINE_STACK_BYTES 1048576
+
+/* docs/REFUSALS.md has for each number where it stands and a lesson that gives it. */
+enum engine_number {
+    /* [words/write */
+    ENGINE_TABLE_TOO_SHORT = 1, /* The work table has fewer than 16,384 words. */
+    ENGINE_CALL_LIMIT_OUT_OF_RANGE = 2, /* The call limit is not 1 to 64. */
+    ENGINE_HEAP_TOO_LONG = 3, /* The heap strip has more than 16,384 words. */
+    ENGINE_STRIP_TOO_SHORT = 4, /* The strip has fewer words than the lesson has classes beside main's. */
+    ENGINE_SOURCE_TOO_LONG = 10, /* The lesson has more than 16,384 bytes. */
+    ENGINE_NO_TOKEN = 11, /* No word, number or mark of the language begins with this byte. */
+    ENGINE_COMMENT_NOT_CLOSED = 12, /* A block comment is opened and never closed; comments nest, so each opening needs its own closing. */
+    ENGINE_NAME_TOO_LONG = 13, /* A name has more than 255 letters, digits and underscores. */
+    ENGINE_LITERAL_TOO_LARGE = 14, /* A number is larger than 2147483647. */
+    ENGINE_TOO_MANY_TOKENS = 15, /* The lesson has more than 2,048 words, numbers and marks. */
+    ENGINE_NOT_IN_GRAMMAR = 16, /* No program goes on like this from here: something is missing, misplaced or too much. */
+    ENGINE_TOO_DEEP = 17, /* A statement or an expression lies inside more than 63 others. */
+    ENGINE_CLASS_REPEATED = 20, /* Another class before this one has the same name. */
+    ENGINE_PARENT_UNKNOWN = 21, /* The lesson has no class of the name after `extends`; the main class cannot be extended. */
+    ENGINE_CHAIN_ENDLESS = 22, /* The class extends itself, or its parents lead into a loop. */
+    ENGINE_FIELD_REPEATED = 23, /* The class has another field of the same name. */
+    ENGINE_TYPE_UNKNOWN = 24, /* The lesson has no class of this name; the main class is no type. */
+    ENGINE_METHOD_REPEATED = 25, /* The class has another method of the same name. */
+    ENGINE_BAD_REDECLARATION = 26, /* A method of this name in a class above has other parameter types, or a result that this one's does not fit. */
+    ENGINE_VARIABLE_REPEATED = 27, /* The method has another parameter or local of the same name. */
+    ENGINE_TOO_MANY_VARIABLES = 28, /* The method has more than 32 parameters and locals together. */
+    ENGINE_NAME_UNKNOWN = 30, /* No local, parameter or field of this name can be seen here; main sees none at all. */
+    ENGINE_WRONG_TYPE = 31, /* This part has another type than its place needs. */
+    ENGINE_METHOD_UNKNOWN = 32, /* Neither the class nor a class above it has a method of this name. */
+    ENGINE_ARGUMENT_COUNT = 33, /* The method takes another number of arguments. */
+    ENGINE_THIS_IN_MAIN = 34, /* Main belongs to no object, so it has no `this`. */
+    ENGINE_NULL_REFERENCE = 40, /* There is no object or array here: the reference is null. */
+    ENGINE_INDEX_OUT_OF_RANGE = 41, /* The index is negative, or not below the array's length. */
+    ENGINE_NEGATIVE_SIZE = 42, /* An array cannot have a negative length. */
+    ENGINE_BUDGET_SPENT = 50, /* The budget of steps is spent, and another part is about to begin. */
+    ENGINE_HEAP_FULL = 51, /* The heap strip has no room for this object or array. */
+    ENGINE_CALLS_FULL = 52, /* As many calls are open as the call limit allows. */
+    ENGINE_OUTPUT_FULL = 53, /* The output strip has no room for another number. */
+    ENGINE_LEADING_ZERO = 60, /* A number of two or more digits begins with 0, which means another number in Java. */
+    ENGINE_REGISTERS_NOT_SIXTEEN = 62, /* The register strip has not exactly 16 bytes. */
+    ENGINE_REGISTER_OUT_OF_RANGE = 63, /* The cable has registers 0 to 15 only. */
+    ENGINE_VALUE_OUT_OF_RANGE = 64, /* A register takes 0 to 255 only. */
+    /* words/write] */
+    ENGINE_SUCCESS = 0
+};
+
+/* The answer of Read; the counts are 0 after a refusal. */
+typedef struct {
+    uint32_t number;
+    size_t position;
+    size_t tokens;
+    size_t nodes; /* statements and expressions */
+} engine_read_answer;
+
+/* The answer of Check and of Menu. */
+typedef struct {
+    uint32_t number;
+    size_t position;
+    size_t classes; /* beside main's; 0 after a refusal */
+} engine_check_answer;
+
+/* The limits of a run. Two more are the lengths of the heap strip and of the output strip. */
+typedef struct {
+    uint32_t budget; /* steps: every statement and every expression that begins takes one */
+    size_t calls;    /* how many calls may be open at once, main not counted */
+} engine_limits;
+
+/* The answer of Run. The counts are those of the run up to its end, also where a fault or a limit ended it; they are 0 where the lesson was refused and never ran. */
+typedef struct {
+    uint32_t number;
+    size_t position;
+    size_t steps;
+    uint64_t climbs; /* how many classes were visited to find the methods of all calls */
+    size_t words;    /* of the heap strip: 1 for each object and array, and 1 for each field and element */
+    size_t printed;  /* how many numbers lead the output strip */
+} engine_run_answer;
+
+uint32_t engine_version(void);
+
+/* In all four `table` is room to work in. What it holds before does not matter; afterwards each of its words is 0, unless the answer is one of 1, 2, 3 and 62: these touch
+ * nothing that is lent. */
+
+/* Is the lesson in the grammar, and within the bounds? Refuses with 1, 10 to 17 and 60. */
+engine_read_answer engine_read(const uint8_t *source, size_t source_length, uint32_t *table, size_t table_length);
+
+/* May the lesson run: are its names and types right too? Refuses as Read does, and with 20 to 34. */
+engine_check_answer engine_check(const uint8_t *source, size_t source_length, uint32_t *table, size_t table_length);
+
+/* Where do the names of the classes stand? After success `strip` begins with the position of the name of each class beside main's, each once, a parent before the classes that
+ * extend it and otherwise as they stand in the lesson; its rest is unchanged, and so is all of it after a refusal. Refuses as Check does, and with 4. */
+engine_check_answer engine_menu(const uint8_t *source, size_t source_length, uint32_t *table, size_t table_length, uint32_t *strip, size_t strip_length);
+
+/* Checks the lesson and runs it. Refuses with 1, 2, 3, 62 and as Check does; then the run ends in 0, in a fault (40 to 42, 63, 64) or at a limit (50 to 53).
+ *   heap       room for objects and arrays. All 0 afterwards, also where Check refuses.
+ *   output     begins with the printed numbers afterwards; its rest is unchanged, and so is all of it where the lesson is refused.
+ *   registers  what the 16 registers hold at the end of the run, which sets them to 0 first; unchanged where the lesson is refused.
+ *   tape       the samples that come in over the cable, one with every hundredth step; a length of 0 for none. */
+engine_run_answer engine_run(const uint8_t *source, size_t source_length, uint32_t *table, size_t table_length, engine_limits limits, int32_t *heap, size_t heap_length,
+                             int32_t *output, size_t output_length, uint8_t *registers, size_t registers_length, const uint8_t *tape, size_t tape_length);
+
+#ifdef __cplusplus
+}
+#endif
+
+#endif
