@@ -7,7 +7,7 @@ use lib.ListN.{length}
 use lib.Dec.{eqb, ltb}
 use Rattle.base.specs.Choice.{if_then_else_, option}
 use Rattle.base.specs.contracts.Table.{col}
-use Rattle.lexer.specs.Kinds.{isName, kLiteral, kTrue, kFalse, kThis, kNew, kOpenBracket}
+use Rattle.lexer.specs.Kinds.{isName, kLiteral, kFixedLiteral, kTrue, kFalse, kThis, kNew, kOpenBracket}
 use Rattle.lexer.specs.Tokens.{Token}
 use Rattle.parser.specs.declared.answer.Answer.{Answer}
 use Rattle.parser.specs.declared.answer.Answer.the-variants.{At, Bad}
@@ -74,7 +74,7 @@ startsArray tab n i =
 
 -- an expression of one token
 unfoldable pub isAtom : ℕ → Bool
-isAtom k = eqb k kLiteral || eqb k kTrue || eqb k kFalse || eqb k kThis || isName k
+isAtom k = eqb k kFixedLiteral || eqb k kLiteral || eqb k kTrue || eqb k kFalse || eqb k kThis || isName k
 
 -- how many parsers a parser of a mode opens at the same token
 abbrev pub rank : {s : Sort} → Mode s → ℕ
