@@ -68,7 +68,7 @@ pub data HasName (G : List Class) (Γ : Context) : List ℕ → Ty → Type 0 wh
 -- EXPRESSIONS
 mutual
   pub data HasType (G : List Class) (Γ : Context) : Expression → Ty → Type 0 where
-    t-literal : {p : Place} {n : Numeral} → HasType G Γ (literal p n) (numeralType n)
+    t-literal : {p : Place} {n : Numeral} {t : Ty} → numeralType n ≡ t → HasType G Γ (literal p n) t
     t-truth : {p : Place} {b : Bool} → HasType G Γ (truth p b) (plain boolean)
     t-variable : {p : Place} {x : List ℕ} {t : Ty} → HasName G Γ x t → HasType G Γ (variable p x) t
     t-this : {p : Place} {c : List ℕ} → Γ .owner ≡ some c → HasType G Γ (this p) (plain (class c))
