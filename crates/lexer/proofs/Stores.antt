@@ -10,8 +10,8 @@ use mathlib.Core.Path.{_≡_, refl, sym, ap, _∙_, subst}
 use lib.ListN.{length, take, drop}
 use borrow.Author.Tests.{eq-eqb}
 use Rattle.base.specs.contracts.Table.{col, put, rows, size, length-put, col-put-same, col-put-other}
-use Rattle.lexer.specs.Kinds.{kLiteral, isName}
-use Rattle.lexer.specs.Tokens.{Token, decimal}
+use Rattle.lexer.specs.Kinds.{kLiteral, kFixedLiteral, isName}
+use Rattle.lexer.specs.Tokens.{Token, decimal, thousandthsOf}
 use Rattle.lexer.specs.contracts.Rows.{firstNamed}
 use Rattle.base.specs.laws.Tests.{apart}
 use Rattle.lexer.specs.laws.RowLaws.{first-named, first-most}
@@ -62,6 +62,7 @@ module _ (s : List ℕ) {tab tab′ : List ℕ} {n : ℕ} (kept : Same n tab tab
             ∙ r .name (sym (ap isName k0) ∙ m)
             ∙ (λ j. firstNamed (sym (tokens-kept i (omega arith)) j) (sym (text-kept i h) j));
         literal = λ m. k2 ∙ r .literal (sym k0 ∙ m) ∙ ap (decimal 0) (sym (text-kept i h));
+        fixed = λ m. k2 ∙ r .fixed (sym k0 ∙ m) ∙ ap thousandthsOf (sym (text-kept i h));
       }
 
   reaches-kept : {m x : ℕ} {t : List ℕ} → n ≤ m → Reaches s tab n t x → Reaches s tab′ m t x
@@ -165,6 +166,7 @@ pub record Fits (s tab : List ℕ) (n : ℕ) (r : TokenRow) : Type 0 where
   pub link : Link tab n (r .link)
   pub name : isName (r .kind) ≡ true → r .number ≡ firstNamed (tokensOf s tab n) (textOf s r)
   pub literal : r .kind ≡ kLiteral → r .number ≡ decimal 0 (textOf s r)
+  pub fixed : r .kind ≡ kFixedLiteral → r .number ≡ thousandthsOf (textOf s r)
 
 module _ (s : List ℕ) {tab tab′ : List ℕ} {n : ℕ} {r : TokenRow} (m : Becomes tab tab′ n r) where
   new-text : textAt s tab′ n ≡ textOf s r
@@ -185,6 +187,7 @@ module _ (s : List ℕ) {tab tab′ : List ℕ} {n : ℕ} {r : TokenRow} (m : Be
         ∙ f .name (sym (ap isName (m .kind)) ∙ q)
         ∙ (λ j. firstNamed (sym (tokens-kept s (m .kept) n (omega arith)) j) (sym new-text j));
     literal = λ q. m .number ∙ f .literal (sym (m .kind) ∙ q) ∙ ap (decimal 0) (sym new-text);
+    fixed = λ q. m .number ∙ f .fixed (sym (m .kind) ∙ q) ∙ ap thousandthsOf (sym new-text);
   }
 
   filled-more : n < rows → Fits s tab n r → RowsFilled s tab n → RowsFilled s tab′ (n + 1)
@@ -310,6 +313,10 @@ name-literal : (k : ℕ) → isName k ≡ true → k ≢ kLiteral
 unfolding isName
 name-literal k e q = let z : false ≡ true = sym (ap isName q) ∙ e in apart (cc)
 
+name-fixed : (k : ℕ) → isName k ≡ true → k ≢ kFixedLiteral
+unfolding isName
+name-fixed k e q = let z : false ≡ true = sym (ap isName q) ∙ e in apart (cc)
+
 module _ (s : List ℕ) {tab : List ℕ} {n : ℕ} (r : TokenRow) (c : Chained s tab n) (h : n < rows) (inside : r .start + r .length ≤ length s) where
   becomes : Becomes tab (storedRow tab n r) n r
   becomes = stored-becomes tab n r h (c .filled .big)
@@ -322,10 +329,10 @@ module _ (s : List ℕ) {tab : List ℕ} {n : ℕ} (r : TokenRow) (c : Chained s
 
   -- a row that is no name
   pub chained-plain : r .link ≡ 0 → isName (r .kind) ≡ false → (r .kind ≡ kLiteral → r .number ≡ decimal 0 (textOf s r))
-      → Chained s (storedRow tab n r) (n + 1)
-  chained-plain z o l =
+      → (r .kind ≡ kFixedLiteral → r .number ≡ thousandthsOf (textOf s r)) → Chained s (storedRow tab n r) (n + 1)
+  chained-plain z o l x =
       chained-known s c h becomes
-      (record { inside = inside; link = no-link z; name = λ q. absurd (never q); literal = l })
+      (record { inside = inside; link = no-link z; name = λ q. absurd (never q); literal = l; fixed = x })
       (stored-heads tab n r h)
       (λ q. absurd (never q))
     where
@@ -334,7 +341,13 @@ module _ (s : List ℕ) {tab : List ℕ} {n : ℕ} (r : TokenRow) (c : Chained s
 
   module _ (named : isName (r .kind) ≡ true) (number : r .number ≡ firstNamed (tokensOf s tab n) (textOf s r)) where
     fits : Link tab n (r .link) → Fits s tab n r
-    fits l = record { inside = inside; link = l; name = λ _. number; literal = λ q. absurd (name-literal (r .kind) named q) }
+    fits l = record {
+      inside = inside;
+      link = l;
+      name = λ _. number;
+      literal = λ q. absurd (name-literal (r .kind) named q);
+      fixed = λ q. absurd (name-fixed (r .kind) named q);
+    }
 
     -- a name that an earlier row has
     pub chained-again : r .link ≡ 0 → r .number ≢ n → Chained s (storedRow tab n r) (n + 1)
@@ -363,12 +376,16 @@ module _ {s tab tab′ : List ℕ} {n k i e number : ℕ} (a : Adding s tab n i 
   extended-plain o v q =
       subst (Extended s tab n k i e) (sym q)
       (record {
-        chained = chained-plain s (tokenRow k i e number 0) (a .chained) h (fits-inside a) refl o (λ l. v ∙ literal-number l);
+        chained =
+            chained-plain s (tokenRow k i e number 0) (a .chained) h (fits-inside a) refl o (λ l. v ∙ literal-number l) (λ l. v ∙ fixed-number l);
         tokens = stored-tokens s (tokenRow k i e number 0) (a .chained) h (fits-inside a);
       })
     where
       literal-number : k ≡ kLiteral → numberBeside k (take (e - i) (drop i s)) ≡ decimal 0 (take (e - i) (drop i s))
       literal-number l = rw (eq-eqb k kLiteral l) refl
+
+      fixed-number : k ≡ kFixedLiteral → numberBeside k (take (e - i) (drop i s)) ≡ thousandthsOf (take (e - i) (drop i s))
+      fixed-number l = rw l refl
 
   module _ (named : isName k ≡ true) (right : number ≡ firstNamed (tokensOf s tab n) (take (e - i) (drop i s))) where
     pub extended-again : number ≢ n → tab′ ≡ storedRow tab n (tokenRow k i e number 0) → Extended s tab n k i e tab′
