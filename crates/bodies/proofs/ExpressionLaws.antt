@@ -28,16 +28,18 @@ use Rattle.typesystem.specs.Judge.{judge, must, receiver, arity, invocation}
 use Rattle.lookup.specs.declared.answer.Judged.{Judged}
 use Rattle.lookup.specs.declared.answer.Judged.the-variants.{Fine, Refused}
 use Rattle.lookup.specs.contracts.HeldClasses.{wordAt, NameNumber, MaybeNumber, no-name, a-name, noType, VariablesHeld, more-variables}
-use Rattle.lookup.specs.contracts.HeldClasses.{MethodHeld, code-int, code-boolean, code-fixed, code-class, Codes, code-plain, code-array, ListedAt}
+use Rattle.lookup.specs.contracts.HeldClasses.{MethodHeld, code-int, code-boolean, code-fixed, code-class, Codes, code-plain}
+use Rattle.lookup.specs.contracts.HeldClasses.{code-array, ListedAt}
 use Rattle.lookup.specs.laws.HeldLaws.{word-in, row-there}
 use Rattle.lookup.specs.contracts.Lookups.{TypeOf, Knows, Fits, rowFound, FindsMethod}
 use Rattle.lookup.specs.laws.ChainLaws.{found-stands}
 use Rattle.lookup.specs.laws.VariableLaws.{typed-some, typed-none}
 use Rattle.lookup.specs.contracts.Answers.{asJudged, asJudged-fine, asJudged-refused, Judges, well, ill}
 use Rattle.lookup.specs.contracts.Shows.{PartAt, Form, aVariable, aNewArray, aNewObject, aBinary, anElement, aLength, aCall}
-use Rattle.lookup.specs.contracts.Shows.{aLiteral, aFixedLiteral, aTruth, aThis, formAtom, formCompound, formE, formAt, GoesOn, one-more-argument}
-use Rattle.lookup.specs.contracts.Shows.{shows-literal, shows-fixed-literal, shows-truth, shows-variable, shows-this, shows-new-array}
-use Rattle.lookup.specs.contracts.Shows.{shows-new-object, shows-negation, shows-binary, shows-element, shows-length, shows-call, shows-port-get}
+use Rattle.lookup.specs.contracts.Shows.{aLiteral, aFixedLiteral, aTruth, aThis, formAtom, formCompound, formE, formAt, GoesOn}
+use Rattle.lookup.specs.contracts.Shows.{one-more-argument, shows-literal, shows-fixed-literal, shows-truth, shows-variable, shows-this}
+use Rattle.lookup.specs.contracts.Shows.{shows-new-array, shows-new-object, shows-negation, shows-binary, shows-element, shows-length}
+use Rattle.lookup.specs.contracts.Shows.{shows-call, shows-port-get}
 use Rattle.lookup.specs.laws.ShowLaws.{goes-on, ended}
 use Rattle.bodies.specs.declared.scope.Scope.{Scope}
 use Rattle.bodies.specs.contracts.Scoping.{InScope, PartIn, NameTyped}

@@ -7,9 +7,9 @@ use mathlib.Core.List.{List}
 use mathlib.Core.Bool.{true, false}
 use borrow.Author.Tests.{ne-eqb}
 use Rattle.base.specs.Codes.{wrongType}
-use Rattle.base.specs.Outcome.{accepted, refused, _>>=_}
+use Rattle.base.specs.Outcome.{_>>=_}
 use Rattle.lexer.specs.Tokens.{Token}
-use Rattle.parser.specs.Tree.{Sort.statements, Part, Element.int, Element.boolean, Element.fixed, Ty, Ty.plain, Class}
+use Rattle.parser.specs.Tree.{Sort.statements, Part, Element.int, Element.boolean, Ty, Ty.plain, Class}
 use Rattle.parser.specs.contracts.Layout.{absent}
 use Rattle.parser.specs.contracts.Post.{kindInTable}
 use Rattle.reader.specs.contracts.Spans.{Spans}

@@ -10,7 +10,8 @@ use lib.Dec.{ltb}
 use Rattle.base.specs.contracts.Table.{col}
 use Rattle.lexer.specs.Tokens.{Token}
 use Rattle.lexer.specs.contracts.Rows.{firstNamed, Rows}
-use Rattle.parser.specs.Tree.{Name, Element, Element.int, Element.boolean, Element.fixed, Element.class, Ty, Ty.plain, Ty.arrayOf, Variable, Method, Class}
+use Rattle.parser.specs.Tree.{Name, Element, Element.int, Element.boolean, Element.fixed, Element.class, Ty, Ty.plain, Ty.arrayOf}
+use Rattle.parser.specs.Tree.{Variable, Method, Class}
 use Rattle.parser.specs.Measure.{nodes}
 use Rattle.parser.specs.contracts.Layout.{absent, rowOf, rowVariables, rowMethods, rowParent, rowClasses, headOf}
 use Rattle.reader.specs.contracts.Holds.{Holds}

@@ -80,5 +80,6 @@ pub +branches+conditional+list+repeated+single-spec : {M : Type 1} → statement
     (and 2 single-kinds.ps (is 2 single-kinds.ps μ-single t) single.Pre) single.Post (λ c. search statement-before)
     (λ c. search statement-behind) (λ c κs. search needs) (λ c κs. search needs) (λ c. search needs) (λ c κs. search needs)
     (λ c. search statement-block) (λ c κs. search needs) (λ c. search statement-if) (λ c κs. search needs) (λ c. search statement-while)
-    (λ c κs. search needs) (λ c. search statement-print) (λ c κs. search needs) (λ c. search statement-put) (λ c. search needs) (λ c κs. search needs) (λ c κs. search needs) (λ c. search statement-element)
-    (λ c κs. search needs) (λ c. search statement-assignment))
+    (λ c κs. search needs) (λ c. search statement-print) (λ c κs. search needs) (λ c. search statement-put) (λ c. search needs)
+    (λ c κs. search needs) (λ c κs. search needs) (λ c. search statement-element) (λ c κs. search needs)
+    (λ c. search statement-assignment))
