@@ -75,7 +75,7 @@ fn name(text: &str, at: usize) -> Result<Kind, Refusal> {
 }
 
 /// How long the literal is that begins here: a run of digits, and directly after it a point and a run of digits, where both are there.
-fn literal_length(source: &[u8]) -> usize {
+pub fn literal_length(source: &[u8]) -> usize {
     let whole = run_length(source, is_digit);
     match source[whole..].strip_prefix(b".").map_or(0, |after| run_length(after, is_digit)) {
         0 => whole,
