@@ -89,7 +89,7 @@ fn rename(random: &mut Random, lesson: &[u8]) -> Vec<u8> {
     [&lesson[..at], with.as_bytes(), &lesson[at + name.len()..]].concat()
 }
 
-/// A literal is put in the place of another, or the word of a type.
+/// A literal is put in the place of another, or the word of a type in that of another.
 fn exchange(random: &mut Random, lesson: &[u8]) -> Vec<u8> {
     let tokens = lexer::tokens(lesson).unwrap_or_default();
     let places: Vec<(usize, usize, &[&str])> = tokens
