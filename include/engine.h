@@ -26,7 +26,7 @@ extern "C" {
 #endif
 
 /* The version of this header; engine_version() is that of the library. It goes up when a declaration or the meaning of one changes. */
-#define ENGINE_VERSION 1
+#define ENGINE_VERSION 2
 
 #define ENGINE_TABLE_WORDS 16384 /* the work table has at least so many words */
 #define ENGINE_SOURCE_MOST 16384 /* a lesson has at most so many bytes; a longer one is refused, and never read past its end */

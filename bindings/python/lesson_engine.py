@@ -19,7 +19,7 @@ import os
 import pathlib
 import typing
 
-VERSION = 1  # of include/engine.h, whose declarations stand here again
+VERSION = 2  # of include/engine.h, whose declarations stand here again
 TABLE_WORDS = 16384
 HEAP_MOST = 16384
 REGISTERS = 16
