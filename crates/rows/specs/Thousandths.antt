@@ -1,5 +1,5 @@
--- Rows of our own for document 02, (ix): literals of fixed and their refusals, sums and products of thousandths, and what mixes with nothing;
--- the ends are worked out by hand.
+-- Rows of our own for document 02, (ix): literals of fixed and their refusals, sums and products of thousandths, and what mixes with
+-- nothing; the ends are worked out by hand.
 use mathlib.Core.Path.{refl}
 use mathlib.Core.List.{List, [], _∷_, _++_}
 use Prim.Native.Nat.{ℕ}

@@ -1,6 +1,6 @@
--- Document 01, "Class table and types", with 004's rules for operators and document 02, (ix), as one table: for each operator the types that
--- its left operand may have, each with the type of the result. The right operand must fit the left one's type; a left operand of another
--- type is 31.
+-- Document 01, "Class table and types", with 004's rules for operators and document 02, (ix), as one table: for each operator the types
+-- that its left operand may have, each with the type of the result. The right operand must fit the left one's type; a left operand of
+-- another type is 31.
 use mathlib.Core.List.{List, [], _∷_}
 use mathlib.Core.Bool.{Bool, _||_}
 use mathlib.Core.Option.{Option, none, some}
