@@ -8,12 +8,13 @@ use mathlib.Core.Bool.{true, false}
 use mathlib.Core.Option.{Option·some-injective}
 use mathlib.Core.Path.{_≡_, refl, sym, ap, _∙_, subst}
 use lib.ListN.{length, take, drop}
-use borrow.Author.Tests.{eq-eqb}
+use borrow.Author.Tests.{eq-eqb, eqb-false}
 use Rattle.base.specs.contracts.Table.{col, put, rows, size, length-put, col-put-same, col-put-other}
 use Rattle.lexer.specs.Kinds.{kLiteral, kFixedLiteral, isName}
 use Rattle.lexer.specs.Tokens.{Token, decimal, thousandthsOf}
 use Rattle.lexer.specs.contracts.Rows.{firstNamed}
 use Rattle.base.specs.laws.Tests.{apart}
+use Rattle.lexer.specs.laws.ItemLaws.{kinds-apart}
 use Rattle.lexer.specs.laws.RowLaws.{first-named, first-most}
 use Rattle.lexer.specs.contracts.Chains.{bucketFrom, textAt, rowToken, tokensOf, TokenRow, tokenRow, storedRow, Link, Reaches, here, next, Numbered, RowsFilled, Chained, Sought, Adding, Extended}
 use Rattle.lexer.specs.contracts.Verdicts.{numberBeside}
@@ -309,13 +310,8 @@ known-found {s} {tab} {n} c t d =
     let e = Option·some-injective (rowToken s tab j) (w .item) (sym (token-at s tab n j h) ∙ w .at) in
     subst (FoundAt s tab n) (ap (λ (u : Token). u .text) e ∙ w .text) (c .found j h (ap (λ (u : Token). isName (u .kind)) e ∙ w .named))
 
-name-literal : (k : ℕ) → isName k ≡ true → k ≢ kLiteral
-unfolding isName
-name-literal k e q = let z : false ≡ true = sym (ap isName q) ∙ e in apart (cc)
-
-name-fixed : (k : ℕ) → isName k ≡ true → k ≢ kFixedLiteral
-unfolding isName
-name-fixed k e q = let z : false ≡ true = sym (ap isName q) ∙ e in apart (cc)
+no-name : (k q : ℕ) → isName k ≡ true → isName q ≡ false → k ≢ q
+no-name k q e n z = eqb-false k q (kinds-apart isName k q e n) z
 
 module _ (s : List ℕ) {tab : List ℕ} {n : ℕ} (r : TokenRow) (c : Chained s tab n) (h : n < rows) (inside : r .start + r .length ≤ length s) where
   becomes : Becomes tab (storedRow tab n r) n r
@@ -341,12 +337,13 @@ module _ (s : List ℕ) {tab : List ℕ} {n : ℕ} (r : TokenRow) (c : Chained s
 
   module _ (named : isName (r .kind) ≡ true) (number : r .number ≡ firstNamed (tokensOf s tab n) (textOf s r)) where
     fits : Link tab n (r .link) → Fits s tab n r
+    unfolding isName
     fits l = record {
       inside = inside;
       link = l;
       name = λ _. number;
-      literal = λ q. absurd (name-literal (r .kind) named q);
-      fixed = λ q. absurd (name-fixed (r .kind) named q);
+      literal = λ q. absurd (no-name (r .kind) kLiteral named refl q);
+      fixed = λ q. absurd (no-name (r .kind) kFixedLiteral named refl q);
     }
 
     -- a name that an earlier row has

@@ -1,6 +1,6 @@
 -- `lexer::scan::number` meets its contract: the byte where the digits end and the one behind it decide.
 use borrow.Author.Needs.{needs}
-use Prim.Native.Nat.{_+_, _<_}
+use Prim.Native.Nat.{_<_}
 use native.Mathlib.Omega.{arith}
 use mathlib.Core.Path.{sym, _∙_}
 use lib.ListN.{length}
