@@ -117,7 +117,7 @@ uint32_t engine_version(void);
 /* In all four `table` is room to work in. What it holds before does not matter; afterwards each of its words is 0, unless the answer is one of 1, 2, 3 and 62: these touch
  * nothing that is lent. */
 
-/* Is the lesson in the grammar, and within the bounds? Refuses with 1, 10 to 17 and 60. */
+/* Is the lesson in the grammar, and within the bounds? Refuses with 1, 10 to 17, 60 and 65. */
 engine_read_answer engine_read(const uint8_t *source, size_t source_length, uint32_t *table, size_t table_length);
 
 /* May the lesson run: are its names and types right too? Refuses as Read does, and with 20 to 34. */
