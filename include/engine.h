@@ -26,7 +26,7 @@ extern "C" {
 #endif
 
 /* The version of this header; engine_version() is that of the library. It goes up when a declaration or the meaning of one changes. */
-#define ENGINE_VERSION 1
+#define ENGINE_VERSION 2
 
 #define ENGINE_TABLE_WORDS 16384 /* the work table has at least so many words */
 #define ENGINE_SOURCE_MOST 16384 /* a lesson has at most so many bytes; a longer one is refused, and never read past its end */
@@ -47,7 +47,7 @@ enum engine_number {
     ENGINE_NO_TOKEN = 11, /* No word, number or mark of the language begins with this byte. */
     ENGINE_COMMENT_NOT_CLOSED = 12, /* A block comment is opened and never closed; comments nest, so each opening needs its own closing. */
     ENGINE_NAME_TOO_LONG = 13, /* A name has more than 255 letters, digits and underscores. */
-    ENGINE_LITERAL_TOO_LARGE = 14, /* A number is larger than 2147483647. */
+    ENGINE_LITERAL_TOO_LARGE = 14, /* A number is larger than 2147483647, or one with a point larger than 2147483.647. */
     ENGINE_TOO_MANY_TOKENS = 15, /* The lesson has more than 2,048 words, numbers and marks. */
     ENGINE_NOT_IN_GRAMMAR = 16, /* No program goes on like this from here: something is missing, misplaced or too much. */
     ENGINE_TOO_DEEP = 17, /* A statement or an expression lies inside more than 63 others. */
@@ -72,10 +72,11 @@ enum engine_number {
     ENGINE_HEAP_FULL = 51, /* The heap strip has no room for this object or array. */
     ENGINE_CALLS_FULL = 52, /* As many calls are open as the call limit allows. */
     ENGINE_OUTPUT_FULL = 53, /* The output strip has no room for another number. */
-    ENGINE_LEADING_ZERO = 60, /* A number of two or more digits begins with 0, which means another number in Java. */
+    ENGINE_LEADING_ZERO = 60, /* A number begins with 0 and another digit, which means another number in Java. */
     ENGINE_REGISTERS_NOT_SIXTEEN = 62, /* The register strip has not exactly 16 bytes. */
     ENGINE_REGISTER_OUT_OF_RANGE = 63, /* The cable has registers 0 to 15 only. */
     ENGINE_VALUE_OUT_OF_RANGE = 64, /* A register takes 0 to 255 only. */
+    ENGINE_NOT_THREE_DIGITS = 65, /* A number with a point has other than three digits behind it. */
     /* words/write] */
     ENGINE_SUCCESS = 0
 };
@@ -116,7 +117,7 @@ uint32_t engine_version(void);
 /* In all four `table` is room to work in. What it holds before does not matter; afterwards each of its words is 0, unless the answer is one of 1, 2, 3 and 62: these touch
  * nothing that is lent. */
 
-/* Is the lesson in the grammar, and within the bounds? Refuses with 1, 10 to 17 and 60. */
+/* Is the lesson in the grammar, and within the bounds? Refuses with 1, 10 to 17, 60 and 65. */
 engine_read_answer engine_read(const uint8_t *source, size_t source_length, uint32_t *table, size_t table_length);
 
 /* May the lesson run: are its names and types right too? Refuses as Read does, and with 20 to 34. */

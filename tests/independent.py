@@ -8,7 +8,7 @@ import collections
 import pathlib
 
 SHARED = pathlib.Path(__file__).resolve().parent.parent.parent / "shared"
-STAGE = 8  # the answers are those due with requests 1 to STAGE of document 02, of which (v), an operation of its own, changes none; raise it as the next one lands
+STAGE = 9  # the answers are those due with requests 1 to STAGE of document 02, of which (v), an operation of its own, changes none; raise it as the next one lands
 CLIMBS = 7  # the stage from which on run's answers have climbs
 REGISTERS = 8  # the stage from which on run's cases have a register strip and a tape, and its answers registers
 RUN_ENDS = {"0", "40", "41", "42", "50", "51", "52", "53", "63", "64"}  # all other numbers refuse the call

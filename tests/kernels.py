@@ -61,6 +61,12 @@ KERNELS = [
     Kernel("empty loop", 4000000, 1, lesson(), lua()),
     Kernel("arithmetic", 2000000, 1, lesson(body="x=x*3+n-1;"), lua(body="x = x * 3 + n - 1")),
     Kernel("nested expressions", 1000000, 1, lesson(body="x=" + NESTED + ";"), lua(body="x = " + NESTED)),
+    # No count falls below 0, so that Lua's `//`, which rounds down, divides toward zero.
+    Kernel(
+        "thousandths", 2000000, 1,
+        lesson(local="fixed y;", before="y=0.000;", body="y=y*0.999+1.500;", after="System.out.println(y);"),
+        lua(before="local y = 0", body="y = y * 999 // 1000 + 1500", after="print(y)"),
+    ),
     Kernel(
         "fields", 2000000, 1,
         lesson(members="int f;int g;", body="f=f+n;g=g-f;", after="x=f+g;"),

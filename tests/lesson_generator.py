@@ -5,12 +5,13 @@ with a smaller first argument, and loops turn a fixed number of times; so what a
 Locals are assigned before anything else, as Java asks. A bold lesson now and then uses a field that may still be null, an index that may be outside, or a size that may be negative.
 An array type fits only itself here, as document 02, (vi), has it, so that Java's tests of what is stored never fail; and but for bold lessons an array of a class is filled where it is made:
 by statements that assign each element, or by a method row0, row1, .. that each class has.
-A lesson that has the port of document 02, (viii), gets and puts registers besides; Java has no such lesson.
+A lesson that has the port of document 02, (viii), gets and puts registers besides, and one that has the type of (ix) calculates with thousandths; Java has no such lessons.
 """
 from device import COUNT
 from lessons import fits, main_with
 
-INT, BOOLEAN = "int", "boolean"
+INT, BOOLEAN, FIXED = "int", "boolean", "fixed"
+NUMBERS = (INT, FIXED)  # the types of what is calculated with and printed
 MARK = "[]"
 
 # How tightly forms bind, from `&&` to what may stand before a dot.
@@ -35,7 +36,7 @@ def element_of(array):
 
 def is_plain(wanted):
     """Whether there is no null of the type."""
-    return wanted in (INT, BOOLEAN)
+    return wanted in (INT, BOOLEAN, FIXED)
 
 
 def both(a, b):
@@ -137,6 +138,8 @@ class Body:
             return self.integer(depth)
         if wanted == BOOLEAN:
             return self.truth(depth)
+        if wanted == FIXED:
+            return self.fixed(depth)
         return self.array(wanted, depth) if is_array(wanted) else self.object(wanted, depth)
 
     def variable(self, wanted):
@@ -161,6 +164,17 @@ class Body:
         large = self.dice.pick([31, 255, 1000, 46341, 65536, 65537, 1000003, 2147483646, 2147483647])
         return Expression(str(large if self.dice.chance(self.lesson.large) else small), POSTFIX, step())
 
+    def fixed_literal(self):
+        """A few thousandths, some volts, or a count at the bounds of what a product keeps."""
+        small = self.dice.pick([0, 1, 2, 999, 1000, 1001, self.dice.below(15000)])
+        large = self.dice.pick([46341, 1465000, 65536000, 2147483646, 2147483647])
+        count = large if self.dice.chance(self.lesson.large) else small
+        return Expression("%d.%03d" % divmod(count, 1000), POSTFIX, step())
+
+    def calculation(self, wanted, depth):
+        sign, binding = self.dice.pick([("+", SUM), ("-", SUM), ("*", PRODUCT)])
+        return self.binary(sign, binding, self.expression(wanted, depth - 1), self.expression(wanted, depth - 1))
+
     def binary(self, sign, binding, left, right):
         right_binding = SUM if binding == LESS else binding + 1
         left_binding = SUM if binding == LESS else binding
@@ -184,14 +198,23 @@ class Body:
         if way < 3:
             return self.variable(INT) or self.literal()
         if way < 7:
-            sign, binding = self.dice.pick([("+", SUM), ("-", SUM), ("*", PRODUCT)])
-            return self.binary(sign, binding, self.integer(depth - 1), self.integer(depth - 1))
+            return self.calculation(INT, depth)
         if way < 8:
             array = self.array(self.dice.pick(self.arrays()), depth - 1)
             return Expression(array.at(POSTFIX) + ".length", POSTFIX, step(array.cost))
         if way < 10:
             return self.element(self.array(array_of(INT), depth - 1), self.index(depth - 1))
         return self.call(INT, depth) or self.integer(depth - 1)
+
+    def fixed(self, depth):
+        way = self.dice.below(9) if 0 < depth else self.dice.below(3)
+        if way < 1:
+            return self.fixed_literal()
+        if way < 3:
+            return self.variable(FIXED) or self.fixed_literal()
+        if way < 7:
+            return self.calculation(FIXED, depth)
+        return self.call(FIXED, depth) or self.fixed(depth - 1)
 
     def index(self, depth):
         """An index within every array of the lesson."""
@@ -208,7 +231,8 @@ class Body:
         if way < 3:
             return self.variable(BOOLEAN) or Expression("true", POSTFIX, step())
         if way < 6:
-            return self.binary("<", LESS, self.integer(depth - 1), self.integer(depth - 1))
+            wanted = self.lesson.number_type()
+            return self.binary("<", LESS, self.expression(wanted, depth - 1), self.expression(wanted, depth - 1))
         if way < 8:
             return self.binary("&&", AND, self.truth(depth - 1), self.truth(depth - 1))
         if way < 9:
@@ -312,7 +336,7 @@ class Body:
         return "".join(texts), total(costs)
 
     def showing(self, depth):
-        value = self.integer(depth)
+        value = self.expression(self.lesson.number_type(), depth)
         return "System.out.println(%s);" % value.text, both(step(value.cost), (0, 0, 1, 0))
 
     def putting(self, depth):
@@ -375,9 +399,9 @@ class Body:
 
 
 class Lesson:
-    def __init__(self, seed, has_port):
+    def __init__(self, seed, has_port, has_fixed):
         self.dice = Dice(seed)
-        self.has_port = has_port
+        self.has_port, self.has_fixed = has_port, has_fixed
         self.bold = self.dice.pick([0, 3, 8, 15])  # of a hundred chances for a fault, how many are taken
         self.large = self.dice.pick([5, 30])  # of a hundred literals, how many are large
         self.length = 3 + self.dice.below(3)  # the least length of an array
@@ -396,7 +420,13 @@ class Lesson:
     def dares(self):
         return self.dice.chance(self.bold)
 
+    def number_type(self):
+        """The type of something that is compared or printed."""
+        return FIXED if self.has_fixed and self.dice.chance(40) else INT
+
     def any_type(self):
+        if self.has_fixed and self.dice.chance(25):
+            return FIXED
         way = self.dice.below(10)
         if way < 7:
             return INT if way < 4 else BOOLEAN if way < 5 else self.dice.pick(self.classes).name
@@ -484,7 +514,7 @@ class Lesson:
         # The conditional, its test, the assignment or the print, the call, `this`, and the first argument.
         cost = both((11, 0, 0, 0), total(g.cost for g in given))
         targets = [name for name in body.of_type(m.result) if body.names[name] == m.result and name not in body.kept]
-        if not targets and m.result == INT:
+        if not targets and m.result in NUMBERS:
             return "if(0<%s)System.out.println(%s);else{}" % (n, call), both(cost, (0, 0, 1, 0))
         if not targets:
             return "", NOTHING
@@ -495,7 +525,7 @@ class Lesson:
         body = Body(self, None, {}, MOST)
         body.spend((10, 0, 0, 0))
         for m in self.finished[::-1]:
-            if m.result == INT and body.affords(m.cost):
+            if m.result in NUMBERS and body.affords(m.cost):
                 call = body.call_of(m, 1)
                 if body.affords(call.cost):
                     shown.append("System.out.println(%s);" % call.text)
@@ -509,12 +539,12 @@ class Lesson:
         return main_with("{" + "\n".join(shown) + "}") + "\n" + "\n".join(declared)
 
 
-def generated(count, first=1, has_port=False):
+def generated(count, first=1, has_port=False, has_fixed=False):
     """As many lessons, with their seeds, which begin with `first`. Those that are too long, or whose main does nothing, are passed over."""
     made = []
     seed = first
     while len(made) < count:
-        text = Lesson(seed, has_port).text()
+        text = Lesson(seed, has_port, has_fixed).text()
         if fits(text) and not text.startswith(main_with("{}")):
             made.append(("seed %d" % seed, text))
         seed += 1

@@ -26,7 +26,7 @@ EMPTY = main_with("{}")  # 18 tokens: the shortest program
 
 def tokens(lesson):
     """How many tokens a lesson without comments has."""
-    return len(re.findall(r"[A-Za-z][A-Za-z0-9_]*|[0-9]+|&&|\S", lesson))
+    return len(re.findall(r"[A-Za-z][A-Za-z0-9_]*|[0-9]+(?:\.[0-9]+)?|&&|\S", lesson))
 
 
 def fits(lesson):
@@ -69,9 +69,9 @@ def menu_order(lesson):
     return listed
 
 
-def asks_the_port(lesson):
-    """Whether a lesson names the device behind the cable, which Java does not have."""
-    return re.search(r"\bPort\b", re.sub(r"//[^\n]*", "", lesson)) is not None
+def is_for_java(lesson):
+    """Whether a lesson has neither the device behind the cable nor the type fixed, which Java does not have."""
+    return re.search(r"\bPort\b|\bfixed\b|[0-9]\.[0-9]", re.sub(r"//[^\n]*", "", lesson)) is None
 
 
 def as_printed(answer):

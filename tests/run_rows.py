@@ -70,6 +70,8 @@ def strip_rows():
         ("1+2", end(0, 0, 4, 0, 0, 3)),
         ("true", end(31, FIRST)),
         ("00", end(60, FIRST)),
+        ("0.5", end(65, FIRST)),
+        ("(0.000-1.500)*0.001", end(0, 0, 6, 0, 0, -1)),
         ("new int[0-1].length", end(42, FIRST, 6, 0, 0)),
         ("(new int[1])[1]", end(41, FIRST, 5, 0, 2)),
         ("new int[1].length", end(0, 0, 4, 0, 2, 1)),
@@ -301,6 +303,101 @@ def climb_rows():
         stopped(51, below("", "@new int[8].length"), 3 + 3, 2, 3, heap=11),
         stopped(53, below("@System.out.println(5);"), 3 + 2, 2, 3, out=0),
         stopped(31, program("new B().k()+@true") + above, 0, 0, 0),
+    ]
+
+
+def product_rows():
+    """Products of type fixed: exact, divided by 1000 toward zero, then the low 32 bits."""
+    least = "(0.000-2147483.647-0.001)"  # the least count, in 5 nodes
+    worked = [
+        ("(0.000-1.500)*0.001", 5, -1),
+        ("1.500*0.001", 3, 1),
+        ("0.001*0.001", 3, 0),
+        ("0.001*0.999", 3, 0),
+        ("0.001*1.000", 3, 1),
+        ("(0.000-0.001)*0.001", 5, 0),
+        ("(0.000-0.001)*0.999", 5, 0),
+        ("(0.000-0.001)*1.000", 5, -1),
+        ("(0.000-0.003)*0.500", 5, -1),
+        ("0.003*(0.000-0.500)", 5, -1),
+        ("(0.000-0.003)*(0.000-0.500)", 7, 1),
+        ("2.000*2.000*2.000", 5, 8000),
+        ("1.500*2.000+0.500*0.500", 7, 3250),
+        ("(1.500+0.500)*(2.000-0.500)", 7, 3000),
+        ("46.341*46.341", 3, 2147488),
+        # 2147690000, which is 2^32 - 2147277296.
+        ("1465.000*1466.000", 3, -2147277296),
+        ("1465.000*1465.000", 3, 2146225000),
+        ("65536.000*65536.000", 3, 0),
+        ("2147483.647*0.001", 3, 2147483),
+        ("2147483.647*1.000", 3, 2147483647),
+        (least + "*0.001", 7, -2147483),
+        (least + "*1.000", 7, -2147483648),
+        # 2^31 does not fit.
+        (least + "*(0.000-1.000)", 9, -2147483648),
+        # 2^62 is 4611686018427387.904 thousand, and the whole part of that 1073741 * 2^32 + 3539053051, or - 755914245.
+        (least + "*" + least, 11, -755914245),
+        # 2^32 - 1 less, so the whole part is less by 4294967.
+        ("2147483.647*2147483.647", 3, -760209212),
+        # 2^31 less than 2^62, so the whole part is less by 2147483; and then the sign.
+        (least + "*2147483.647", 7, 758061728),
+        ("2147483.647*" + least, 7, 758061728),
+    ]
+    return [fine(program(e), 1 + nodes, 0, 0, printed) for e, nodes, printed in worked]
+
+
+def fixed_rows():
+    """Document 02, (ix): literals and their refusals, counts that wrap, the type of the left part, which decides what `*` means. Main has 3 nodes before a method without parameters begins."""
+    one = class_of("A", "fixed v;" + method("", "fixed", value="v"))
+    both = class_of("A", "int x;" + method("x=1500;", name="k", value="x*x")) + class_of("B", "fixed x;" + method("x=1.500;", "fixed", value="x*x"), "A")
+    squared = class_of("A", method("", "fixed", "r", value="2.000") + method("", "fixed", value="this.r()*this.r()")) + class_of("B", method("", "fixed", "r", value="0.500"), "A")
+
+    def tested(condition):
+        return main_with("if(" + condition + ")System.out.println(1);else System.out.println(2);")
+
+    refused = [(60, "@01.500"), (60, "@00.5"), (65, "@1.5"), (65, "@1.5000"), (65, "@2147483648.5"), (14, "@2147483.648"), (14, "@2147483648.000")]
+    refused += [(16, "1.500.@500"), (16, "1 .@500"), (16, "1.@"), (31, "1.500+@1"), (31, "1*@1.500"), (31, "@true*1.500"), (31, "@1.500<2.000"), (31, "@1.length"), (31, "new int[@1.000].length")]
+    rows = [stopped(number, program(e), 0, 0, 0) for number, e in refused]
+    rows += [fine(program(e), 2, 0, 0, count) for e, count in (("0.000", 0), ("0.001", 1), ("1.500", 1500), ("1.050", 1050), ("2147483.647", 2147483647))]
+    return rows + product_rows() + [
+        fine(program("1.500+2.250"), 4, 0, 0, 3750),
+        fine(program("1.500-2.250"), 4, 0, 0, -750),
+        fine(program("2147483.647+0.001"), 4, 0, 0, -2147483648),
+        fine(program("0.000-2147483.647-0.001"), 6, 0, 0, -2147483648),
+        fine(program("0.000-2147483.647-0.002"), 6, 0, 0, 2147483647),
+        fine(main_with("{System.out.println(1500*1500);System.out.println(1.500*1.500);}"), 9, 0, 0, 2250000, 2250),
+        fine(tested("1.500<1.501"), 6, 0, 0, 1),
+        fine(tested("1.500<1.500"), 6, 0, 0, 2),
+        fine(tested("2.000<10.000"), 6, 0, 0, 1),
+        fine(tested("0.000-0.001<0.000"), 8, 0, 0, 1),
+        fine(tested("2147483.647+0.001<0.000"), 8, 0, 0, 1),
+        stopped(50, program("1.500*@0.001"), 3, 0, 0, budget=3),
+        stopped(50, program("@1.500*0.001"), 1, 0, 0, budget=1),
+        stopped(53, main_with("@System.out.println(1.500);"), 2, 0, 0, out=0),
+        stopped(42, program("1.500*new A().m(@new int[0-1].length)") + class_of("A", method("", "fixed", parameters="int x", value="0.000")), 3 + 2 + 5, 0, 1),
+        # A field begins as 0 and is a word; so does a local.
+        fine(program("new A().m()") + one, 4, 1, 2, 0, heap=2),
+        stopped(51, program("@new A().m()") + one, 3, 0, 0, heap=1),
+        fine(program("new A().m()") + class_of("A", method("fixed x;", "fixed", value="x-0.001")), 3 + 3, 1, 1, -1),
+        # Parameters, results, and what calls give.
+        fine(program("new A().m(1.500,0.500)") + class_of("A", method("", "fixed", parameters="fixed x,fixed y", value="x*y")), 5 + 3, 1, 1, 750),
+        fine(program("new A().m()*new A().m()") + class_of("A", method("", "fixed", value="1.500")), 2 + 2 * 3, 2, 2, 2250),
+        fine(program("new A().m()*new A().m()") + class_of("A", method(value="1500")) + class_of("B", method("", "fixed", value="1.500")), 2 + 2 * 3, 2, 2, 2250000),
+        fine(program("new B().m()*new B().m()") + class_of("A", method(value="1500")) + class_of("B", method("", "fixed", value="1.500")), 2 + 2 * 3, 2, 2, 2250),
+        fine(program("new A().m(3)*new A().m(4)") + class_of("A", method("", "fixed", parameters="int x", value="0.500")), 2 + 2 * 4, 2, 2, 250),
+        fine(program("new A().m(1.500*1.500)*2") + class_of("A", method(parameters="fixed x", value="1000")), 3 + 4 + 1 + 1, 1, 1, 2000),
+        fine(program("new A[2].length*3") + class_of("A", "fixed v;"), 6, 0, 3, 6),
+        # The nearest name counts: a local, a parameter, a field of the class that declares the method.
+        fine(program("new A().m()") + class_of("A", "int x;" + method("fixed x;x=1.500;", "fixed", value="x*x")), 3 + 2 + 3, 1, 2, 2250),
+        fine(program("new A().m()") + class_of("A", "fixed x;" + method("int x;x=1500;", value="x*x")), 3 + 2 + 3, 1, 2, 2250000),
+        fine(program("new A().m(1.500)") + class_of("A", "int x;" + method("", "fixed", parameters="fixed x", value="x*x")), 4 + 3, 1, 2, 2250),
+        fine(program("new B().m()") + both, 3 + 2 + 3, 1, 3, 2250),
+        fine(program("new B().k()") + both, 3 + 2 + 3, 2, 3, 2250000),
+        # A method that is inherited calls one that is redeclared.
+        fine(program("new A().m()") + squared, 3 + 7, 1 + 1 + 1, 1, 4000),
+        fine(program("new B().m()") + squared, 3 + 7, 2 + 1 + 1, 1, 250),
+        # Ten times a tenth more, cut off each time: 1000 1100 1210 1331 1464 1610 1771 1948 2142 2356 2591.
+        fine(program("new A().m()") + class_of("A", "fixed v;" + method("int i;v=1.000;while(i<10){v=v*1.100;i=i+1;}", "fixed", value="v")), 3 + 2 + 1 + 11 * 3 + 10 * 9 + 1, 1, 2, 2591),
     ]
 
 
@@ -558,4 +655,4 @@ def errors():
 
 def run_rows():
     rows = bench_rows() + zero_rows() + strip_rows() + order_rows() + budget_rows() + heap_rows() + call_rows() + output_rows() + fault_rows() + array_rows() + climb_rows()
-    return rows + sample_rows() + register_rows() + port_rows() + cable_rows()
+    return rows + sample_rows() + register_rows() + port_rows() + cable_rows() + fixed_rows()

@@ -19,7 +19,7 @@ import os
 import pathlib
 import typing
 
-VERSION = 1  # of include/engine.h, whose declarations stand here again
+VERSION = 2  # of include/engine.h, whose declarations stand here again
 TABLE_WORDS = 16384
 HEAP_MOST = 16384
 REGISTERS = 16
@@ -45,7 +45,7 @@ WORDS = {
     11: Words("no token", "No word, number or mark of the language begins with this byte.", "lesson"),
     12: Words("comment not closed", "A block comment is opened and never closed; comments nest, so each opening needs its own closing.", "lesson"),
     13: Words("name too long", "A name has more than 255 letters, digits and underscores.", "lesson"),
-    14: Words("literal too large", "A number is larger than 2147483647.", "lesson"),
+    14: Words("literal too large", "A number is larger than 2147483647, or one with a point larger than 2147483.647.", "lesson"),
     15: Words("too many tokens", "The lesson has more than 2,048 words, numbers and marks.", "lesson"),
     16: Words("not in grammar", "No program goes on like this from here: something is missing, misplaced or too much.", "lesson"),
     17: Words("too deep", "A statement or an expression lies inside more than 63 others.", "lesson"),
@@ -70,10 +70,11 @@ WORDS = {
     51: Words("heap full", "The heap strip has no room for this object or array.", "limit"),
     52: Words("calls full", "As many calls are open as the call limit allows.", "limit"),
     53: Words("output full", "The output strip has no room for another number.", "limit"),
-    60: Words("leading zero", "A number of two or more digits begins with 0, which means another number in Java.", "lesson"),
+    60: Words("leading zero", "A number begins with 0 and another digit, which means another number in Java.", "lesson"),
     62: Words("registers not sixteen", "The register strip has not exactly 16 bytes.", "call"),
     63: Words("register out of range", "The cable has registers 0 to 15 only.", "fault"),
     64: Words("value out of range", "A register takes 0 to 255 only.", "fault"),
+    65: Words("not three digits", "A number with a point has other than three digits behind it.", "lesson"),
     # words/write]
 }
 

@@ -33,7 +33,7 @@ pub enum Kind {
     CommentNotClosed,
     /// 13: A name has more than 255 letters, digits and underscores.
     NameTooLong,
-    /// 14: A number is larger than 2147483647.
+    /// 14: A number is larger than 2147483647, or one with a point larger than 2147483.647.
     LiteralTooLarge,
     /// 15: The lesson has more than 2,048 words, numbers and marks.
     TooManyTokens,
@@ -83,7 +83,7 @@ pub enum Kind {
     CallsFull,
     /// 53: The output strip has no room for another number.
     OutputFull,
-    /// 60: A number of two or more digits begins with 0, which means another number in Java.
+    /// 60: A number begins with 0 and another digit, which means another number in Java.
     LeadingZero,
     /// 62: The register strip has not exactly 16 bytes.
     RegistersNotSixteen,
@@ -91,11 +91,13 @@ pub enum Kind {
     RegisterOutOfRange,
     /// 64: A register takes 0 to 255 only.
     ValueOutOfRange,
+    /// 65: A number with a point has other than three digits behind it.
+    NotThreeDigits,
 }
 
 impl Kind {
     /// All of them, by their numbers.
-    pub const ALL: [Kind; 37] = [
+    pub const ALL: [Kind; 38] = [
         Kind::TableTooShort,
         Kind::CallLimitOutOfRange,
         Kind::HeapTooLong,
@@ -133,6 +135,7 @@ impl Kind {
         Kind::RegistersNotSixteen,
         Kind::RegisterOutOfRange,
         Kind::ValueOutOfRange,
+        Kind::NotThreeDigits,
     ];
 
     /// The number that documents 01 and 02 give it.
@@ -175,6 +178,7 @@ impl Kind {
             Kind::RegistersNotSixteen => 62,
             Kind::RegisterOutOfRange => 63,
             Kind::ValueOutOfRange => 64,
+            Kind::NotThreeDigits => 65,
         }
     }
 
@@ -218,6 +222,7 @@ impl Kind {
             62 => Some(Kind::RegistersNotSixteen),
             63 => Some(Kind::RegisterOutOfRange),
             64 => Some(Kind::ValueOutOfRange),
+            65 => Some(Kind::NotThreeDigits),
             _ => None,
         }
     }
@@ -262,6 +267,7 @@ impl Kind {
             Kind::RegistersNotSixteen => "registers not sixteen",
             Kind::RegisterOutOfRange => "register out of range",
             Kind::ValueOutOfRange => "value out of range",
+            Kind::NotThreeDigits => "not three digits",
         }
     }
 
@@ -276,7 +282,7 @@ impl Kind {
             Kind::NoToken => "No word, number or mark of the language begins with this byte.",
             Kind::CommentNotClosed => "A block comment is opened and never closed; comments nest, so each opening needs its own closing.",
             Kind::NameTooLong => "A name has more than 255 letters, digits and underscores.",
-            Kind::LiteralTooLarge => "A number is larger than 2147483647.",
+            Kind::LiteralTooLarge => "A number is larger than 2147483647, or one with a point larger than 2147483.647.",
             Kind::TooManyTokens => "The lesson has more than 2,048 words, numbers and marks.",
             Kind::NotInGrammar => "No program goes on like this from here: something is missing, misplaced or too much.",
             Kind::TooDeep => "A statement or an expression lies inside more than 63 others.",
@@ -301,10 +307,11 @@ impl Kind {
             Kind::HeapFull => "The heap strip has no room for this object or array.",
             Kind::CallsFull => "As many calls are open as the call limit allows.",
             Kind::OutputFull => "The output strip has no room for another number.",
-            Kind::LeadingZero => "A number of two or more digits begins with 0, which means another number in Java.",
+            Kind::LeadingZero => "A number begins with 0 and another digit, which means another number in Java.",
             Kind::RegistersNotSixteen => "The register strip has not exactly 16 bytes.",
             Kind::RegisterOutOfRange => "The cable has registers 0 to 15 only.",
             Kind::ValueOutOfRange => "A register takes 0 to 255 only.",
+            Kind::NotThreeDigits => "A number with a point has other than three digits behind it.",
         }
     }
 
@@ -348,6 +355,7 @@ impl Kind {
             Kind::RegistersNotSixteen => Cause::Call,
             Kind::RegisterOutOfRange => Cause::Fault,
             Kind::ValueOutOfRange => Cause::Fault,
+            Kind::NotThreeDigits => Cause::Lesson,
         }
     }
 }

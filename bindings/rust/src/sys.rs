@@ -1,7 +1,7 @@
 //! What include/engine.h declares, as it stands there: for a caller that lends its own strips. The header says what a caller owes.
 
 /// The version of the header that these declarations follow.
-pub const VERSION: u32 = 1;
+pub const VERSION: u32 = 2;
 /// The work table has at least so many words.
 pub const TABLE_WORDS: usize = 16384;
 /// A lesson has at most so many bytes.

@@ -1,11 +1,12 @@
--- Document 01, "What each operation refuses", with 60 of document 02, (i): the numbers with which Read and Check refuse a source.
+-- Document 01, "What each operation refuses", with 60 and 65 of document 02, (i) and (ix): the numbers with which Read and Check refuse a
+-- source.
 use Prim.Native.Nat.{ℕ}
 use Rattle.base.specs.Codes.{sourceTooLong, noToken, commentNotClosed, nameTooLong, literalTooLarge, tooManyTokens, leadingZero}
-use Rattle.base.specs.Codes.{notInGrammar, tooDeep}
+use Rattle.base.specs.Codes.{notThreeDigits, notInGrammar, tooDeep}
 use Rattle.base.specs.Codes.{classRepeated, parentUnknown, chainEndless, fieldRepeated, typeUnknown, methodRepeated, badRedeclaration}
 use Rattle.base.specs.Codes.{variableRepeated, tooManyVariables, nameUnknown, wrongType, methodUnknown, argumentCount, thisInMain}
 
--- 10 to 17, and 60
+-- 10 to 17, 60 and 65
 pub data ReadRefusal : ℕ → Type 0 where
   source-too-long : ReadRefusal sourceTooLong
   no-token : ReadRefusal noToken
@@ -16,6 +17,7 @@ pub data ReadRefusal : ℕ → Type 0 where
   not-in-grammar : ReadRefusal notInGrammar
   too-deep : ReadRefusal tooDeep
   leading-zero : ReadRefusal leadingZero
+  not-three-digits : ReadRefusal notThreeDigits
 
 -- Read's, 20 to 28, and 30 to 34
 pub data CheckRefusal : ℕ → Type 0 where

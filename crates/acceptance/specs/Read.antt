@@ -38,7 +38,7 @@ pub data ByGrammar (s : List ℕ) (ts : List Token) : Outcome Reading → Type 0
 pub data Finds (s : List ℕ) : Outcome Reading → Type 0 where
   -- 10: lesson over 16,384 bytes, position 0
   source-too-long : sourceMost < length s → Finds s (refused sourceTooLong 0)
-  -- 11 to 15 and 60: the first fault of its tokens
+  -- 11 to 15, 60 and 65: the first fault of its tokens
   tokens-refused : {n q : ℕ} → length s ≤ sourceMost → tokens s ≡ refused n q → Finds s (refused n q)
   -- then what the grammar makes of it
   tokens-read : {ts : List Token} {o : Outcome Reading} → length s ≤ sourceMost → tokens s ≡ accepted ts → ByGrammar s ts o → Finds s o

@@ -12,7 +12,7 @@ use Rattle.typesystem.specs.Check.{checking}
 use Rattle.acceptance.specs.Numbers.{ReadRefusal, CheckRefusal}
 use Rattle.acceptance.specs.laws.RefusalLaws.{refusal-of, reading-refuses, checking-refuses, at-least-ten}
 
--- Read refuses with 10 to 17 or 60.
+-- Read refuses with 10 to 17, 60 or 65.
 pub read-refusal : (s : List ℕ) (n q : ℕ) → reading s ≡ refused n q → ReadRefusal n
 read-refusal s n q e = refusal-of e (reading-refuses s)
 

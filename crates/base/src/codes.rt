@@ -28,6 +28,8 @@ pub const TOO_MANY_TOKENS: u32 = 15;
 
 pub const LEADING_ZERO: u32 = 60;
 
+pub const NOT_THREE_DIGITS: u32 = 65;
+
 pub const NOT_IN_GRAMMAR: u32 = 16;
 
 pub const TOO_DEEP: u32 = 17;

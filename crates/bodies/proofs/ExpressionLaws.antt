@@ -17,7 +17,7 @@ use Rattle.base.specs.contracts.Table.{col}
 use Rattle.lexer.specs.Kinds.{isName}
 use Rattle.lexer.specs.Tokens.{Token}
 use Rattle.parser.specs.Tree.{Name, Sort.arguments, Part, Expression, placeE}
-use Rattle.parser.specs.Tree.{Element.int, Element.boolean, Element.class, Ty, Ty.plain, Ty.arrayOf}
+use Rattle.parser.specs.Tree.{Element.int, Element.boolean, Element.fixed, Element.class, Ty, Ty.plain, Ty.arrayOf}
 use Rattle.parser.specs.Tree.{Part.noArguments, Part.argument, Variable, Class}
 use Rattle.parser.specs.contracts.Layout.{absent, rowOf, rowVariables}
 use Rattle.parser.specs.contracts.Post.{isAtom, kindInTable}
@@ -28,16 +28,18 @@ use Rattle.typesystem.specs.Judge.{judge, must, receiver, arity, invocation}
 use Rattle.lookup.specs.declared.answer.Judged.{Judged}
 use Rattle.lookup.specs.declared.answer.Judged.the-variants.{Fine, Refused}
 use Rattle.lookup.specs.contracts.HeldClasses.{wordAt, NameNumber, MaybeNumber, no-name, a-name, noType, VariablesHeld, more-variables}
-use Rattle.lookup.specs.contracts.HeldClasses.{MethodHeld, code-int, code-boolean, code-class, Codes, code-plain, code-array, ListedAt}
+use Rattle.lookup.specs.contracts.HeldClasses.{MethodHeld, code-int, code-boolean, code-fixed, code-class, Codes, code-plain}
+use Rattle.lookup.specs.contracts.HeldClasses.{code-array, ListedAt}
 use Rattle.lookup.specs.laws.HeldLaws.{word-in, row-there}
 use Rattle.lookup.specs.contracts.Lookups.{TypeOf, Knows, Fits, rowFound, FindsMethod}
 use Rattle.lookup.specs.laws.ChainLaws.{found-stands}
 use Rattle.lookup.specs.laws.VariableLaws.{typed-some, typed-none}
 use Rattle.lookup.specs.contracts.Answers.{asJudged, asJudged-fine, asJudged-refused, Judges, well, ill}
 use Rattle.lookup.specs.contracts.Shows.{PartAt, Form, aVariable, aNewArray, aNewObject, aBinary, anElement, aLength, aCall}
-use Rattle.lookup.specs.contracts.Shows.{aLiteral, aTruth, aThis, formAtom, formCompound, formE, formAt, GoesOn, one-more-argument}
-use Rattle.lookup.specs.contracts.Shows.{shows-literal, shows-truth, shows-variable, shows-this, shows-new-array, shows-new-object}
-use Rattle.lookup.specs.contracts.Shows.{shows-negation, shows-binary, shows-element, shows-length, shows-call, shows-port-get}
+use Rattle.lookup.specs.contracts.Shows.{aLiteral, aFixedLiteral, aTruth, aThis, formAtom, formCompound, formE, formAt, GoesOn}
+use Rattle.lookup.specs.contracts.Shows.{one-more-argument, shows-literal, shows-fixed-literal, shows-truth, shows-variable, shows-this}
+use Rattle.lookup.specs.contracts.Shows.{shows-new-array, shows-new-object, shows-negation, shows-binary, shows-element, shows-length}
+use Rattle.lookup.specs.contracts.Shows.{shows-call, shows-port-get}
 use Rattle.lookup.specs.laws.ShowLaws.{goes-on, ended}
 use Rattle.bodies.specs.declared.scope.Scope.{Scope}
 use Rattle.bodies.specs.contracts.Scoping.{InScope, PartIn, NameTyped}
@@ -103,9 +105,11 @@ module _ {tab : List ℕ} {s : Scope} {kind row : ℕ} {r : Judged} where
       go : (first end : ℕ) → NodeJudged tab s aThis first end row r
       go first end ts G Γ i e (shows-this {p = p} st) = f .says ts G Γ i p st
 
-  pub atom-is-name : (kind ≡ 4 → ⊥) → (kind ≡ 21 → ⊥) → (kind ≡ 9 → ⊥) → (kind ≡ 20 → ⊥) → NamePost tab s row r → AtomPost tab s kind row r
+  pub atom-is-name : (kind ≡ 4 → ⊥) → (kind ≡ 44 → ⊥) → (kind ≡ 21 → ⊥) → (kind ≡ 9 → ⊥) → (kind ≡ 20 → ⊥) → NamePost tab s row r
+      → AtomPost tab s kind row r
   unfolding formAtom judge
-  atom-is-name n₁ n₂ n₃ n₄ f = atom (rw (ne-eqb kind 4 n₁, ne-eqb kind 21 n₂, ne-eqb kind 9 n₃, ne-eqb kind 20 n₄)) go
+  atom-is-name n₁ n₂ n₃ n₄ n₅ f =
+      atom (rw (ne-eqb kind 4 n₁, ne-eqb kind 44 n₂, ne-eqb kind 21 n₃, ne-eqb kind 9 n₄, ne-eqb kind 20 n₅)) go
     where
       go : (first end : ℕ) → NodeJudged tab s aVariable first end row r
       go first end ts G Γ i e (shows-variable {p = p} {x = x} st sp) = f .says ts G Γ i p x st sp
@@ -121,6 +125,13 @@ module _ {tab : List ℕ} {s : Scope} {kind row : ℕ} where
     where
       go : (first end : ℕ) → NodeJudged tab s aLiteral first end row (Fine 2048)
       go first end ts G Γ i e (shows-literal st v) = well (code-plain (code-int refl))
+
+  pub atom-fixed-literal : kind ≡ 44 → AtomPost tab s kind row (Fine 2050)
+  unfolding formAtom judge
+  atom-fixed-literal is = atom (sym (ap formAtom is)) go
+    where
+      go : (first end : ℕ) → NodeJudged tab s aFixedLiteral first end row (Fine 2050)
+      go first end ts G Γ i e (shows-fixed-literal st v) = well (code-plain (code-fixed refl))
 
   pub atom-true : kind ≡ 21 → AtomPost tab s kind row (Fine 2049)
   unfolding formAtom
@@ -496,6 +507,7 @@ module _ {tab : List ℕ} {s : Scope} {first end row left : ℕ} (e₄ : left �
             → Judges ts (receiver e u k) (Refused wrongType at₃)
         pick ts few e z (plain int) c k = rw z ill
         pick ts few e z (plain boolean) c k = rw z ill
+        pick ts few e z (plain fixed) c k = rw z ill
         pick ts few e z (plain (class d)) (code-plain (code-class sp)) k = absurd (omega (arith, sp .there))
         pick ts few e z (arrayOf u) c k = rw z ill
 
@@ -513,6 +525,7 @@ module _ {tab : List ℕ} {s : Scope} {first end row left : ℕ} (e₄ : left �
             → ((c : List ℕ) → NameNumber ts c t → Judges ts (k c) r) → Judges ts (receiver e u k) r
         pick ts e (plain int) (code-plain (code-int q)) k good = absurd (omega arith)
         pick ts e (plain boolean) (code-plain (code-boolean q)) k good = absurd (omega arith)
+        pick ts e (plain fixed) (code-plain (code-fixed q)) k good = absurd (omega arith)
         pick ts e (plain (class d)) (code-plain (code-class sp)) k good = good d sp
         pick ts e (arrayOf u) (code-array c q) k good = absurd (omega arith)
 

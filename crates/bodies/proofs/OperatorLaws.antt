@@ -6,13 +6,14 @@ use lib.Dec.{eqb}
 use Rattle.base.specs.Choice.{if_then_else_}
 use Rattle.lexer.specs.Kinds.{kAnd, kLess, kPlus, kMinus}
 use Rattle.lexer.specs.Tokens.{Token}
-use Rattle.parser.specs.Tree.{Operator, Operator.and, Operator.less, Operator.plus, Operator.minus, Operator.times, Ty}
+use Rattle.parser.specs.Tree.{Operator, Operator.and, Operator.less, Operator.plus, Operator.minus, Operator.times}
+use Rattle.parser.specs.Tree.{Element.int, Element.fixed, Ty, Ty.plain}
 use Rattle.reader.specs.contracts.Matches.{operatorKind}
 use Rattle.typesystem.specs.Operators.{line, resultIn, operation}
-use Rattle.lookup.specs.contracts.HeldClasses.{Lexemes, noType, code-int, code-boolean, Codes, code-plain}
+use Rattle.lookup.specs.contracts.HeldClasses.{Lexemes, noType, code-int, code-boolean, code-fixed, Codes, code-plain}
 use Rattle.lookup.specs.contracts.Lookups.{LookedUp, untyped, typed}
 use Rattle.lookup.specs.laws.HeldLaws.{same-codes, other-codes}
-use Rattle.bodies.specs.contracts.OperatorPost.{LinePost, has-line, no-line, OperationPost}
+use Rattle.bodies.specs.contracts.OperatorPost.{LinePost, has-line, no-line, NumericPost, int-line, fixed-line, OperationPost}
 
 -- the operator of a kind
 operatorOf : ℕ → Operator
@@ -39,6 +40,15 @@ unfolding resultIn
 one-line lx c d (has-line e) t h = rw (same-codes lx c h (sym e)) (typed d)
 one-line lx c d (no-line f) t h = rw (other-codes lx c h (λ e. f (sym e))) (untyped refl)
 
+-- a table of the lines for int and for fixed
+two-lines : {tab : List ℕ} {n : ℕ} {ts : List Token} → Lexemes tab n ts → {ofInt ofFixed : Ty} {left x y r : ℕ} → Codes ts ofInt x
+    → Codes ts ofFixed y → NumericPost left x y r → (t : Ty) → Codes ts t left
+    → LookedUp ts (λ (u : Ty). u) (resultIn (line (plain int) ofInt ∷ line (plain fixed) ofFixed ∷ []) t) r
+unfolding resultIn
+two-lines lx c d (int-line e) t h = rw (same-codes lx (code-plain (code-int refl)) h (sym e)) (typed c)
+two-lines lx c d (fixed-line f l) t h =
+    rw (other-codes lx (code-plain (code-int refl)) h (λ e. f (sym e))) (one-line lx (code-plain (code-fixed refl)) d l t h)
+
 module _ {k left r : ℕ} where
   -- the answer for one operator
   only : (o : Operator) → k ≡ operatorKind o
@@ -56,17 +66,17 @@ module _ {k left r : ℕ} where
   pub conjoined : k ≡ 24 → LinePost left 2049 2049 r → OperationPost k left r
   conjoined is f = only and is (λ tab n ts lx t c. one-line lx (code-plain (code-boolean refl)) (code-plain (code-boolean refl)) f t c)
 
-  pub compared : k ≡ 25 → LinePost left 2048 2049 r → OperationPost k left r
-  compared is f = only less is (λ tab n ts lx t c. one-line lx (code-plain (code-int refl)) (code-plain (code-boolean refl)) f t c)
+  pub compared : k ≡ 25 → NumericPost left 2049 2049 r → OperationPost k left r
+  compared is f = only less is (λ tab n ts lx t c. two-lines lx (code-plain (code-boolean refl)) (code-plain (code-boolean refl)) f t c)
 
-  pub added : k ≡ 26 → LinePost left 2048 2048 r → OperationPost k left r
-  added is f = only plus is (λ tab n ts lx t c. one-line lx (code-plain (code-int refl)) (code-plain (code-int refl)) f t c)
+  pub added : k ≡ 26 → NumericPost left 2048 2050 r → OperationPost k left r
+  added is f = only plus is (λ tab n ts lx t c. two-lines lx (code-plain (code-int refl)) (code-plain (code-fixed refl)) f t c)
 
-  pub subtracted : k ≡ 27 → LinePost left 2048 2048 r → OperationPost k left r
-  subtracted is f = only minus is (λ tab n ts lx t c. one-line lx (code-plain (code-int refl)) (code-plain (code-int refl)) f t c)
+  pub subtracted : k ≡ 27 → NumericPost left 2048 2050 r → OperationPost k left r
+  subtracted is f = only minus is (λ tab n ts lx t c. two-lines lx (code-plain (code-int refl)) (code-plain (code-fixed refl)) f t c)
 
-  pub multiplied : k ≡ 28 → LinePost left 2048 2048 r → OperationPost k left r
-  multiplied is f = only times is (λ tab n ts lx t c. one-line lx (code-plain (code-int refl)) (code-plain (code-int refl)) f t c)
+  pub multiplied : k ≡ 28 → NumericPost left 2048 2050 r → OperationPost k left r
+  multiplied is f = only times is (λ tab n ts lx t c. two-lines lx (code-plain (code-int refl)) (code-plain (code-fixed refl)) f t c)
 
 pub no-operator : {k left : ℕ} → (k ≡ 24 → ⊥) → (k ≡ 25 → ⊥) → (k ≡ 26 → ⊥) → (k ≡ 27 → ⊥) → (k ≡ 28 → ⊥) → OperationPost k left noType
 no-operator {k} {left} n₁ n₂ n₃ n₄ n₅ = record { says = λ tab n ts lx o is t c. absurd (go o is) }

@@ -4,20 +4,23 @@ use Prim.Native.Nat.{ℕ, _+_, _≤_, _<_, _-_}
 use native.Mathlib.Omega.{arith}
 use mathlib.Core.Path.{_≡_, refl, sym, ap, _∙_, subst}
 use mathlib.Core.List.{List}
+use mathlib.Core.Bool.{true, false}
 use borrow.Author.Tests.{ne-eqb}
 use Rattle.base.specs.Codes.{wrongType}
 use Rattle.base.specs.Outcome.{_>>=_}
 use Rattle.lexer.specs.Tokens.{Token}
-use Rattle.parser.specs.Tree.{Sort.statements, Part, Element.int, Element.boolean, Ty.plain, Class}
+use Rattle.parser.specs.Tree.{Sort.statements, Part, Element.int, Element.boolean, Ty, Ty.plain, Class}
 use Rattle.parser.specs.contracts.Layout.{absent}
 use Rattle.parser.specs.contracts.Post.{kindInTable}
 use Rattle.reader.specs.contracts.Spans.{Spans}
 use Rattle.reader.specs.laws.SpanLaws.{inside-statement}
-use Rattle.typesystem.specs.ClassTable.{Context}
+use Rattle.typesystem.specs.ClassTable.{Context, sameType}
 use Rattle.typesystem.specs.Judge.{judge, must}
+use Rattle.typesystem.specs.Operators.{printable}
 use Rattle.lookup.specs.declared.answer.Judged.{Judged}
 use Rattle.lookup.specs.declared.answer.Judged.the-variants.{Fine, Refused}
-use Rattle.lookup.specs.contracts.HeldClasses.{wordAt, code-int, code-boolean, code-plain}
+use Rattle.lookup.specs.contracts.HeldClasses.{wordAt, Lexemes, code-int, code-boolean, code-fixed, Codes, code-plain}
+use Rattle.lookup.specs.laws.HeldLaws.{same-codes, other-codes}
 use Rattle.lookup.specs.contracts.Answers.{asJudged, goes-on, stops}
 use Rattle.lookup.specs.contracts.Shows.{Form, aBlock, aConditional, aLoop, aPrint, anAssignment, anElementStore, aPortPut, formS}
 use Rattle.lookup.specs.contracts.Shows.{shows-block, shows-conditional, shows-loop, shows-print, shows-assignment, shows-element-store}
@@ -25,12 +28,12 @@ use Rattle.lookup.specs.contracts.Shows.{shows-port-put}
 use Rattle.lookup.specs.contracts.Shows.{GoesOnS, one-more-statement}
 use Rattle.lookup.specs.laws.ShowLaws.{endedS}
 use Rattle.bodies.specs.declared.scope.Scope.{Scope}
-use Rattle.bodies.specs.contracts.Scoping.{InScope}
-use Rattle.bodies.specs.contracts.ExpressionPost.{NamePost, OperandPost}
+use Rattle.bodies.specs.contracts.Scoping.{InScope, PartIn}
+use Rattle.bodies.specs.contracts.ExpressionPost.{NamePost, ExpressionPost, OperandPost}
 use Rattle.bodies.specs.contracts.StatementPost.{StatementPost, ListPost, StatementJudged, StatementNodePost, BranchesPost}
 use Rattle.bodies.specs.contracts.StatementPost.{ValuePost}
 use Rattle.bodies.proofs.PartLaws.{judges-fine, judges-refused, goes, halts, plain-code, array-code, few-tokens}
-use Rattle.bodies.proofs.PartLaws.{one-moreS, lies, seen-inS}
+use Rattle.bodies.proofs.PartLaws.{one-moreS, lies, seen-inS, start-of}
 
 -- ASSIGNMENTS
 
@@ -101,6 +104,65 @@ module _ {tab : List ℕ} {s : Scope} {end row : ℕ} {v : Judged} (f : NamePost
             let d = judges-fine (f .says ts G Γ sc q x st sp) is in
             let u = plain-code (d .2) low in
             rw (d .1, u .1, e₃, st)
+
+-- PRINTING
+
+-- int and fixed are printed, by the numbers of types
+module _ {tab : List ℕ} {n : ℕ} {ts : List Token} (lx : Lexemes tab n ts) {t : Ty} {w : ℕ} (c : Codes ts t w) where
+  int-printed : w ≡ 2048 → printable t ≡ true
+  unfolding printable
+  int-printed e = rw (same-codes lx (code-plain (code-int refl)) c (sym e))
+
+  module _ (other : w ≡ 2048 → ⊥) where
+    not-int : sameType (plain int) t ≡ false
+    not-int = other-codes lx (code-plain (code-int refl)) c (λ z. other (sym z))
+
+    fixed-printed : w ≡ 2050 → printable t ≡ true
+    unfolding printable
+    fixed-printed e = rw (not-int, same-codes lx (code-plain (code-fixed refl)) c (sym e))
+
+    not-printed : (w ≡ 2050 → ⊥) → printable t ≡ false
+    unfolding printable
+    not-printed f = rw (not-int, other-codes lx (code-plain (code-fixed refl)) c (λ z. f (sym z)))
+
+module _ {tab : List ℕ} {s : Scope} {end row part : ℕ} (e₄ : part ≡ wordAt tab 4 row) {v : Judged}
+    (f : ExpressionPost tab s (row + 1) end part v) where
+  pub print-refused : {n p : ℕ} → v ≡ Refused n p → StatementNodePost tab s aPrint end row (Refused n p)
+  unfolding judge
+  print-refused {n} {p} is = record { says = go }
+    where
+      go : StatementJudged tab s aPrint end row (Refused n p)
+      go ts G Γ sc t (shows-print {e = e} st x) = rw (judges-refused (f .says ts G Γ sc e (rw e₄ x)) is)
+
+  module _ {w : ℕ} (is : v ≡ Fine w) where
+    -- what is printed, by its number
+    fine : ((ts : List Token) (n : ℕ) → Lexemes tab n ts → (u : Ty) → Codes ts u w → printable u ≡ true)
+        → StatementNodePost tab s aPrint end row (Fine 0)
+    unfolding judge
+    fine by = record { says = go }
+      where
+        go : StatementJudged tab s aPrint end row (Fine 0)
+        go ts G Γ sc t (shows-print {e = e} st x) =
+            let d = judges-fine (f .says ts G Γ sc e (rw e₄ x)) is in
+            rw (d .1, by ts (s .tokens) (sc .world .tokens) (d .0) (d .2))
+
+    pub print-int : w ≡ 2048 → StatementNodePost tab s aPrint end row (Fine 0)
+    print-int e = fine (λ ts n lx u c. int-printed lx c e)
+
+    module _ (other : w ≡ 2048 → ⊥) where
+      pub print-fixed : w ≡ 2050 → StatementNodePost tab s aPrint end row (Fine 0)
+      print-fixed e = fine (λ ts n lx u c. fixed-printed lx c other e)
+
+      pub print-wrong : (w ≡ 2050 → ⊥) → {at₃ : ℕ} → at₃ ≡ wordAt tab 3 part
+          → StatementNodePost tab s aPrint end row (Refused wrongType at₃)
+      unfolding judge
+      print-wrong rest {at₃} e₃ = record { says = go }
+        where
+          go : StatementJudged tab s aPrint end row (Refused wrongType at₃)
+          go ts G Γ sc t (shows-print {e = e} st x) =
+              let h : PartIn tab ts part (row + 1) end e = rw e₄ x in
+              let d = judges-fine (f .says ts G Γ sc e h) is in
+              rw (d .1, not-printed (sc .world .tokens) (d .2) other rest, e₃, start-of sc (row + 1) end h)
 
 -- BRANCHES AND LOOPS
 
@@ -197,13 +259,9 @@ module _ {tab : List ℕ} {s : Scope} {first end row : ℕ} where
     unfolding formS
     statement-while is f = alone 23 is (f .says)
 
-    pub statement-print : k ≡ 19 → {part : ℕ} → part ≡ wordAt tab 4 row → OperandPost tab s (row + 1) end part 2048 r
-        → StatementPost tab s first end row r
-    unfolding formS judge
-    statement-print is e₄ f = alone 19 is go
-      where
-        go : StatementJudged tab s aPrint end row r
-        go ts G Γ sc t (shows-print {e = e} st x) = f .says ts G Γ sc e (rw e₄ x) (plain int) (code-plain (code-int refl))
+    pub statement-print : k ≡ 19 → StatementNodePost tab s aPrint end row r → StatementPost tab s first end row r
+    unfolding formS
+    statement-print is f = alone 19 is (f .says)
 
     pub statement-put : k ≡ 40 → ValuePost tab s end row 2048 r → StatementPost tab s first end row r
     unfolding formS judge

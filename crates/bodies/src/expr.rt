@@ -12,6 +12,7 @@ use lookup::chain::fits;
 use lookup::rows::word;
 use lookup::types::ARRAY;
 use lookup::types::BOOLEAN;
+use lookup::types::FIXED;
 use lookup::types::INT;
 use lookup::types::NOTHING;
 use lookup::types::known;
@@ -63,6 +64,9 @@ fn atom(table: &[u32], fields: &[u32], s: Scope, k: u32, row: usize) -> Judged
 {
     if k == kinds::LITERAL {
         return Judged::Fine(INT);
+    }
+    if k == kinds::FIXED_LITERAL {
+        return Judged::Fine(FIXED);
     }
     if k == kinds::TRUE {
         return Judged::Fine(BOOLEAN);

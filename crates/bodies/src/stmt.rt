@@ -1,5 +1,6 @@
 // Statements, each with what it needs of its expressions. Each has the range of tokens in which it lies, from `first` up to `end`; all its
 // parts lie behind its own token, from `row + 1` up to `end`.
+use crate::expr::expression;
 use crate::expr::name;
 use crate::expr::operand;
 use crate::scope::Scope;
@@ -10,12 +11,13 @@ use lookup::answer::Judged;
 use lookup::rows::word;
 use lookup::types::ARRAY;
 use lookup::types::BOOLEAN;
+use lookup::types::FIXED;
 use lookup::types::INT;
 use parser::columns;
 use parser::columns::ABSENT;
 use parser::table::kind;
 ghost use Prim.Native.Nat.{_≤_, _<_};
-ghost use Rattle.lookup.specs.contracts.Shows.{aConditional, aLoop, anAssignment, anElementStore};
+ghost use Rattle.lookup.specs.contracts.Shows.{aConditional, aLoop, aPrint, anAssignment, anElementStore};
 ghost use Rattle.bodies.specs.contracts.Scoping.{Judgeable};
 ghost use Rattle.bodies.specs.contracts.StatementPost.{StatementPost, ListPost, StatementNodePost, BranchesPost, ValuePost};
 
@@ -74,6 +76,27 @@ fn assignment(table: &[u32], fields: &[u32], s: Scope, end: usize, row: usize) -
     }
 }
 
+// `System.out.println`: what is printed must be int or fixed, 31 at it.
+fn printed(table: &[u32], fields: &[u32], s: Scope, end: usize, row: usize) -> Judged
+    requires { ⌜ Judgeable (now table) (now fields) s × (row < end) × (end ≤ s .tokens) ⌝ }
+    ensures { λ r. ⌜ StatementNodePost (now (table .entry)) s aPrint end row r ⌝ }
+{
+    let part = word(table, columns::FIRST, row);
+    let e = expression(table, fields, s, row + 1, end, part);
+    match e {
+        Judged::Fine(t) => {
+            if t == INT {
+                return Judged::Fine(0);
+            }
+            if t == FIXED {
+                return Judged::Fine(0);
+            }
+            Judged::Refused(codes::WRONG_TYPE, word(table, columns::BEGIN, part))
+        }
+        Judged::Refused(number, at) => Judged::Refused(number, at),
+    }
+}
+
 // A statement.
 pub fn single(
     table: &[u32],
@@ -104,8 +127,7 @@ pub fn single(
         return repeated(table, fields, s, end, row);
     }
     if k == kinds::SYSTEM {
-        let part = word(table, columns::FIRST, row);
-        return operand(table, fields, s, row + 1, end, part, INT);
+        return printed(table, fields, s, end, row);
     }
     if k == kinds::PORT {
         return index_and_value(table, fields, s, end, row, INT);

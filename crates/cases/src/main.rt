@@ -1,6 +1,7 @@
 // Answers cases from standard input, a line each: the first word of a line names an operation, the others are what it is given.
 // A line that is no case is answered by what is wrong with it, an empty line is passed over.
 mod fields;
+mod lengths;
 mod lent;
 mod menu_case;
 mod numbers;

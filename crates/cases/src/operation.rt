@@ -1,6 +1,7 @@
 // The operations that a case can name, and the words of a case of each but run: name, TABLE, for menu STRIP, last HEX.
 use crate::fields;
-use crate::fields::Number;
+use crate::lengths;
+use crate::output::Wrong;
 ghost use Prim.Native.Nat.{_≤_};
 
 // What a case asks for, where it lends words only.
@@ -49,11 +50,11 @@ pub fn source_word(o: Operation) -> usize
     }
 }
 
-// How many words of a strip a case lends: none where its operation takes no strip.
-pub fn strip_length(o: Operation, line: &[u8]) -> Number {
+// How many words of a strip a case lends, at most `most`: none where its operation takes no strip.
+pub fn strip_length(o: Operation, line: &[u8], most: usize) -> usize {
     match o {
-        Operation::Read => Number::Is(0),
-        Operation::Check => Number::Is(0),
-        Operation::Menu => fields::number_at(line, 2),
+        Operation::Read => 0,
+        Operation::Check => 0,
+        Operation::Menu => lengths::length_at(line, 2, most, Wrong::StripLength),
     }
 }

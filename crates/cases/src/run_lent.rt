@@ -3,12 +3,12 @@
 // The words of the case are looked at from the left, and the first that is wrong is the answer.
 use crate::fields;
 use crate::fields::Number;
+use crate::lengths;
 use crate::output;
 use crate::output::Wrong;
 use crate::run_case;
 use crate::run_case::Limits;
 use crate::source;
-use crate::source::Size;
 
 // The longest heap strip. Document 01 takes up to 16,384 words; what is longer it refuses, which is a case too.
 const HEAP_MOST: usize = 17000;
@@ -57,59 +57,8 @@ fn limits_of(line: &[u8]) -> Named {
     }
 }
 
-// Decodes the source into `text`, all of it, and runs it.
-fn with_text(
-    line: &[u8],
-    text: &mut [u8],
-    table: &mut [u32],
-    l: Limits,
-    heap: &mut [i32],
-    printed: &mut [i32],
-    registers: &mut [u8],
-    tape: &[u8],
-) {
-    if source::decode(line, SOURCE_WORD, text) {
-        run_case::answer(text, table, l, heap, printed, registers, tape);
-    } else {
-        output::refuse(Wrong::Digit);
-    }
-}
-
-// Answers a case with all that it lends but the source, whose bytes go to the start of `space`.
-fn with_tape(
-    line: &[u8],
-    space: &mut [u8],
-    table: &mut [u32],
-    l: Limits,
-    heap: &mut [i32],
-    printed: &mut [i32],
-    registers: &mut [u8],
-    tape: &[u8],
-) {
-    let s = source::size_at(line, SOURCE_WORD);
-    match s {
-        Size::Bytes(n) => {
-            if n <= space.len() {
-                with_text(
-                    line,
-                    &mut space[..n],
-                    table,
-                    l,
-                    heap,
-                    printed,
-                    registers,
-                    tape,
-                );
-            } else {
-                output::refuse(Wrong::SourceLength);
-            }
-        }
-        Size::Refused(wrong) => output::refuse(wrong),
-    }
-}
-
-// Decodes the tape into `tape`, all of it, and goes on with it.
-fn with_samples(
+// Decodes the tape into `tape`, all of it, and the source into the start of `space`, and runs it.
+fn with_strips(
     line: &[u8],
     space: &mut [u8],
     table: &mut [u32],
@@ -119,147 +68,59 @@ fn with_samples(
     registers: &mut [u8],
     tape: &mut [u8],
 ) {
-    if source::decode(line, TAPE_WORD, tape) {
-        with_tape(line, space, table, l, heap, printed, registers, tape);
-    } else {
-        output::refuse(Wrong::Digit);
+    if !source::decode(line, TAPE_WORD, tape) {
+        return output::refuse(Wrong::Digit);
     }
+    let n = lengths::size_at(line, SOURCE_WORD, space.len(), Wrong::SourceLength);
+    if space.len() < n {
+        return;
+    }
+    if !source::decode(line, SOURCE_WORD, &mut space[..n]) {
+        return output::refuse(Wrong::Digit);
+    }
+    run_case::answer(&space[..n], table, l, heap, printed, registers, tape);
 }
 
-// Answers a case with its table, its limits and its strips. The samples go to the start of `tape`.
-fn with_registers(
-    line: &[u8],
-    space: &mut [u8],
-    table: &mut [u32],
-    l: Limits,
-    heap: &mut [i32],
-    printed: &mut [i32],
-    registers: &mut [u8],
-    tape: &mut [u8],
-) {
-    let s = source::size_at(line, TAPE_WORD);
-    match s {
-        Size::Bytes(n) => {
-            if n <= tape.len() {
-                with_samples(
-                    line,
-                    space,
-                    table,
-                    l,
-                    heap,
-                    printed,
-                    registers,
-                    &mut tape[..n],
-                );
-            } else {
-                output::refuse(Wrong::TapeLength);
-            }
-        }
-        Size::Refused(wrong) => output::refuse(wrong),
-    }
-}
-
-// Answers a case with its table, its limits, its heap strip and its output strip. The register strip and the room for the tape stand here,
-// once.
-fn with_output(
-    line: &[u8],
-    space: &mut [u8],
-    table: &mut [u32],
-    l: Limits,
-    heap: &mut [i32],
-    printed: &mut [i32],
-) {
-    let mut registers = [0u8; REGISTERS_MOST];
-    let mut tape = [0u8; TAPE_MOST];
-    let n = fields::number_at(line, 6);
-    match n {
-        Number::Is(length) => {
-            if length <= REGISTERS_MOST {
-                with_registers(
-                    line,
-                    space,
-                    table,
-                    l,
-                    heap,
-                    printed,
-                    &mut registers[..length],
-                    &mut tape,
-                );
-            } else {
-                output::refuse(Wrong::RegistersLength);
-            }
-        }
-        Number::Malformed => output::refuse(Wrong::Number),
-    }
-}
-
-// Answers a case with its table, its limits and its heap strip.
-fn with_heap(
-    line: &[u8],
-    space: &mut [u8],
-    table: &mut [u32],
-    l: Limits,
-    heap: &mut [i32],
-    printed: &mut [i32],
-) {
-    let n = fields::number_at(line, 5);
-    match n {
-        Number::Is(length) => {
-            if length <= printed.len() {
-                with_output(line, space, table, l, heap, &mut printed[..length]);
-            } else {
-                output::refuse(Wrong::OutputLength);
-            }
-        }
-        Number::Malformed => output::refuse(Wrong::Number),
-    }
-}
-
-// Answers a case with its table and its limits.
-fn with_limits(
-    line: &[u8],
-    space: &mut [u8],
-    table: &mut [u32],
-    l: Limits,
-    heap: &mut [i32],
-    printed: &mut [i32],
-) {
-    let n = fields::number_at(line, 4);
-    match n {
-        Number::Is(length) => {
-            if length <= heap.len() {
-                with_heap(line, space, table, l, &mut heap[..length], printed);
-            } else {
-                output::refuse(Wrong::HeapLength);
-            }
-        }
-        Number::Malformed => output::refuse(Wrong::Number),
-    }
-}
-
-// Answers a case with its table. The strips stand here, once.
-fn with_table(line: &[u8], space: &mut [u8], table: &mut [u32]) {
+// Answers a case with its table and its limits. The strips and the room for the tape stand here, once.
+fn with_limits(line: &[u8], space: &mut [u8], table: &mut [u32], l: Limits) {
     let mut heap = [0i32; HEAP_MOST];
     let mut printed = [0i32; OUTPUT_MOST];
-    let n = limits_of(line);
-    match n {
-        Named::Are(l) => with_limits(line, space, table, l, &mut heap, &mut printed),
-        Named::Malformed => output::refuse(Wrong::Number),
+    let mut registers = [0u8; REGISTERS_MOST];
+    let mut tape = [0u8; TAPE_MOST];
+    let h = lengths::length_at(line, 4, HEAP_MOST, Wrong::HeapLength);
+    if HEAP_MOST < h {
+        return;
     }
+    let o = lengths::length_at(line, 5, OUTPUT_MOST, Wrong::OutputLength);
+    if OUTPUT_MOST < o {
+        return;
+    }
+    let g = lengths::length_at(line, 6, REGISTERS_MOST, Wrong::RegistersLength);
+    if REGISTERS_MOST < g {
+        return;
+    }
+    let t = lengths::size_at(line, TAPE_WORD, TAPE_MOST, Wrong::TapeLength);
+    if TAPE_MOST < t {
+        return;
+    }
+    with_strips(
+        line,
+        space,
+        table,
+        l,
+        &mut heap[..h],
+        &mut printed[..o],
+        &mut registers[..g],
+        &mut tape[..t],
+    );
 }
 
-// Answers a case that has as many words as it should.
-fn with_words(line: &[u8], space: &mut [u8], table: &mut [u32]) {
-    let n = fields::number_at(line, 1);
+// Answers a case with its table.
+fn with_table(line: &[u8], space: &mut [u8], table: &mut [u32]) {
+    let n = limits_of(line);
     match n {
-        Number::Is(length) => {
-            if length <= table.len() {
-                with_table(line, space, &mut table[..length]);
-            } else {
-                output::refuse(Wrong::TableLength);
-            }
-        }
-        Number::Malformed => output::refuse(Wrong::Number),
+        Named::Are(l) => with_limits(line, space, table, l),
+        Named::Malformed => output::refuse(Wrong::Number),
     }
 }
 
@@ -272,5 +133,9 @@ pub fn answer(line: &[u8], space: &mut [u8], table: &mut [u32]) {
     if SOURCE_WORD + 1 < count {
         return output::refuse(Wrong::Surplus);
     }
-    with_words(line, space, table);
+    let n = lengths::length_at(line, 1, table.len(), Wrong::TableLength);
+    if table.len() < n {
+        return;
+    }
+    with_table(line, space, &mut table[..n]);
 }

@@ -1,6 +1,7 @@
 -- Laws that proofs cite.
 pub mod Layout
 pub mod Dispatch
+pub mod Operands
 pub mod Simulation
 pub mod Running
 pub mod Demand

@@ -41,3 +41,5 @@ pub const CALL: usize = 18;
 pub const READ_REGISTER: usize = 19;
 
 pub const WRITE_REGISTER: usize = 20;
+
+pub const SCALE: usize = 21;

@@ -82,6 +82,7 @@ kept-lexemes {ts = ts} p lx =
             start = p .columns 1 (omega arith) i hi ∙ o .start;
             name = λ e. p .columns 2 (omega arith) i hi ∙ o .name e;
             literal = λ e. p .columns 2 (omega arith) i hi ∙ o .literal e;
+            fixed = λ e. p .columns 2 (omega arith) i hi ∙ o .fixed e;
           };
     }
 

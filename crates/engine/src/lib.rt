@@ -11,7 +11,7 @@ ghost use Rattle.semantics.specs.Run.{Runs};
 ghost use Rattle.runner.specs.contracts.RunPost.{strips};
 
 // Which header belongs to this library: ENGINE_VERSION there.
-const VERSION: u32 = 1;
+const VERSION: u32 = 2;
 
 // What Read answers, laid out as C lays it out.
 #[repr(C)]
@@ -51,7 +51,7 @@ pub struct RunAnswer {
 // The version of the header that belongs to this library.
 #[no_mangle]
 pub extern "C" fn engine_version() -> u32
-    ensures { λ r. ⌜ r ≡ 1 ⌝ }
+    ensures { λ r. ⌜ r ≡ 2 ⌝ }
 {
     VERSION
 }

@@ -84,6 +84,7 @@ module _ (s tab : List ℕ) where
         start = refl;
         name = λ m. q .name m ∙ sym (number-kept n i h m);
         literal = λ m. q .literal m;
+        fixed = λ m. q .fixed m;
       })
 
 -- ---- the search of a chain

@@ -3,23 +3,23 @@ use Prim.Native.Nat.{ℕ, _+_, _-_, _≤_, _<_}
 use native.Mathlib.Nat.{add-zero}
 use native.Mathlib.Decide.{decLt}
 use native.Mathlib.Omega.{arith}
-use mathlib.Core.List.{List, [], _∷_}
+use mathlib.Core.List.{List, [], _∷_, _++_}
 use mathlib.Core.Logic.{_≢_}
 use mathlib.Core.Bool.{Bool, false, _&&_, not}
 use mathlib.Core.Option.{Option, none, some}
 use mathlib.Core.Path.{_≡_, refl, sym, ap, _∙_}
-use lib.ListN.{length, getD, take, drop, List·getD-eq-default}
+use lib.ListN.{length, getD, take, drop, length-append, List·getD-eq-default}
 use lib.Seq.{getD-drop, drop-drop}
 use lib.Dec.{eqb}
-use borrow.Author.Tests.{ne-eqb, eqb-false}
+use borrow.Author.Tests.{eq-eqb, ne-eqb, eqb-false}
 use Rattle.base.specs.Choice.{if_then_else_}
 use Rattle.lexer.specs.Bytes.{isBlank, isLetter, isDigit, isNamePart}
-use Rattle.lexer.specs.Kinds.{kLiteral, kAnd, wordKind, markKind}
-use Rattle.lexer.specs.Tokens.{gap, nothing, token, longestRun, begins, closing, comment, mark, item}
+use Rattle.lexer.specs.Kinds.{kLiteral, kFixedLiteral, kAnd, wordKind, markKind}
+use Rattle.lexer.specs.Tokens.{gap, nothing, token, longestRun, begins, closing, comment, mark, numeral, item}
 use Rattle.lexer.specs.laws.ItemLaws.{run-front, begins-cons, chosen}
 use Rattle.lexer.specs.ByteKinds.{bLetter, bDigit, bBlank, bMark, bOther, byteKind}
-use Rattle.lexer.specs.contracts.Scan.{member, closingOf, pieceOf, Letter, Mark}
-use Rattle.lexer.specs.declared.scan.Class.the-variants.{Line, Word}
+use Rattle.lexer.specs.contracts.Scan.{member, closingOf, pieceOf, Letter, Digit, Mark}
+use Rattle.lexer.specs.declared.scan.Class.the-variants.{Line, Word, Number}
 use Rattle.lexer.specs.declared.scan.Closing.{Closing}
 use Rattle.lexer.specs.declared.scan.Closing.the-variants.{At, Never}
 use Rattle.lexer.specs.declared.scan.Piece.{Piece}
@@ -125,11 +125,11 @@ module _ (s : List ℕ) (i : ℕ) (h : i < length s) where
       choice (by-kind e .2) (not-slash 47 refl n) (not-slash 42 refl n) (by-kind e .0) refl refl
       ∙ ap (λ (t : List ℕ). token (wordKind t) t) (back isNamePart)
 
-  pub at-digit : byteKind first ≡ bDigit → item i (drop i s) ≡ token kLiteral (longestRun isDigit (drop i s))
+  at-digit : byteKind first ≡ bDigit → item i (drop i s) ≡ numeral (drop i s)
   at-digit e =
       let n = off-slash e refl in
       choice (by-kind e .2) (not-slash 47 refl n) (not-slash 42 refl n) (by-kind e .0) (by-kind e .1) refl
-      ∙ ap (token kLiteral) (back isDigit)
+      ∙ ap numeral (sym (rest s i h))
 
   pub at-and : first ≡ 38 → second ≡ 38 → item i (drop i s) ≡ token kAnd (38 ∷ 38 ∷ [])
   unfolding isBlank isLetter isDigit
@@ -200,6 +200,46 @@ module _ (s : List ℕ) (i : ℕ) (h : i < length s) where
       let n : e - i ≡ length t = omega arith in
       (λ j. Token ((q ∙ ap (λ (m : ℕ). wordKind (take m (drop i s))) n ∙ ap wordKind (run-front isNamePart (drop i s))) j) (p j))
       ∙ sym (ap (pieceOf i) (at-letter (l .kind)))
+
+  -- e is where the digits end that begin at i
+  module _ {e : ℕ} (d : Digit s i) (p : e ≡ i + length (longestRun (member Number) (drop i s))) where
+    abbrev whole : List ℕ
+    whole = longestRun isDigit (drop i s)
+
+    behind : drop (length whole) (drop i s) ≡ drop e s
+    behind = drop-drop (length whole) i s ∙ ap (λ (n : ℕ). drop n s) (sym p)
+
+    -- the byte where they end and the one behind it decide
+    by-point : {b c : ℕ} → b ≡ getD s e 0 → c ≡ getD s (e + 1) 0 → {x y : Bool} → eqb b 46 ≡ x → isDigit c ≡ y
+        → item i (drop i s)
+        ≡ (if x && y then (λ _. token kFixedLiteral (whole ++ 46 ∷ longestRun isDigit (drop (e + 1) s))) else λ _. token kLiteral whole)
+    by-point {b} {c} pb pc {x} {y} qx qy =
+        let at-point = ap (λ (l : List ℕ). getD l 0 0) behind ∙ getD-drop e s 0 0 ∙ ap (λ (n : ℕ). getD s n 0) (add-zero e) ∙ sym pb in
+        let at-next = ap (λ (l : List ℕ). getD l 1 0) behind ∙ getD-drop e s 1 0 ∙ sym pc in
+        let after = ap (drop 1) behind ∙ drop-drop 1 e s in
+        at-digit (d .kind)
+        ∙ (λ j.
+        if (ap (λ (n : ℕ). eqb n 46) at-point ∙ qx) j && (ap isDigit at-next ∙ qy) j
+        then (λ _. token kFixedLiteral (whole ++ 46 ∷ longestRun isDigit (after j))) else λ _. token kLiteral whole)
+
+    pub piece-fixed : {b c f : ℕ} → b ≡ getD s e 0 → b ≡ 46 → c ≡ getD s (e + 1) 0 → byteKind c ≡ bDigit
+        → f ≡ e + 1 + length (longestRun (member Number) (drop (e + 1) s)) → Token kFixedLiteral f ≡ pieceOf i (item i (drop i s))
+    piece-fixed {b} {c} {f} pb qb pc qc pf =
+        let fraction = longestRun isDigit (drop (e + 1) s) in
+        let z : f ≡ i + length (whole ++ 46 ∷ fraction) = omega (arith, length-append whole (46 ∷ fraction)) in
+        ap (Token kFixedLiteral) z
+        ∙ sym (ap (pieceOf i) (by-point pb pc (eq-eqb b 46 qb) (digit-by-kind c ∙ ap (λ (k : ℕ). eqb k bDigit) qc)))
+
+    -- no point
+    pub piece-literal : {b : ℕ} → b ≡ getD s e 0 → b ≢ 46 → Token kLiteral e ≡ pieceOf i (item i (drop i s))
+    piece-literal {b} pb nb = ap (Token kLiteral) p ∙ sym (ap (pieceOf i) (by-point pb refl (ne-eqb b 46 nb) refl))
+
+    -- a point, and no digit behind it
+    pub piece-before-point : {b c : ℕ} → b ≡ getD s e 0 → b ≡ 46 → c ≡ getD s (e + 1) 0 → byteKind c ≢ bDigit
+        → Token kLiteral e ≡ pieceOf i (item i (drop i s))
+    piece-before-point {b} {c} pb qb pc nc =
+        ap (Token kLiteral) p
+        ∙ sym (ap (pieceOf i) (by-point pb pc (eq-eqb b 46 qb) (digit-by-kind c ∙ ne-eqb (byteKind c) bDigit nc)))
 
   pub piece-mark : {b k : ℕ} → Mark s i b → b ≢ 38 → k ≡ markKind b → Token k (i + 1) ≡ pieceOf i (item i (drop i s))
   piece-mark m n e =

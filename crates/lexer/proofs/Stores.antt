@@ -8,12 +8,13 @@ use mathlib.Core.Bool.{true, false}
 use mathlib.Core.Option.{Option·some-injective}
 use mathlib.Core.Path.{_≡_, refl, sym, ap, _∙_, subst}
 use lib.ListN.{length, take, drop}
-use borrow.Author.Tests.{eq-eqb}
+use borrow.Author.Tests.{eq-eqb, eqb-false}
 use Rattle.base.specs.contracts.Table.{col, put, rows, size, length-put, col-put-same, col-put-other}
-use Rattle.lexer.specs.Kinds.{kLiteral, isName}
-use Rattle.lexer.specs.Tokens.{Token, decimal}
+use Rattle.lexer.specs.Kinds.{kLiteral, kFixedLiteral, isName}
+use Rattle.lexer.specs.Tokens.{Token, decimal, thousandthsOf}
 use Rattle.lexer.specs.contracts.Rows.{firstNamed}
 use Rattle.base.specs.laws.Tests.{apart}
+use Rattle.lexer.specs.laws.ItemLaws.{kinds-apart}
 use Rattle.lexer.specs.laws.RowLaws.{first-named, first-most}
 use Rattle.lexer.specs.contracts.Chains.{bucketFrom, textAt, rowToken, tokensOf, TokenRow, tokenRow, storedRow, Link, Reaches, here, next, Numbered, RowsFilled, Chained, Sought, Adding, Extended}
 use Rattle.lexer.specs.contracts.Verdicts.{numberBeside}
@@ -62,6 +63,7 @@ module _ (s : List ℕ) {tab tab′ : List ℕ} {n : ℕ} (kept : Same n tab tab
             ∙ r .name (sym (ap isName k0) ∙ m)
             ∙ (λ j. firstNamed (sym (tokens-kept i (omega arith)) j) (sym (text-kept i h) j));
         literal = λ m. k2 ∙ r .literal (sym k0 ∙ m) ∙ ap (decimal 0) (sym (text-kept i h));
+        fixed = λ m. k2 ∙ r .fixed (sym k0 ∙ m) ∙ ap thousandthsOf (sym (text-kept i h));
       }
 
   reaches-kept : {m x : ℕ} {t : List ℕ} → n ≤ m → Reaches s tab n t x → Reaches s tab′ m t x
@@ -165,6 +167,7 @@ pub record Fits (s tab : List ℕ) (n : ℕ) (r : TokenRow) : Type 0 where
   pub link : Link tab n (r .link)
   pub name : isName (r .kind) ≡ true → r .number ≡ firstNamed (tokensOf s tab n) (textOf s r)
   pub literal : r .kind ≡ kLiteral → r .number ≡ decimal 0 (textOf s r)
+  pub fixed : r .kind ≡ kFixedLiteral → r .number ≡ thousandthsOf (textOf s r)
 
 module _ (s : List ℕ) {tab tab′ : List ℕ} {n : ℕ} {r : TokenRow} (m : Becomes tab tab′ n r) where
   new-text : textAt s tab′ n ≡ textOf s r
@@ -185,6 +188,7 @@ module _ (s : List ℕ) {tab tab′ : List ℕ} {n : ℕ} {r : TokenRow} (m : Be
         ∙ f .name (sym (ap isName (m .kind)) ∙ q)
         ∙ (λ j. firstNamed (sym (tokens-kept s (m .kept) n (omega arith)) j) (sym new-text j));
     literal = λ q. m .number ∙ f .literal (sym (m .kind) ∙ q) ∙ ap (decimal 0) (sym new-text);
+    fixed = λ q. m .number ∙ f .fixed (sym (m .kind) ∙ q) ∙ ap thousandthsOf (sym new-text);
   }
 
   filled-more : n < rows → Fits s tab n r → RowsFilled s tab n → RowsFilled s tab′ (n + 1)
@@ -306,9 +310,8 @@ known-found {s} {tab} {n} c t d =
     let e = Option·some-injective (rowToken s tab j) (w .item) (sym (token-at s tab n j h) ∙ w .at) in
     subst (FoundAt s tab n) (ap (λ (u : Token). u .text) e ∙ w .text) (c .found j h (ap (λ (u : Token). isName (u .kind)) e ∙ w .named))
 
-name-literal : (k : ℕ) → isName k ≡ true → k ≢ kLiteral
-unfolding isName
-name-literal k e q = let z : false ≡ true = sym (ap isName q) ∙ e in apart (cc)
+no-name : (k q : ℕ) → isName k ≡ true → isName q ≡ false → k ≢ q
+no-name k q e n z = eqb-false k q (kinds-apart isName k q e n) z
 
 module _ (s : List ℕ) {tab : List ℕ} {n : ℕ} (r : TokenRow) (c : Chained s tab n) (h : n < rows) (inside : r .start + r .length ≤ length s) where
   becomes : Becomes tab (storedRow tab n r) n r
@@ -322,10 +325,10 @@ module _ (s : List ℕ) {tab : List ℕ} {n : ℕ} (r : TokenRow) (c : Chained s
 
   -- a row that is no name
   pub chained-plain : r .link ≡ 0 → isName (r .kind) ≡ false → (r .kind ≡ kLiteral → r .number ≡ decimal 0 (textOf s r))
-      → Chained s (storedRow tab n r) (n + 1)
-  chained-plain z o l =
+      → (r .kind ≡ kFixedLiteral → r .number ≡ thousandthsOf (textOf s r)) → Chained s (storedRow tab n r) (n + 1)
+  chained-plain z o l x =
       chained-known s c h becomes
-      (record { inside = inside; link = no-link z; name = λ q. absurd (never q); literal = l })
+      (record { inside = inside; link = no-link z; name = λ q. absurd (never q); literal = l; fixed = x })
       (stored-heads tab n r h)
       (λ q. absurd (never q))
     where
@@ -334,7 +337,14 @@ module _ (s : List ℕ) {tab : List ℕ} {n : ℕ} (r : TokenRow) (c : Chained s
 
   module _ (named : isName (r .kind) ≡ true) (number : r .number ≡ firstNamed (tokensOf s tab n) (textOf s r)) where
     fits : Link tab n (r .link) → Fits s tab n r
-    fits l = record { inside = inside; link = l; name = λ _. number; literal = λ q. absurd (name-literal (r .kind) named q) }
+    unfolding isName
+    fits l = record {
+      inside = inside;
+      link = l;
+      name = λ _. number;
+      literal = λ q. absurd (no-name (r .kind) kLiteral named refl q);
+      fixed = λ q. absurd (no-name (r .kind) kFixedLiteral named refl q);
+    }
 
     -- a name that an earlier row has
     pub chained-again : r .link ≡ 0 → r .number ≢ n → Chained s (storedRow tab n r) (n + 1)
@@ -363,12 +373,16 @@ module _ {s tab tab′ : List ℕ} {n k i e number : ℕ} (a : Adding s tab n i 
   extended-plain o v q =
       subst (Extended s tab n k i e) (sym q)
       (record {
-        chained = chained-plain s (tokenRow k i e number 0) (a .chained) h (fits-inside a) refl o (λ l. v ∙ literal-number l);
+        chained =
+            chained-plain s (tokenRow k i e number 0) (a .chained) h (fits-inside a) refl o (λ l. v ∙ literal-number l) (λ l. v ∙ fixed-number l);
         tokens = stored-tokens s (tokenRow k i e number 0) (a .chained) h (fits-inside a);
       })
     where
       literal-number : k ≡ kLiteral → numberBeside k (take (e - i) (drop i s)) ≡ decimal 0 (take (e - i) (drop i s))
       literal-number l = rw (eq-eqb k kLiteral l) refl
+
+      fixed-number : k ≡ kFixedLiteral → numberBeside k (take (e - i) (drop i s)) ≡ thousandthsOf (take (e - i) (drop i s))
+      fixed-number l = rw l refl
 
   module _ (named : isName k ≡ true) (right : number ≡ firstNamed (tokensOf s tab n) (take (e - i) (drop i s))) where
     pub extended-again : number ≢ n → tab′ ≡ storedRow tab n (tokenRow k i e number 0) → Extended s tab n k i e tab′

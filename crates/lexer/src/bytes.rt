@@ -74,7 +74,7 @@ pub fn is_name_part(table: &[u8; 256], b: u8) -> bool
     b == b'_'
 }
 
-// The byte at a position, 0 past the end: no token and no comment has a 0 as its second byte.
+// The byte at a position, 0 past the end: no token has a byte 0, and no comment has one as its second byte.
 pub fn byte_at(source: &[u8], at: usize) -> u8
     ensures { λ r. ⌜ r ≡ getD (now (source .entry)) at 0 ⌝ }
 {

@@ -88,6 +88,10 @@ pub const GET: u32 = 41;
 
 pub const PUT: u32 = 42;
 
+pub const FIXED: u32 = 43;
+
+pub const FIXED_LITERAL: u32 = 44;
+
 // An identifier, those that the grammar requires among them.
 pub fn is_name(k: u32) -> bool
     ensures { λ r. ⌜ r ≡ isName k ⌝ }

@@ -11,7 +11,7 @@ ghost use Prim.Native.Nat.{_+_, _≤_, _<_};
 ghost use lib.ListN.{length, getD, drop};
 ghost use Rattle.lexer.specs.ByteKinds.{RightTable};
 ghost use Rattle.lexer.specs.Tokens.{longestRun, closing, item};
-ghost use Rattle.lexer.specs.contracts.Scan.{member, delimiterOf, closingOf, pieceOf, Letter, Mark};
+ghost use Rattle.lexer.specs.contracts.Scan.{member, delimiterOf, closingOf, pieceOf, Letter, Digit, Mark};
 
 // The bytes of a run: those of a line comment, of a word, of a literal.
 pub enum Class {
@@ -141,6 +141,23 @@ fn word(source: &[u8], table: &[u8; 256], at: usize) -> Piece
     Piece::Token(word_kind(&source[at..end]), end)
 }
 
+// At a digit: a literal, which goes on behind a point where a digit follows it.
+fn number(source: &[u8], table: &[u8; 256], at: usize) -> Piece
+    requires { ⌜ RightTable (now table) × Digit (now source) at ⌝ }
+    ensures { λ r. ⌜ r ≡ pieceOf at (item at (drop at (now (source .entry)))) ⌝ }
+{
+    let end = run_end(source, table, at, Class::Number);
+    if byte_at(source, end) == b'.' {
+        if kind_of(table, byte_at(source, end + 1)) == bytes::DIGIT {
+            return Piece::Token(
+                kinds::FIXED_LITERAL,
+                run_end(source, table, end + 1, Class::Number),
+            );
+        }
+    }
+    Piece::Token(kinds::LITERAL, end)
+}
+
 // At a mark: `&&`, a token of one byte or, at a lone `&`, nothing.
 fn mark(source: &[u8], at: usize, b: u8) -> Piece
     requires { ⌜ Mark (now source) at b ⌝ }
@@ -175,7 +192,7 @@ pub fn piece_at(source: &[u8], table: &[u8; 256], at: usize) -> Piece
         return word(source, table, at);
     }
     if kind == bytes::DIGIT {
-        return Piece::Token(kinds::LITERAL, run_end(source, table, at, Class::Number));
+        return number(source, table, at);
     }
     mark(source, at, b)
 }

@@ -62,7 +62,7 @@ const FOURS: [u32; 6] = [
     kinds::VOID,
 ];
 
-const FIVES: [u32; 3] = [kinds::CLASS, kinds::FALSE, kinds::WHILE];
+const FIVES: [u32; 4] = [kinds::CLASS, kinds::FALSE, kinds::FIXED, kinds::WHILE];
 
 const SIXES: [u32; 6] = [
     kinds::LENGTH,
@@ -83,7 +83,7 @@ pub fn word_kind(text: &[u8]) -> u32
         2 => kind_among(b"if", &TWOS, text),
         3 => kind_among(b"intnewoutgetput", &THREES, text),
         4 => kind_among(b"elsemainPortthistruevoid", &FOURS, text),
-        5 => kind_among(b"classfalsewhile", &FIVES, text),
+        5 => kind_among(b"classfalsefixedwhile", &FIVES, text),
         6 => kind_among(b"lengthpublicreturnstaticStringSystem", &SIXES, text),
         7 => kind_among(b"booleanextendsprintln", &SEVENS, text),
         _ => kinds::NAME,

@@ -6,15 +6,18 @@ use mathlib.Core.Logic.{_≢_}
 use mathlib.Core.Bool.{Bool, true, false}
 use mathlib.Core.Option.{Option, none, some}
 use native.Mathlib.Omega.{arith}
+use lib.Dec.{eqb}
+use borrow.Author.Tests.{eqb-true}
 use Rattle.base.specs.Choice.{option}
 use Rattle.base.specs.contracts.Table.{col}
+use Rattle.lexer.specs.Kinds.{isName}
 use Rattle.lexer.specs.Tokens.{Token}
 use Rattle.parser.specs.declared.answer.Answer.{Answer}
 use Rattle.parser.specs.declared.answer.Answer.the-variants.{At, Bad}
-use Rattle.parser.specs.Tree.{Place, Operator, Sort, Sort.expression, Part, Expression}
+use Rattle.parser.specs.Tree.{Place, Operator, Sort.expression, Expression}
 use Rattle.parser.specs.Tree.{Part.negation, Part.binary}
-use Rattle.parser.specs.Stream.{startAt, placeAt, Level, Level.conjunction, Level.comparison, Level.sum, Level.product, operatorOf}
-use Rattle.parser.specs.Parse.{Parsed, bind, Mode, operation, operations, operand, unary, postfix, primary, suffixes, step}
+use Rattle.parser.specs.Stream.{kindAt, startAt, placeAt, Level, Level.conjunction, Level.comparison, Level.sum, Level.product, operatorOf}
+use Rattle.parser.specs.Parse.{bind, beginsType, elementType, Mode, operation, operations, operand, unary, postfix, primary, suffixes, step, parseAs}
 use Rattle.parser.specs.contracts.Layout.{rowOf, node, given, store}
 use Rattle.parser.specs.contracts.Post.{kindInTable, TokensIn, met-ok, ModePost, RestPost, LevelsPost, Rest, restMode, moreOperations}
 use Rattle.parser.specs.contracts.Post.{moreSuffixes, levelAt, isOperator, startsArray, rank, fuel}
@@ -96,8 +99,8 @@ operator-there T n i k level e eb t = there-by (isOperator level) (zero-no-opera
 
 -- A WHOLE: its first part, and what follows it
 module _ (whole first : Mode expression) (rest : Rest) {n i : ℕ} {T : List ℕ}
-    (steps : (ts : List Token) → TokensIn T n ts → (P : (s : Sort) → Mode s → ℕ → Parsed (Part s))
-    → step ts P whole i ≡ bind (P expression first i) (λ l j. P expression (restMode rest l) j))
+    (steps : (ts : List Token) → TokensIn T n ts → (f : ℕ) → 0 < f
+    → step ts (λ s m j. parseAs f ts m j) whole i ≡ bind (parseAs f ts first i) (λ l j. parseAs f ts (restMode rest l) j))
     (low : rank first < rank whole) (few : n ≤ 2048) where
   whole-ok : {x j : ℕ} {T₁ T₂ : List ℕ} {r₁ r : Answer} → ModePost first n n i T r₁ T₁ → r₁ ≡ At x j → RestPost rest n x j T₁ r T₂
       → ModePost whole n n i T r T₂
@@ -106,7 +109,7 @@ module _ (whole first : Mode expression) (rest : Rest) {n i : ℕ} {T : List ℕ
       record {
         kept = q .kept ∙ p .kept;
         within = within-more j (i + 1) n n n r (w .0) (omega arith) (q .within);
-        says = λ ts h. stepped whole ts i (fuel whole n i) (λ f enough. at-result (steps ts h _)
+        says = λ ts h. stepped whole ts i (fuel whole n i) (λ f enough. at-result (steps ts h f (omega arith))
             (bind-ok _ e (p .says ts h f (omega arith)) (λ a ea ta. q .says a T ea ta ts (tokens-kept few (p .kept) h) f (omega arith))));
       }
 
@@ -115,18 +118,18 @@ module _ (whole first : Mode expression) (rest : Rest) {n i : ℕ} {T : List ℕ
       record {
         kept = p .kept;
         within = tt;
-        says = λ ts h. stepped whole ts i (fuel whole n i) (λ f enough. at-result (steps ts h _) (bind-bad _ e (p .says ts h f (omega arith))));
+        says = λ ts h. stepped whole ts i (fuel whole n i) (λ f enough. at-result (steps ts h f (omega arith)) (bind-bad _ e (p .says ts h f (omega arith))));
       }
 
 operation-ok : {L : Level} {n i x j : ℕ} {T T₁ T₂ : List ℕ} {r₁ r : Answer} → n ≤ 2048 → ModePost (operand L) n n i T r₁ T₁ → r₁ ≡ At x j
     → RestPost (moreOperations L i) n x j T₁ r T₂ → ModePost (operation L) n n i T r T₂
 unfolding step
-operation-ok {L} {i = i} few p e q = whole-ok (operation L) (operand L) (moreOperations L i) (λ ts h P. refl) (rank-operand L) few p e q
+operation-ok {L} {i = i} few p e q = whole-ok (operation L) (operand L) (moreOperations L i) (λ ts h f l. refl) (rank-operand L) few p e q
 
 operation-bad : {L : Level} {n i k : ℕ} {T T₁ : List ℕ} {r₁ : Answer} → n ≤ 2048 → ModePost (operand L) n n i T r₁ T₁ → r₁ ≡ Bad k
     → ModePost (operation L) n n i T (Bad k) T₁
 unfolding step
-operation-bad {L} {i = i} few p e = whole-bad (operation L) (operand L) (moreOperations L i) (λ ts h P. refl) (rank-operand L) few p e
+operation-bad {L} {i = i} few p e = whole-bad (operation L) (operand L) (moreOperations L i) (λ ts h f l. refl) (rank-operand L) few p e
 
 -- ALL LEVELS FROM ONE OPERAND
 module _ {n i : ℕ} {T T₁ : List ℕ} {r : Answer} where
@@ -166,12 +169,26 @@ module _ {n i : ℕ} {T T₁ : List ℕ} {r₁ : Answer} (level : ℕ) (p : Mode
   unary-bad few e le =
       refused-below (3 - level) level 3 (omega arith) (omega arith) few (operation-bad few (operand-last 3 (omega arith) (omega arith) p) e)
 
--- what is no `new T[e]` is a primary and its suffixes
-not-array : (T : List ℕ) (n i : ℕ) → startsArray T n i ≡ false → (ts : List Token) → TokensIn T n ts
-    → (P : (s : Sort) → Mode s → ℕ → Parsed (Part s))
-    → step ts P postfix i ≡ bind (P expression primary i) (λ l j. P expression (suffixes true i l) j)
+-- `new fixed` the definition takes for an array, and it refuses `fixed` there as it does where `new C()` is looked for
+new-fixed : (ts : List Token) (i f : ℕ) → kindAt ts i ≡ 14 → kindAt ts (i + 1) ≡ 43
+    → step ts (λ s m j. parseAs (suc f) ts m j) postfix i
+    ≡ bind (parseAs (suc f) ts primary i) (λ l j. parseAs (suc f) ts (suffixes true i l) j)
+unfolding step parseAs beginsType elementType isName
+new-fixed ts i f e e₁ = rw (e, e₁) refl
+
+-- what else is no `new T[e]` is a primary and its suffixes
+not-array : (T : List ℕ) (n i : ℕ) → startsArray T n i ≡ false → (ts : List Token) → TokensIn T n ts → (f : ℕ) → 0 < f
+    → step ts (λ s m j. parseAs f ts m j) postfix i ≡ bind (parseAs f ts primary i) (λ l j. parseAs f ts (suffixes true i l) j)
 unfolding step
-not-array T n i t ts h P = rw (makes-array T n i h ∙ t) refl
+not-array T n i t ts h zero l = absurd (omega arith)
+not-array T n i t ts h (suc f) l = by (eqb (kindAt ts i) 14) refl (eqb (kindAt ts (i + 1)) 43) refl
+  where
+    by : (a : Bool) → eqb (kindAt ts i) 14 ≡ a → (b : Bool) → eqb (kindAt ts (i + 1)) 43 ≡ b
+        → step ts (λ s m j. parseAs (suc f) ts m j) postfix i
+        ≡ bind (parseAs (suc f) ts primary i) (λ l j. parseAs (suc f) ts (suffixes true i l) j)
+    by true p true q = new-fixed ts i f (eqb-true (kindAt ts i) 14 p) (eqb-true (kindAt ts (i + 1)) 43 q)
+    by true p false q = rw (makes-array T n i h, p, q, t) refl
+    by false p b q = rw (makes-array T n i h, p, t) refl
 
 pub postfix-ok : {n i x j : ℕ} {b : Bool} {T T₁ T₂ : List ℕ} {r₁ r : Answer} → n ≤ 2048 → b ≡ startsArray T n i → b ≡ false
     → ModePost primary n n i T r₁ T₁ → r₁ ≡ At x j → RestPost (moreSuffixes true i) n x j T₁ r T₂ → ModePost postfix n n i T r T₂

@@ -4,19 +4,20 @@ use Prim.Native.Nat.{ℕ, _+_, _*_, _-_, _≤_, _<_}
 use mathlib.Core.Path.{_≡_, refl, sym, ap, _∙_, subst}
 use mathlib.Core.List.{List}
 use mathlib.Core.Logic.{_≢_}
-use mathlib.Core.Bool.{Bool, true, false, _||_}
+use mathlib.Core.Bool.{Bool, true, false, _&&_, _||_}
 use native.Mathlib.Omega.{arith}
 use lib.Dec.{eqb, eqb→eq, T}
 use borrow.Author.Tests.{ne-eqb}
 use Rattle.base.specs.Choice.{option}
 use Rattle.base.specs.contracts.Table.{col, put}
-use Rattle.base.specs.laws.Tests.{and-true}
+use Rattle.base.specs.laws.Tests.{and-true, or-neither}
 use Rattle.lexer.specs.Kinds.{isName}
-use Rattle.lexer.specs.Tokens.{Token, decimal}
+use Rattle.lexer.specs.Tokens.{Token, decimal, thousandthsOf}
 use Rattle.lexer.specs.laws.ItemLaws.{kinds-apart}
 use Rattle.parser.specs.declared.answer.Answer.{Answer}
 use Rattle.parser.specs.declared.answer.Answer.the-variants.{At, Bad}
 use Rattle.parser.specs.Tree.{Place, Name, ElementUse, Sort, Sort.arguments, Part, Expression}
+use Rattle.parser.specs.Tree.{Numeral.intLiteral, Numeral.fixedLiteral}
 use Rattle.parser.specs.Tree.{Part.literal, Part.truth, Part.variable, Part.this, Part.newArray, Part.newObject, Part.element}
 use Rattle.parser.specs.Tree.{Part.arrayLength, Part.call, Part.portGet, Part.noArguments, Part.argument}
 use Rattle.parser.specs.Stream.{tokenAt, kindAt, startAt, placeAt, nameAt, elementAt}
@@ -24,7 +25,7 @@ use Rattle.parser.specs.Parse.{Parsed, ok, bad, bind, expect, elementTyp
 use Rattle.parser.specs.Parse.{someArguments, getHead, expectAll, step, parseAs}
 use Rattle.parser.specs.contracts.Layout.{absent, rowOf, node, given, store}
 use Rattle.parser.specs.contracts.Post.{kindInTable, TokensIn, met-ok, met-bad, ModePost, RestPost, moreSuffixes, levelAt, isAtom}
-use Rattle.parser.specs.contracts.Post.{startsArray, matchedIn, fuel}
+use Rattle.parser.specs.contracts.Post.{beginsElement, startsArray, matchedIn, fuel}
 use Rattle.parser.specs.contracts.Parts.{Follows, ListOf, OnePart}
 use Rattle.parser.proofs.Pieces.{andToken, regroup, member, then-token, then-bad, then-on, then-node, last-member, no-member, more-members}
 use Rattle.parser.proofs.Pieces.{of-mode, as-mode}
@@ -32,12 +33,11 @@ use Rattle.parser.proofs.Laws.{plus-two, plus-three, plus-four, there, 
 use Rattle.parser.proofs.Laws.{passes, at-result, bind-ok, bind-bad, stepped, within-ok, within-more}
 use Rattle.parser.proofs.Expressions.{made}
 use Rattle.parser.proofs.Heads.{head-there, head-bad, head-passed}
-use Rattle.parser.proofs.Types.{ElementRead, element-read, makes-array}
+use Rattle.parser.proofs.Types.{ElementRead, element-read, array-told, makes-array}
 
--- a choice of tests that fails
-pub neither : (a b : Bool) → (a || b) ≡ false → (a ≡ false) × (b ≡ false)
-neither true b e = absurd (let z : _≡_ {A = ℕ} 0 1 = cc in omega arith)
-neither false b e = (refl, e)
+or-true : (a : Bool) → (a || true) ≡ true
+or-true true = refl
+or-true false = refl
 
 -- a name's token is there
 pub name-there : (T : List ℕ) (n i k : ℕ) {b : Bool} → k ≡ kindInTable T n i → b ≡ isName k → b ≡ true → i < n
@@ -52,7 +52,7 @@ is-new-array p u e t = refl
 
 module _ (T : List ℕ) (n i k : ℕ) (ek : k ≡ kindInTable T n i) where
   pub after-new : {k₁ k₂ : ℕ} {b : Bool} → k ≡ 14 → k₂ ≡ kindInTable T n (i + 2) → k₁ ≡ kindInTable T n (i + 1)
-      → b ≡ beginsType k₁ (eqb k₂ 36) → b ≡ startsArray T n i
+      → b ≡ beginsElement k₁ (eqb k₂ 36) → b ≡ startsArray T n i
   unfolding startsArray
   after-new z ek₂ ek₁ eb = rw (← ek, z, ← ek₁, ← ek₂) eb
 
@@ -63,7 +63,12 @@ module _ (T : List ℕ) (n i k : ℕ) (ek : k ≡ kindInTable T n i) where
 module _ (T : List ℕ) (n i : ℕ) (pre : startsArray T n i ≡ true) where
   -- the element type after `new`
   element-after : {ts : List Token} → TokensIn T n ts → ElementRead ts (i + 1)
-  element-after {ts} h = element-read ts (i + 1) _ (and-true (eqb (kindAt ts i) 14) _ (makes-array T n i h ∙ pre) .1)
+  element-after {ts} h = element-read ts (i + 1) _ (and-true (eqb (kindAt ts i) 14) _ (sym (array-told T n i h) ∙ pre) .1)
+
+  -- it begins an array by the definition too
+  an-array : {ts : List Token} → TokensIn T n ts
+      → (eqb (kindAt ts i) 14 && beginsType (kindAt ts (i + 1)) (eqb (kindAt ts (i + 2)) 36)) ≡ true
+  an-array {ts} h = makes-array T n i h ∙ rw pre (or-true (eqb (kindAt ts i) 14 && eqb (kindAt ts (i + 1)) 43))
 
   -- what follows the length
   abbrev sized : ℕ → List Token → Expression → ℕ → Parsed Expression
@@ -76,7 +81,7 @@ module _ (T : List ℕ) (n i : ℕ) (pre : startsArray T n i ≡ true) where
   unfolding step
   array-steps ek z f ts h =
       let opened : step ts (λ s m j. parseAs f ts m j) postfix i ≡ bind (parseAs f ts anExpression (i + 3)) (λ a j. expect ts 37 j λ j. sized f ts a j) =
-      rw (makes-array T n i h ∙ pre, element-after h .read, is h (i + 2) ek z, plus-three i) refl in
+      rw (an-array h, element-after h .read, is h (i + 2) ek z, plus-three i) refl in
       opened ∙ regroup ts 37 (sized f ts) (parseAs f ts anExpression (i + 3))
 
   module _ {k : ℕ} {T₁ : List ℕ} {r₁ r₂ : Answer} (few : n ≤ 2048) (ek : k ≡ kindInTable T n (i + 2)) (z : k ≡ 36)
@@ -110,7 +115,7 @@ module _ (T : List ℕ) (n i : ℕ) (pre : startsArray T n i ≡ true) where
       record {
         kept = refl;
         within = tt;
-        says = λ ts h. stepped postfix ts i (fuel postfix n i) (λ f enough. rw (makes-array T n i h ∙ pre, element-after h .read, is-not h (i + 2) ek q) met-bad);
+        says = λ ts h. stepped postfix ts i (fuel postfix n i) (λ f enough. rw (an-array h, element-after h .read, is-not h (i + 2) ek q) met-bad);
       }
 
 -- SUFFIXES
@@ -263,6 +268,7 @@ module _ {n first left i : ℕ} {T : List ℕ} where
 
 -- what an expression of one token is
 data Atom (k : ℕ) : Type 0 where
+  a-fixed-literal : k ≡ 44 → Atom k
   a-literal : k ≡ 4 → Atom k
   a-true : k ≡ 21 → Atom k
   a-false : k ≡ 9 → Atom k
@@ -271,15 +277,16 @@ data Atom (k : ℕ) : Type 0 where
 
 atom : (k : ℕ) → isAtom k ≡ true → Atom k
 unfolding isAtom
-atom k = go (eqb k 4) refl (eqb k 21) refl (eqb k 9) refl (eqb k 20) refl
+atom k = go (eqb k 44) refl (eqb k 4) refl (eqb k 21) refl (eqb k 9) refl (eqb k 20) refl
   where
-    go : (a : Bool) → eqb k 4 ≡ a → (b : Bool) → eqb k 21 ≡ b → (c : Bool) → eqb k 9 ≡ c → (d : Bool) → eqb k 20 ≡ d
-        → (a || b || c || d || isName k) ≡ true → Atom k
-    go true e b _ c _ d _ t = a-literal (eqb→eq k 4 (subst T (sym e) tt))
-    go false _ true e c _ d _ t = a-true (eqb→eq k 21 (subst T (sym e) tt))
-    go false _ false _ true e d _ t = a-false (eqb→eq k 9 (subst T (sym e) tt))
-    go false _ false _ false _ true e t = a-this (eqb→eq k 20 (subst T (sym e) tt))
-    go false _ false _ false _ false _ t = a-name t
+    go : (x : Bool) → eqb k 44 ≡ x → (a : Bool) → eqb k 4 ≡ a → (b : Bool) → eqb k 21 ≡ b → (c : Bool) → eqb k 9 ≡ c
+        → (d : Bool) → eqb k 20 ≡ d → (x || a || b || c || d || isName k) ≡ true → Atom k
+    go true e a _ b _ c _ d _ t = a-fixed-literal (eqb→eq k 44 (subst T (sym e) tt))
+    go false _ true e b _ c _ d _ t = a-literal (eqb→eq k 4 (subst T (sym e) tt))
+    go false _ false _ true e c _ d _ t = a-true (eqb→eq k 21 (subst T (sym e) tt))
+    go false _ false _ false _ true e d _ t = a-false (eqb→eq k 9 (subst T (sym e) tt))
+    go false _ false _ false _ false _ true e t = a-this (eqb→eq k 20 (subst T (sym e) tt))
+    go false _ false _ false _ false _ false _ t = a-name t
 
 -- a node of one token, as the definition makes it
 record OneToken (ts : List Token) (P : (s : Sort) → Mode s → ℕ → Parsed (Part s)) (i : ℕ) : Type 0 where
@@ -290,8 +297,15 @@ record OneToken (ts : List Token) (P : (s : Sort) → Mode s → ℕ → Parsed 
 
 one-token : (ts : List Token) (P : (s : Sort) → Mode s → ℕ → Parsed (Part s)) (i : ℕ) → Atom (kindAt ts i) → OneToken ts P i
 unfolding step store isName
+one-token ts P i (a-fixed-literal e) =
+    record {
+      tree = literal (placeAt ts i i) (fixedLiteral (thousandthsOf (tokenAt ts i .text)));
+      read = rw e refl;
+      row = refl;
+      lies = λ t. refl;
+    }
 one-token ts P i (a-literal e) =
-    record { tree = literal (placeAt ts i i) (decimal 0 (tokenAt ts i .text)); read = rw e refl; row = refl; lies = λ t. refl }
+    record { tree = literal (placeAt ts i i) (intLiteral (decimal 0 (tokenAt ts i .text))); read = rw e refl; row = refl; lies = λ t. refl }
 one-token ts P i (a-true e) = record { tree = truth (placeAt ts i i) true; read = rw e refl; row = refl; lies = λ t. refl }
 one-token ts P i (a-false e) = record { tree = truth (placeAt ts i i) false; read = rw e refl; row = refl; lies = λ t. refl }
 one-token ts P i (a-this e) = record { tree = this (placeAt ts i i); read = rw e refl; row = refl; lies = λ t. refl }
@@ -299,7 +313,9 @@ one-token ts P i (a-name e) =
     let k = kindAt ts i in
     record {
       tree = variable (placeAt ts i i) (tokenAt ts i .text);
-      read = rw (kinds-apart isName k 4 e refl, kinds-apart isName k 21 e refl, kinds-apart isName k 9 e refl, e) refl;
+      read =
+          rw (kinds-apart isName k 4 e refl, kinds-apart isName k 44 e refl, kinds-apart isName k 21 e refl, kinds-apart isName k 9 e refl, e)
+          refl;
       row = refl;
       lies = λ t. refl;
     }
@@ -333,15 +349,16 @@ module _ {n i : ℕ} {T : List ℕ} where
       → ModePost primary n n i T (Bad i) T
   unfolding step isAtom
   no-primary {k} {b} ek eb t z z′ z″ =
-      let q₄ = neither (eqb k 4 || eqb k 21 || eqb k 9 || eqb k 20) (isName k) (sym eb ∙ t) in
-      let q₃ = neither (eqb k 4 || eqb k 21 || eqb k 9) (eqb k 20) (q₄ .0) in
-      let q₂ = neither (eqb k 4 || eqb k 21) (eqb k 9) (q₃ .0) in
-      let q₁ = neither (eqb k 4) (eqb k 21) (q₂ .0) in
+      let q₅ = or-neither (eqb k 44 || eqb k 4 || eqb k 21 || eqb k 9 || eqb k 20) (isName k) (sym eb ∙ t) in
+      let q₄ = or-neither (eqb k 44 || eqb k 4 || eqb k 21 || eqb k 9) (eqb k 20) (q₅ .0) in
+      let q₃ = or-neither (eqb k 44 || eqb k 4 || eqb k 21) (eqb k 9) (q₄ .0) in
+      let q₂ = or-neither (eqb k 44 || eqb k 4) (eqb k 21) (q₃ .0) in
+      let q₁ = or-neither (eqb k 44) (eqb k 4) (q₂ .0) in
       record {
         kept = refl;
         within = tt;
         says = λ ts h. stepped primary ts i (fuel primary n i) (λ f enough.
-            rw (kind-of h i ek, q₁ .0, q₁ .1, q₂ .1, q₄ .1, q₃ .1, ne-eqb k 14 z, ne-eqb k 34 z′, ne-eqb k 40 z″) met-bad);
+            rw (kind-of h i ek, q₁ .1, q₁ .0, q₂ .1, q₃ .1, q₅ .1, q₄ .1, ne-eqb k 14 z, ne-eqb k 34 z′, ne-eqb k 40 z″) met-bad);
       }
 
   -- `new C()`

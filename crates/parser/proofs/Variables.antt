@@ -9,6 +9,7 @@ use native.Mathlib.Omega.{arith}
 use lib.Dec.{eqb}
 use borrow.Author.Tests.{ne-eqb}
 use Rattle.base.specs.contracts.Table.{put}
+use Rattle.base.specs.laws.Tests.{or-neither}
 use Rattle.lexer.specs.Kinds.{isName}
 use Rattle.lexer.specs.Tokens.{Token}
 use Rattle.parser.specs.declared.answer.Answer.{Answer}
@@ -17,7 +18,7 @@ use Rattle.parser.specs.Tree.{Variable}
 use Rattle.parser.specs.Stream.{nameAt}
 use Rattle.parser.specs.Parse.{ok, bind, beginsType, typeFrom, variableFrom, beginsVariable, variablesFrom, someParameters, parametersFrom}
 use Rattle.parser.specs.contracts.Layout.{given, rowVariables, storeVariable, storeVariables}
-use Rattle.parser.specs.contracts.Post.{kindInTable, TokensIn, met-ok, met-bad}
+use Rattle.parser.specs.contracts.Post.{kindInTable, TokensIn, beginsElement, met-ok, met-bad}
 use Rattle.parser.specs.contracts.DeclarationPost.{declarationStored, OpenedPost, aType, aVariable, variableList, parameterList}
 use Rattle.parser.specs.contracts.DeclarationPost.{formals, DeclPost, followsType, startsVariable}
 use Rattle.parser.specs.contracts.Parts.{Follows, ListOf, PiecePost}
@@ -26,15 +27,25 @@ use Rattle.parser.proofs.Pieces.{of-declaration, as-declarations, as-pi
 use Rattle.parser.proofs.Laws.{there, given-put, is, is-not, passes, bind-ok, bind-bad, within-ok, plus-three}
 use Rattle.parser.proofs.Lists.{list-end, list-bad, list-more}
 use Rattle.parser.proofs.Postfix.{name-there}
-use Rattle.parser.proofs.Types.{ElementRead, element-read, element-not, type-there}
+use Rattle.parser.proofs.Types.{ElementRead, element-read, element-not, element-there, type-or-fixed, not-fixed}
 
 -- TYPES
-module _ {n i k : ℕ} {T : List ℕ} {b : Bool} (ek : k ≡ kindInTable T n i) (eb : b ≡ beginsType k true) where
-  -- what the definition reads where the code's test holds
-  element-at : b ≡ true → {ts : List Token} → TokensIn T n ts → ElementRead ts i
-  element-at t {ts} h = element-read ts i true (passes h (λ (k : ℕ). beginsType k true) i ek (sym eb ∙ t))
+module _ {n i k : ℕ} {T : List ℕ} (ek : k ≡ kindInTable T n i) where
+  pub type-fixed : k ≡ 43 → DeclPost aType n i T (At i (i + 1)) T
+  unfolding typeFrom
+  type-fixed z =
+      let l = there T n i k 43 ek z (omega arith) in
+      record {
+        kept = refl;
+        within = (omega arith, omega arith, omega arith);
+        says = λ ts h f enough. rw (is h i ek z) (met-ok refl refl);
+      }
 
-  module _ {k₁ : ℕ} (t : b ≡ true) (ek₁ : k₁ ≡ kindInTable T n (i + 1)) where
+  module _ {b : Bool} {k₁ : ℕ} (eb : b ≡ beginsType k true) (t : b ≡ true) (z : k ≢ 43) (ek₁ : k₁ ≡ kindInTable T n (i + 1)) where
+    -- what the definition reads there
+    element-at : {ts : List Token} → TokensIn T n ts → ElementRead ts i
+    element-at {ts} h = element-read ts i true (passes h (λ (k : ℕ). beginsElement k true) i ek (sym (not-fixed z eb) ∙ t))
+
     pub type-array : {k₂ : ℕ} → k₁ ≡ 36 → k₂ ≡ kindInTable T n (i + 2) → k₂ ≡ 37 → DeclPost aType n i T (At i (i + 3)) T
     unfolding typeFrom
     type-array z₁ ek₂ z₂ =
@@ -42,7 +53,7 @@ module _ {n i k : ℕ} {T : List ℕ} {b : Bool} (ek : k ≡ kindInTable T n i) 
         record {
           kept = refl;
           within = (omega arith, omega arith, omega arith);
-          says = λ ts h f enough. rw (element-at t h .read, is h (i + 1) ek₁ z₁, is h (i + 2) ek₂ z₂, plus-three i) (met-ok refl refl);
+          says = λ ts h f enough. rw (is-not h i ek z, element-at h .read, is h (i + 1) ek₁ z₁, is h (i + 2) ek₂ z₂, plus-three i) (met-ok refl refl);
         }
 
     pub type-open : {k₂ : ℕ} → k₁ ≡ 36 → k₂ ≡ kindInTable T n (i + 2) → k₂ ≢ 37 → DeclPost aType n i T (Bad (i + 2)) T
@@ -51,26 +62,28 @@ module _ {n i k : ℕ} {T : List ℕ} {b : Bool} (ek : k ≡ kindInTable T n i) 
         record {
           kept = refl;
           within = tt;
-          says = λ ts h f enough. rw (element-at t h .read, is h (i + 1) ek₁ z₁, is-not h (i + 2) ek₂ z₂) met-bad;
+          says = λ ts h f enough. rw (is-not h i ek z, element-at h .read, is h (i + 1) ek₁ z₁, is-not h (i + 2) ek₂ z₂) met-bad;
         }
 
     pub type-plain : k₁ ≢ 36 → DeclPost aType n i T (At i (i + 1)) T
     unfolding typeFrom
     type-plain z₁ =
-        let l = type-there T n i k ek eb t in
+        let l = element-there T n i k ek (not-fixed z eb) t in
         record {
           kept = refl;
           within = (omega arith, omega arith, omega arith);
-          says = λ ts h f enough. rw (element-at t h .read, is-not h (i + 1) ek₁ z₁) (met-ok refl refl);
+          says = λ ts h f enough. rw (is-not h i ek z, element-at h .read, is-not h (i + 1) ek₁ z₁) (met-ok refl refl);
         }
 
-  pub type-none : b ≡ false → DeclPost aType n i T (Bad i) T
+  pub type-none : {b : Bool} → b ≡ beginsType k true → b ≡ false → DeclPost aType n i T (Bad i) T
   unfolding typeFrom
-  type-none t =
+  type-none eb t =
+      let q = or-neither (eqb k 43) (beginsElement k true) (sym (type-or-fixed k true) ∙ sym eb ∙ t) in
       record {
         kept = refl;
         within = tt;
-        says = λ ts h f enough. rw (element-not ts i (passes h (λ (k : ℕ). beginsType k true) i ek (sym eb ∙ t))) met-bad;
+        says = λ ts h f enough.
+            rw (passes h (λ (k : ℕ). eqb k 43) i ek (q .0), element-not ts i (passes h (λ (k : ℕ). beginsElement k true) i ek (q .1))) met-bad;
       }
 
 -- A TYPE AND A NAME

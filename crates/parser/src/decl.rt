@@ -18,6 +18,7 @@ use lexer::kinds::CLOSE_BRACKET;
 use lexer::kinds::COMMA;
 use lexer::kinds::END;
 use lexer::kinds::EXTENDS;
+use lexer::kinds::FIXED;
 use lexer::kinds::MAIN;
 use lexer::kinds::NAME;
 use lexer::kinds::OPEN;
@@ -42,12 +43,16 @@ ghost use Rattle.parser.specs.contracts.DeclarationPost.{followsType, st
 ghost use Rattle.parser.specs.contracts.DeclarationPost.{aType, aVariable, variableList, parameterList, formals, aMethod, methodList};
 ghost use Rattle.parser.specs.contracts.DeclarationPost.{aParent, aClass, classList};
 
-// A type; its row is that of its first token.
+// A type; its row is that of its first token. No array holds `fixed`, so what follows it is not looked at.
 fn type_use(table: &[u32], n: usize, i: usize) -> Answer
     requires { ⌜ (n ≤ 2048) × (i ≤ n) × (n ≤ length (now table)) ⌝ }
     ensures { λ r. ⌜ DeclPost aType n i (now (table .entry)) r (now (table .entry)) ⌝ }
 {
-    if begins_type(kind(table, n, i), true) {
+    let k = kind(table, n, i);
+    if begins_type(k, true) {
+        if k == FIXED {
+            return Answer::At(i, i + 1);
+        }
         if kind(table, n, i + 1) == OPEN_BRACKET {
             if kind(table, n, i + 2) == CLOSE_BRACKET {
                 return Answer::At(i, i + 3);

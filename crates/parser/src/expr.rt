@@ -2,7 +2,7 @@
 // number of the token where the whole begins and the row of what stands before.
 use crate::answer::Answer;
 use crate::columns;
-use crate::kinds::begins_type;
+use crate::kinds::begins_element;
 use crate::kinds::is_atom;
 use crate::kinds::is_operator;
 use crate::parts::followed;
@@ -128,7 +128,7 @@ fn starts_array(table: &[u32], n: usize, i: usize) -> bool
 {
     if kind(table, n, i) == NEW {
         let bracket = kind(table, n, i + 2) == OPEN_BRACKET;
-        return begins_type(kind(table, n, i + 1), bracket);
+        return begins_element(kind(table, n, i + 1), bracket);
     }
     false
 }

@@ -56,6 +56,7 @@ rows-kept T T′ ts few e h i t g =
       start = same-col T T′ 1 i e (omega arith) ∙ r .start;
       name = λ n. same-col T T′ 2 i e (omega arith) ∙ r .name n;
       literal = λ n. same-col T T′ 2 i e (omega arith) ∙ r .literal n;
+      fixed = λ n. same-col T T′ 2 i e (omega arith) ∙ r .fixed n;
     }
 
 rising : (s : List ℕ) (ts : List Token) → tokens s ≡ accepted ts → TokensRise ts

@@ -15,18 +15,19 @@ use Rattle.lexer.specs.Tokens.{Token}
 use Rattle.parser.specs.Tree.{Place, Operator, Operator.and, Operator.less, Operator.plus, Operator.minus, Operator.times, Sort, Sort.expression, Sort.arguments, Sort.statement, Part}
 use Rattle.parser.specs.Tree.{Part.literal, Part.truth, Part.variable, Part.this, Part.newArray, Part.newObject, Part.negation, Part.binary, Part.element, Part.arrayLength, Part.call, Part.portGet, Part.noArguments, Part.argument}
 use Rattle.parser.specs.Tree.{Part.block, Part.conditional, Part.loop, Part.print, Part.assign, Part.assignElement, Part.portPut, Part.noStatements, Part.sequence}
+use Rattle.parser.specs.Tree.{Numeral, Numeral.intLiteral, Numeral.fixedLiteral}
 use Rattle.parser.specs.Stream.{kindAt}
 use Rattle.parser.specs.contracts.Layout.{absent, rowOf}
 use Rattle.parser.specs.Measure.{nodes, least, deepHere, deep}
 use Rattle.grammar.specs.laws.Passing as Passing
 use Rattle.reader.specs.contracts.Holds.{NodeRow, Holds}
-use Rattle.reader.specs.contracts.Matches.{truthKind, operatorKind, Matches}
+use Rattle.reader.specs.contracts.Matches.{truthKind, operatorKind, NumeralMatches, Matches}
 use Rattle.reader.specs.contracts.WalkPost.{Ordered, isList, Sound}
 use Rattle.reader.proofs.Depths.{least-assoc, least-absent}
 
 -- KINDS
 
--- whether a kind is another, where it is known, that of a name, of an operator or of a truth value
+-- whether a kind is another, where it is known, that of a name, of an operator, of a truth value or of a literal
 known : {k q : ℕ} (r : ℕ) → k ≡ q → eqb q r ≡ eqb k r
 known r e = sym (ap (λ (x : ℕ). eqb x r) e)
 
@@ -45,6 +46,11 @@ operator-kinds times = (refl, refl, refl)
 truth-kinds : (b : Bool) → false ≡ eqb (truthKind b) kIf
 truth-kinds true = refl
 truth-kinds false = refl
+
+numeral-kinds : (ts : List Token) (i : ℕ) (n : Numeral) → NumeralMatches ts i n → false ≡ eqb (kindAt ts i) kIf
+unfolding NumeralMatches
+numeral-kinds ts i (intLiteral n) m = known kIf (m .0 .is)
+numeral-kinds ts i (fixedLiteral n) m = known kIf (m .0 .is)
 
 pub true-false : true ≡ false → ⊥
 true-false e = let z : _≡_ {A = ℕ} 0 1 = cc in omega arith
@@ -136,7 +142,7 @@ module _ {tab : List ℕ} {ts : List Token} where
 
   pub apart : {s : Sort} (t : Part s) (low : ℕ) → isList s ≡ false → Holds tab t → Matches ts t → Ordered low t → Apart tab ts t
   unfolding Holds Matches Ordered deep nodes
-  apart (literal p n) low e h m o = zero-parts (literal p n) p refl h (known kIf (m .0 .is)) (λ d. refl) refl
+  apart (literal p n) low e h m o = zero-parts (literal p n) p refl h (numeral-kinds ts (p .row) n m) (λ d. refl) refl
   apart (truth p b) low e h m o = zero-parts (truth p b) p refl h (truth-kinds b ∙ known kIf (m .is)) (λ d. refl) refl
   apart (variable p x) low e h m o = zero-parts (variable p x) p refl h (name-kinds _ (m .named) .0) (λ d. refl) refl
   apart (this p) low e h m o = zero-parts (this p) p refl h (known kIf (m .is)) (λ d. refl) refl

@@ -24,6 +24,7 @@ use Rattle.parser.specs.contracts.Post.{kindInTable, TokensIn}
 use Rattle.reader.specs.contracts.Holds.{Holds}
 use Rattle.reader.specs.contracts.Matches.{Matches}
 use Rattle.reader.specs.contracts.WalkPost.{Ordered, nowhere, WalkAnswers, Walkable, follower, isList, Sound, Walks}
+use Rattle.reader.specs.laws.Kept.{numeral-there}
 use Rattle.reader.specs.declared.walk.Walked.{Walked}
 use Rattle.reader.proofs.Depths.{least-none, least-absent, NotBefore, both, fine-here, first-here, not-before, Joins, Encloses, nothing, joined, joined-nothing, enclosed, same-answer}
 use Rattle.reader.proofs.Lists.{follower-up, follower-none}
@@ -35,7 +36,7 @@ use Rattle.reader.proofs.Nodes.{true-false, Apart, sound, apart}
 row-or-empty : (ts : List Token) {s : Sort} (t : Part s) → Matches ts t
     → (rowOf t < length ts) ⊎ ((isList s ≡ true) × (nodes t ≡ 0) × ((d : ℕ) → deep d t ≡ none))
 unfolding Matches deep nodes
-row-or-empty ts (literal p n) m = inl (m .0 .there)
+row-or-empty ts (literal p n) m = inl (numeral-there ts (p .row) n m)
 row-or-empty ts (truth p b) m = inl (m .there)
 row-or-empty ts (variable p x) m = inl (m .there)
 row-or-empty ts (this p) m = inl (m .there)

@@ -5,6 +5,7 @@ pub mod Further
 pub mod Arrays
 pub mod Climbs
 pub mod Ports
+pub mod Thousandths
 pub mod Stuck
 pub mod Endless
 pub mod MenuRows

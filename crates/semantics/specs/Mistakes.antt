@@ -6,7 +6,7 @@ use mathlib.Core.Path.{_≡_, refl}
 use mathlib.Core.List.{List, [], _∷_, _++_}
 use mathlib.Core.Option.{some}
 use lib.ListN.{replicate}
-use lib.IntN.{pos}
+use lib.IntN.{pos, negsuc}
 use Rattle.base.specs.Bytes.{bytes}
 use Rattle.semantics.specs.Limits.{wentWrong}
 use Rattle.semantics.specs.Ends.{endOf, endOn, uncheckedOf, ends, endsWith, limits, usual, printing}
@@ -93,6 +93,14 @@ pub sample-with-its-step : endOn (42 ∷ []) sampleAwaited usual ≡ endsWith 0 
 unfolding endOn
 sample-with-its-step = refl
 
+-- document 02, (ix): "(0.000-1.500)*0.001 prints -1": the quotient is cut toward zero
+abbrev pub belowZero : List ℕ
+belowZero = printing (bytes "(0.000-1.500)*0.001")
+
+pub toward-zero : endOf belowZero usual ≡ ends 0 0 6 0 0 (negsuc 0 ∷ [])
+unfolding endOf
+toward-zero = refl
+
 -- Stuck at a value of another kind, in lessons that Check refuses: each would run to its end if the kind were not tested there.
 abbrev pub truthAssigned : List ℕ
 truthAssigned = printing (bytes "new A().m()") ++ bytes " class A{public int m(){int x;x=true;return 1;}}"
@@ -129,3 +137,18 @@ numberStored = printing (bytes "new A().m()") ++ bytes " class A{public int m(){
 pub stuck-at-element : uncheckedOf numberStored usual ≡ some wentWrong
 unfolding uncheckedOf
 stuck-at-element = refl
+
+-- "It never mixes with int"
+abbrev pub countAdded : List ℕ
+countAdded = printing (bytes "1+1.000")
+
+pub stuck-at-right-operand : uncheckedOf countAdded usual ≡ some wentWrong
+unfolding uncheckedOf
+stuck-at-right-operand = refl
+
+abbrev pub integerReturned : List ℕ
+integerReturned = printing (bytes "new A().m()") ++ bytes " class A{public fixed m(){return 1;}}"
+
+pub stuck-at-fixed-result : uncheckedOf integerReturned usual ≡ some wentWrong
+unfolding uncheckedOf
+stuck-at-fixed-result = refl

@@ -7,7 +7,8 @@ use mathlib.Core.Option.{Option, none, some}
 use lib.ListN.{length}
 use Rattle.base.specs.Choice.{if_then_else_, option}
 use Rattle.base.specs.Bytes.{same}
-use Rattle.parser.specs.Tree.{Element, Element.int, Element.boolean, Element.class, Ty, Ty.plain, Ty.arrayOf, Variable, Method, Class}
+use Rattle.parser.specs.Tree.{Element, Element.int, Element.boolean, Element.fixed, Element.class, Ty, Ty.plain, Ty.arrayOf}
+use Rattle.parser.specs.Tree.{Numeral, Numeral.intLiteral, Numeral.fixedLiteral, Variable, Method, Class}
 
 -- a name stands in a list of names
 unfoldable pub occurs : List ℕ → List (List ℕ) → Bool
@@ -61,12 +62,19 @@ endsWithin (suc n) G c = option (classNamed G c) true λ k. option (k .parent) t
 unfoldable pub sameElement : Element → Element → Bool
 sameElement int int = true
 sameElement int boolean = false
+sameElement int fixed = false
 sameElement int (class d) = false
 sameElement boolean int = false
 sameElement boolean boolean = true
+sameElement boolean fixed = false
 sameElement boolean (class d) = false
+sameElement fixed int = false
+sameElement fixed boolean = false
+sameElement fixed fixed = true
+sameElement fixed (class d) = false
 sameElement (class c) int = false
 sameElement (class c) boolean = false
+sameElement (class c) fixed = false
 sameElement (class c) (class d) = same c d
 
 unfoldable pub sameType : Ty → Ty → Bool
@@ -75,15 +83,21 @@ sameType (plain s) (arrayOf t) = false
 sameType (arrayOf s) (plain t) = false
 sameType (arrayOf s) (arrayOf t) = sameElement s t
 
+-- the type of a literal
+abbrev pub numeralType : Numeral → Ty
+numeralType (intLiteral n) = plain int
+numeralType (fixedLiteral n) = plain fixed
+
 -- what an array of this type holds, and what any other type is itself
 abbrev pub underlying : Ty → Element
 underlying (plain t) = t
 underlying (arrayOf t) = t
 
--- int, boolean or a class of the table
+-- int, boolean, fixed or a class of the table
 unfoldable pub known : List Class → Element → Bool
 known G int = true
 known G boolean = true
+known G fixed = true
 known G (class c) = option (classNamed G c) false λ _. true
 
 unfoldable pub among : List ℕ → List Class → Bool
@@ -94,8 +108,10 @@ among d (k ∷ ks) = same (k .name .text) d || among d ks
 unfoldable pub onChain : List Class → Element → Element → Bool
 onChain G int t = false
 onChain G boolean t = false
+onChain G fixed t = false
 onChain G (class c) int = false
 onChain G (class c) boolean = false
+onChain G (class c) fixed = false
 onChain G (class c) (class d) = among d (chain G c)
 
 -- a type fits itself, and an array type only itself

@@ -9,14 +9,14 @@ use Rattle.base.specs.Outcome.{Outcome, accepted, refused, _>>=_}
 use Rattle.base.specs.Codes.{nameUnknown, wrongType, methodUnknown, argumentCount, thisInMain, typeUnknown}
 use Rattle.parser.specs.Tree.{Place, Name, Sort, Part}
 use Rattle.parser.specs.Tree.{Expression, placeE, Variable, Class}
-use Rattle.parser.specs.Tree.{Element, Element.int, Element.boolean, Element.class, Ty, Ty.plain, Ty.arrayOf}
+use Rattle.parser.specs.Tree.{Element, Element.int, Element.boolean, Element.fixed, Element.class, Ty, Ty.plain, Ty.arrayOf}
 use Rattle.parser.specs.Tree.{Sort.expression, Sort.arguments, Sort.statement, Sort.statements}
 use Rattle.parser.specs.Tree.{Part.literal, Part.truth, Part.variable, Part.this, Part.newArray, Part.newObject, Part.negation, Part.binary}
 use Rattle.parser.specs.Tree.{Part.element, Part.arrayLength, Part.call, Part.portGet, Part.noArguments, Part.argument}
 use Rattle.parser.specs.Tree.{Part.block, Part.conditional, Part.loop, Part.print, Part.assign, Part.assignElement, Part.portPut}
 use Rattle.parser.specs.Tree.{Part.noStatements, Part.sequence}
-use Rattle.typesystem.specs.Operators.{operation}
-use Rattle.typesystem.specs.ClassTable.{Found, Context, known, fits, methodOf, meaning, meaningType}
+use Rattle.typesystem.specs.Operators.{operation, printable}
+use Rattle.typesystem.specs.ClassTable.{Found, Context, numeralType, known, fits, methodOf, meaning, meaningType}
 
 unfoldable pub arity : Part arguments → ℕ
 arity noArguments = 0
@@ -37,6 +37,7 @@ must G e want got = if fits G got want then (λ _. accepted tt) else λ _. refus
 abbrev pub receiver : Expression → Ty → (List ℕ → Outcome Ty) → Outcome Ty
 receiver e (plain int) k = refused wrongType (placeE e .start)
 receiver e (plain boolean) k = refused wrongType (placeE e .start)
+receiver e (plain fixed) k = refused wrongType (placeE e .start)
 receiver e (plain (class c)) k = k c
 receiver e (arrayOf t) k = refused wrongType (placeE e .start)
 
@@ -64,7 +65,7 @@ module _ (G : List Class) (Γ : Context) where
   lookUp p x = option (meaning G Γ x) (refused nameUnknown (p .start)) λ m. accepted (meaningType m)
 
   unfoldable pub judge : {s : Sort} → Part s → Judgement s
-  judge (literal p n) = accepted (plain int)
+  judge (literal p n) = accepted (numeralType n)
   judge (truth p b) = accepted (plain boolean)
   judge (variable p x) = lookUp p x
   judge (this p) = option (Γ .owner) (refused thisInMain (p .start)) λ c. accepted (plain (class c))
@@ -87,7 +88,7 @@ module _ (G : List Class) (Γ : Context) where
   judge (block p ss) = judge ss
   judge (conditional p e s t) = judge e >>= λ τ. must G e (plain boolean) τ >>= λ _. judge s >>= λ _. judge t
   judge (loop p e s) = judge e >>= λ t. must G e (plain boolean) t >>= λ _. judge s
-  judge (print p e) = judge e >>= λ t. must G e (plain int) t
+  judge (print p e) = judge e >>= λ t. if printable t then (λ _. accepted tt) else λ _. refused wrongType (placeE e .start)
   judge (assign p x e) = lookUp p x >>= λ target. judge e >>= λ t. must G e target t
   judge (assignElement p x i e) =
       lookUp p x >>= λ target. ofArray (p .start) target λ s.

@@ -9,7 +9,7 @@ use mathlib.Core.Option.{none, some}
 use lib.ListN.{length}
 use Rattle.base.specs.All.{All}
 use Rattle.base.specs.Codes.{variablesMost}
-use Rattle.parser.specs.Tree.{Place, Name, Operator, Part, Expression, Statement, Variable}
+use Rattle.parser.specs.Tree.{Place, Name, Operator, Numeral, Part, Expression, Statement, Variable}
 use Rattle.parser.specs.Tree.{Element, Element.int, Element.boolean, Element.class, ElementUse, Ty, Ty.plain, Ty.arrayOf}
 use Rattle.parser.specs.Tree.{Method, Class, Program}
 use Rattle.parser.specs.Tree.{Sort.arguments, Sort.statement, Sort.statements}
@@ -18,8 +18,8 @@ use Rattle.parser.specs.Tree.{Part.element, Part.arrayLength, Part.call, Part.p
 use Rattle.parser.specs.Tree.{Part.block, Part.conditional, Part.loop, Part.print, Part.assign, Part.assignElement, Part.portPut}
 use Rattle.parser.specs.Tree.{Part.noStatements, Part.sequence}
 use Rattle.typesystem.specs.ClassTable.{Slot, Found, Context, mainContext, contextOf, classNamed, methodNamed, variableNamed, known}
-use Rattle.typesystem.specs.ClassTable.{underlying, occurs, textOf}
-use Rattle.typesystem.specs.Operators.{operation}
+use Rattle.typesystem.specs.ClassTable.{numeralType, underlying, occurs, textOf}
+use Rattle.typesystem.specs.Operators.{operation, printable}
 
 -- SUBTYPES: 004's ≺, document 01's "fits"
 
@@ -68,7 +68,7 @@ pub data HasName (G : List Class) (Γ : Context) : List ℕ → Ty → Type 0 wh
 -- EXPRESSIONS
 mutual
   pub data HasType (G : List Class) (Γ : Context) : Expression → Ty → Type 0 where
-    t-literal : {p : Place} {n : ℕ} → HasType G Γ (literal p n) (plain int)
+    t-literal : {p : Place} {n : Numeral} {t : Ty} → numeralType n ≡ t → HasType G Γ (literal p n) t
     t-truth : {p : Place} {b : Bool} → HasType G Γ (truth p b) (plain boolean)
     t-variable : {p : Place} {x : List ℕ} {t : Ty} → HasName G Γ x t → HasType G Γ (variable p x) t
     t-this : {p : Place} {c : List ℕ} → Γ .owner ≡ some c → HasType G Γ (this p) (plain (class c))
@@ -100,7 +100,8 @@ mutual
     t-if : {p : Place} {e : Expression} {s t : Statement} → HasType G Γ e (plain boolean) → IsTyped G Γ s → IsTyped G Γ t
         → IsTyped G Γ (conditional p e s t)
     t-while : {p : Place} {e : Expression} {s : Statement} → HasType G Γ e (plain boolean) → IsTyped G Γ s → IsTyped G Γ (loop p e s)
-    t-print : {p : Place} {e : Expression} → HasType G Γ e (plain int) → IsTyped G Γ (print p e)
+    -- document 02, (ix): int or fixed
+    t-print : {p : Place} {e : Expression} {t : Ty} → HasType G Γ e t → printable t ≡ true → IsTyped G Γ (print p e)
     t-assign : {p : Place} {x : List ℕ} {e : Expression} {s t : Ty} → HasName G Γ x t → HasType G Γ e s → Sub G s t
         → IsTyped G Γ (assign p x e)
     t-assign-element : {p : Place} {x : List ℕ} {i e : Expression} {t : Element} {s : Ty} → HasName G Γ x (arrayOf t)

@@ -4,16 +4,15 @@ use Prim.Native.Nat.{ℕ, _-_, _≤_, _<_}
 use native.Mathlib.Omega.{arith}
 use mathlib.Core.Path.{_≡_, refl, sym, ap, _∙_, subst}
 use mathlib.Core.List.{List, [], _∷_}
-use mathlib.Core.Option.{some}
 use lib.ListN.{length}
 use Rattle.lexer.specs.Tokens.{Token}
 use Rattle.lexer.specs.contracts.Rows.{firstNamed}
 use Rattle.parser.specs.Tree.{Method, Class}
 use Rattle.parser.specs.contracts.Layout.{absent, rowMethods, rowClasses}
-use Rattle.lookup.specs.contracts.HeldClasses.{wordAt, NameNumber, a-name, MethodsHeld, more-methods, ClassHeld, ClassesHeld, more-classes}
+use Rattle.lookup.specs.contracts.HeldClasses.{wordAt, NameNumber, MethodsHeld, more-methods, ClassHeld, ClassesHeld, more-classes}
 use Rattle.lookup.specs.contracts.HeldClasses.{ClassTableHeld}
 use Rattle.lookup.specs.laws.HeldLaws.{word-in, name-word, row-there}
-use Rattle.lookup.specs.contracts.Fields.{FieldsOf, KeptBehind, FieldsFilled}
+use Rattle.lookup.specs.contracts.Fields.{KeptBehind, FieldsFilled}
 use Rattle.codegen.specs.contracts.Compile.{endMethods, emitMethods, emitClasses}
 use Rattle.writer.specs.contracts.Words.{store}
 use Rattle.writer.specs.laws.Emits.{no-code}
@@ -50,20 +49,17 @@ module _ {tab : List ℕ} {n classes row at first : ℕ} {names c E : List ℕ} 
 
   pub class-wrote : {x : ℕ} → x ≡ wordAt tab 2 row → {names′ : List ℕ} → FieldsFilled tab n classes x names names′
       → {c′ E′ : List ℕ} {r : ℕ}
-      → MethodsPost tab names′ n n first at c c′ E E′ r → ClassPost tab n classes row at names names′ c c′ E E′ r
+      → MethodsPost tab names′ n classes x n first at c c′ E E′ r → ClassPost tab n classes row at names names′ c c′ E E′ r
   class-wrote {x} e₂ {names′} f {c′} {E′} {r} m = record { within = m .within; stays = f .stays; says = go }
     where
-      fields : {ts : List Token} {G : List Class} → ClassTableHeld tab n ts G → length G ≡ classes → (d : List ℕ) → NameNumber ts d x
-          → FieldsOf ts G (length G) (some d) names′
-      fields {ts} {G} w l d own = subst (λ (i : ℕ). FieldsOf ts G i (some d) names′) (sym l) (f .held .says ts G w (some d) (a-name own))
-
       go : (ts : List Token) (G : List Class) → ClassTableHeld tab n ts G → length G ≡ classes → SizesHeld ts G names → (k : Class)
           → k .name .row ≡ row → ClassHeld tab n ts k
           → endMethods (k .methods) at ≤ room
           → Wrote (firstNamed ts) (emitMethods G (k .name .text) (k .methods) at) (endMethods (k .methods) at) at c c′ r × (E′ ≡ entered (k .methods) at E)
       go ts G w l sizes k is s lim =
           let own : NameNumber ts (k .name .text) x = subst (NameNumber ts (k .name .text)) (ap (wordAt tab 2) is ∙ sym e₂) (name-word (w .tokens) (k .name .row) (s .named .token)) in
-          m .says ts G (k .name .text) (record { world = w; fields = fields w l (k .name .text) own; sizes = sizes-kept (f .stays) sizes }) (k .methods) (first-method e₅ w k is s) (s .methods) (s .few-methods) lim
+          m .says ts G (k .name .text) (record { world = w; many = l; declarer = own; sizes = sizes-kept (f .stays) sizes }) (k .methods)
+          (first-method e₅ w k is s) (s .methods) (s .few-methods) lim
 
 -- THE CLASSES FROM A ROW ON
 

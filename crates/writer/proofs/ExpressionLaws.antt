@@ -2,40 +2,50 @@
 -- parts, one behind another, and one instruction.
 use Prim.Native.Nat.{ℕ, suc, _+_, _-_, _≤_}
 use native.Mathlib.Omega.{arith}
+use native.Mathlib.Decide.{ℕ-discrete}
 use mathlib.Core.Path.{_≡_, refl, sym, ap, _∙_, subst}
 use mathlib.Core.List.{List, _∷_}
 use mathlib.Core.Bool.{Bool, true, false}
 use lib.Dec.{eqb}
 use lib.ListN.{length, getD, length-map}
-use borrow.Author.Tests.{ne-eqb}
+use borrow.Author.Tests.{eq-eqb, ne-eqb}
+use Rattle.base.specs.Outcome.{Outcome}
+use Rattle.base.specs.laws.Tests.{apart}
 use Rattle.lexer.specs.Tokens.{Token}
 use Rattle.lexer.specs.contracts.Rows.{firstNamed}
 use Rattle.parser.specs.Tree.{Operator, Operator.and, Operator.less, Operator.plus, Operator.minus, Operator.times}
-use Rattle.parser.specs.Tree.{Sort, Sort.expression, Sort.arguments, Part, Expression, Class, placeE}
+use Rattle.parser.specs.Tree.{Sort, Sort.expression, Sort.arguments, Part, Expression, Ty, Class, placeE}
 use Rattle.parser.specs.Tree.{Part.literal, Part.truth, Part.variable, Part.this, Part.newArray, Part.newObject, Part.negation, Part.binary}
 use Rattle.parser.specs.Tree.{Part.element, Part.arrayLength, Part.call, Part.portGet}
 use Rattle.parser.specs.contracts.Layout.{absent}
 use Rattle.parser.specs.contracts.Post.{kindInTable, isAtom}
 use Rattle.reader.specs.contracts.Matches.{operatorKind}
 use Rattle.typesystem.specs.ClassTable.{Context, meaning, fieldsOf}
-use Rattle.typesystem.specs.Judge.{arity}
-use Rattle.lookup.specs.contracts.HeldClasses.{wordAt, NameNumber, Lexemes}
+use Rattle.typesystem.specs.Judge.{arity, judge}
+use Rattle.lookup.specs.declared.answer.Judged.{Judged}
+use Rattle.lookup.specs.declared.answer.Judged.the-variants.{Fine, Refused}
+use Rattle.lookup.specs.contracts.Answers.{Judges, well, ill}
+use Rattle.lookup.specs.contracts.HeldClasses.{wordAt, NameNumber, Lexemes, code-fixed, code-plain}
+use Rattle.lookup.specs.laws.HeldLaws.{same-codes, other-codes}
 use Rattle.lookup.specs.contracts.Lookups.{Counts}
-use Rattle.lookup.specs.contracts.Shows.{PartAt, Form, aLiteral, aTruth, aVariable, aThis, aNewArray, aNewObject, aNegation, aBinary}
-use Rattle.lookup.specs.contracts.Shows.{anElement, aLength, aCall, aPortGet, formAtom, formCompound, formE}
-use Rattle.lookup.specs.contracts.Shows.{Shows, shows-literal, shows-truth, shows-variable, shows-this, shows-new-array, shows-new-object}
-use Rattle.lookup.specs.contracts.Shows.{shows-negation, shows-binary, shows-element, shows-length, shows-call, shows-port-get}
+use Rattle.lookup.specs.contracts.Shows.{PartAt, Form, aLiteral, aFixedLiteral, aTruth, aVariable, aThis, aNewArray, aNewObject, aNegation}
+use Rattle.lookup.specs.contracts.Shows.{aBinary, anElement, aLength, aCall, aPortGet, formAtom, formCompound, formE}
+use Rattle.lookup.specs.contracts.Shows.{Shows, shows-literal, shows-fixed-literal, shows-truth, shows-variable, shows-this}
+use Rattle.lookup.specs.contracts.Shows.{shows-new-array, shows-new-object, shows-negation, shows-binary, shows-element, shows-length}
+use Rattle.lookup.specs.contracts.Shows.{shows-call, shows-port-get}
 use Rattle.lookup.specs.laws.ShowLaws.{shown, starts}
-use Rattle.semantics.specs.Machine.{number, flag, isAnd, slot, initial}
-use Rattle.writer.specs.declared.scope.Scope.{Scope}
+use Rattle.semantics.specs.Machine.{number, thousandths, flag, isAnd, slot, initial}
+use Rattle.bodies.specs.declared.scope.Scope.{Scope}
+use Rattle.bodies.specs.contracts.Scoping.{PartIn}
+use Rattle.bodies.specs.contracts.ExpressionPost as Bodies
 use Rattle.writer.specs.contracts.Scoping.{Sees, SlotPost}
 use Rattle.codegen.specs.contracts.Code as Code
 use Rattle.codegen.specs.contracts.Code.{push, load, self, negate, operate, keep, fetch, measure, makeArray, makeObject, readRegister}
-use Rattle.codegen.specs.contracts.Compile.{endBinary, emitBinary, end, emit, cellsOf}
+use Rattle.codegen.specs.contracts.Compile.{endBinary, judgedFixed, timesOf, operatorCode, emitBinary, end, emit, cellsOf}
 use Rattle.writer.specs.contracts.Words.{words, encode}
 use Rattle.writer.specs.laws.Lengths.{grows}
-use Rattle.writer.specs.contracts.Posts.{room, PutPost, NextPost, Wrote, AtMost, Written, Whatever, WritePost, innerE, endE, Says}
-use Rattle.writer.specs.contracts.Posts.{ExpressionPost, CompoundPost}
+use Rattle.writer.specs.contracts.Posts.{room, PutPost, NextPost, Bounded, Written, Whatever, WritePost, innerE, endE, Says}
+use Rattle.writer.specs.contracts.Posts.{chosen, ScalesPost, ExpressionPost, CompoundPost}
 use Rattle.writer.specs.contracts.Posts.{LoadPost, FollowedPost, PairPost, ConjunctionPost}
 use Rattle.writer.proofs.RowLaws.{positive, fewer, counted}
 use Rattle.writer.proofs.PieceLaws.{put-one, next-to, over, Opens, node-wrote}
@@ -57,13 +67,14 @@ spelt e h = e ∙ sym (h .first)
 -- a part behind another
 pub both-wrote : {tab names : List ℕ} {s : Scope} {p q : Sort} {left left′ row row′ at a b : ℕ} {c c₁ c₂ : List ℕ}
     → WritePost tab names s p left row at c c₁ a → WritePost tab names s q left′ row′ a c₁ c₂ b
-    → Whatever tab names s λ ts G Γ. (x : Part p) (y : Part q) → PartAt tab ts row (AtMost left p) x
-    → PartAt tab ts row′ (AtMost left′ q) y → Written ts (λ k. emit G Γ x at (emit G Γ y (end x at) k)) (end y (end x at)) at c c₂ b
+    → Whatever tab names s λ ts G Γ. (x : Part p) (y : Part q) → PartAt tab ts row (Bounded (s .tokens) left p) x
+    → PartAt tab ts row′ (Bounded (s .tokens) left′ q) y
+    → Written ts (λ k. emit G Γ x at (emit G Γ y (end x at) k)) (end y (end x at)) at c c₂ b
 both-wrote {at = at} f g ts G Γ w x y h h′ l =
     let u = f .says ts G Γ w x h (omega (arith, grows y (end x at))) in
     next-to (emit G Γ y) (end y) u (g .says ts G Γ w y h′ (rw (u .ends) l))
 
-pub loaded-wrote : {tab names : List ℕ} {s : Scope} {row at x v r : ℕ} {c c′ : List ℕ} → x ≡ wordAt tab 2 row → SlotPost tab names s x v
+pub loaded-wrote : {tab names : List ℕ} {s : Scope} {row at x v r : ℕ} {c c′ : List ℕ} → x ≡ wordAt tab 2 row → SlotPost tab s x v
     → PutPost at 2 v 0 0 c c′ r → LoadPost tab names s row at c c′ r
 loaded-wrote e₂ g f =
     record {
@@ -162,7 +173,7 @@ module _ {tab names : List ℕ} {s : Scope} {left row at r : ℕ} {c c′ : List
           let u = both-wrote f g ts G Γ w l es (rw e₄ x) (rw e₅ y) (omega arith) in
           let i = Code.call q (m .text) (arity es) in
           let z : words 18 start method count ≡ encode (firstNamed ts) i
-          = rw (e₃ ∙ st, spelt e₂ sp, counted {ts = ts} (few-tokens w) n es (rw e₅ y)) in
+          = rw (e₃ ∙ st, spelt e₂ sp, counted {ts = ts} {n = s .tokens} (few-tokens w) n es (rw e₅ y)) in
           next-to (λ j k. i ∷ k) suc u (put-one i z p (rw (u .ends) h))
 
   truth-wrote : (k : ℕ) (b : Bool) {v : ℕ} → ((ν : List ℕ → ℕ) → words 1 v 0 0 ≡ encode ν (push (flag b))) → aTruth b ≡ formAtom k
@@ -181,6 +192,14 @@ module _ {tab names : List ℕ} {s : Scope} {left row at r : ℕ} {c c′ : List
         go : Says tab names s aLiteral left row at c c′ r
         go ts G Γ w e (shows-literal {v = n} q z) h = put-one (push (number n)) (ap (λ (m : ℕ). words 1 m 0 0) (e₂ ∙ z)) f h
 
+    pub atom-fixed-literal : k ≡ 44 → {v : ℕ} → v ≡ wordAt tab 2 row → PutPost at 1 v 0 0 c c′ r
+        → ExpressionPost tab names s (formAtom k) left row at c c′ r
+    unfolding formAtom
+    atom-fixed-literal is {v} e₂ f = formed (sym (ap formAtom is)) (f .within) go
+      where
+        go : Says tab names s aFixedLiteral left row at c c′ r
+        go ts G Γ w e (shows-fixed-literal {v = n} q z) h = put-one (push (thousandths n)) (ap (λ (m : ℕ). words 1 m 0 0) (e₂ ∙ z)) f h
+
     pub atom-true : k ≡ 21 → PutPost at 1 1 0 0 c c′ r → ExpressionPost tab names s (formAtom k) left row at c c′ r
     unfolding formAtom
     atom-true is f = truth-wrote k true (λ ν. refl) (sym (ap formAtom is)) f
@@ -196,10 +215,11 @@ module _ {tab names : List ℕ} {s : Scope} {left row at r : ℕ} {c c′ : List
         go : Says tab names s aThis left row at c c′ r
         go ts G Γ w e (shows-this q) h = put-one self refl f h
 
-    pub atom-name : (k ≡ 4 → ⊥) → (k ≡ 21 → ⊥) → (k ≡ 9 → ⊥) → (k ≡ 20 → ⊥) → LoadPost tab names s row at c c′ r
+    pub atom-name : (k ≡ 4 → ⊥) → (k ≡ 44 → ⊥) → (k ≡ 21 → ⊥) → (k ≡ 9 → ⊥) → (k ≡ 20 → ⊥) → LoadPost tab names s row at c c′ r
         → ExpressionPost tab names s (formAtom k) left row at c c′ r
     unfolding formAtom
-    atom-name n₁ n₂ n₃ n₄ f = formed (rw (ne-eqb k 4 n₁, ne-eqb k 21 n₂, ne-eqb k 9 n₃, ne-eqb k 20 n₄)) (f .within) go
+    atom-name n₁ n₂ n₃ n₄ n₅ f =
+        formed (rw (ne-eqb k 4 n₁, ne-eqb k 44 n₂, ne-eqb k 21 n₃, ne-eqb k 9 n₄, ne-eqb k 20 n₅)) (f .within) go
       where
         go : Says tab names s aVariable left row at c c′ r
         go ts G Γ w e (shows-variable {x = y} q sp) h = f .says ts G Γ w y sp h
@@ -284,33 +304,97 @@ and-kind plus = refl
 and-kind minus = refl
 and-kind times = refl
 
+-- and `*` from the others
+other-code : (G : List Class) (Γ : Context) (l : Expression) (o : Operator) → (operatorKind o ≡ 28 → ⊥) → operatorCode G Γ o l ≡ operate o
+other-code G Γ l and n = refl
+other-code G Γ l less n = refl
+other-code G Γ l plus n = refl
+other-code G Γ l minus n = refl
+other-code G Γ l times n = absurd (n refl)
+
+times-code : (G : List Class) (Γ : Context) (l : Expression) (o : Operator) → operatorKind o ≡ 28 → {b : Bool}
+    → b ≡ judgedFixed (judge G Γ l) → operatorCode G Γ o l ≡ chosen b o
+times-code G Γ l and is e = absurd (omega (arith, is))
+times-code G Γ l less is e = absurd (omega (arith, is))
+times-code G Γ l plus is e = absurd (omega (arith, is))
+times-code G Γ l minus is e = absurd (omega (arith, is))
+times-code G Γ l times is {b} e = rw (sym e) (by b)
+  where
+    by : (b : Bool) → timesOf b ≡ chosen b times
+    by true = refl
+    by false = refl
+
+-- whether an answer is that for fixed
+judged-fixed : {tab : List ℕ} {n : ℕ} {ts : List Token} → Lexemes tab n ts → {o : Outcome Ty} {v : Judged} {t : ℕ} → Judges ts o v
+    → v ≡ Fine t → eqb t 2050 ≡ judgedFixed o
+judged-fixed lx {t = t} (well {w = w} d) is =
+    let z : w ≡ t = cc in
+    rw (sym z) (elim (ℕ-discrete w 2050) [
+      | yes e ↦ eq-eqb w 2050 e ∙ sym (same-codes lx (code-plain (code-fixed refl)) d (sym e))
+      | no e ↦ ne-eqb w 2050 e ∙ sym (other-codes lx (code-plain (code-fixed refl)) d (λ y. e (sym y)))
+    ])
+judged-fixed lx ill is = apart (cc)
+
+judged-none : {ts : List Token} {o : Outcome Ty} {v : Judged} {n p : ℕ} → Judges ts o v → v ≡ Refused n p → false ≡ judgedFixed o
+judged-none (well d) is = apart (cc)
+judged-none ill is = refl
+
+module _ {tab : List ℕ} {s : Scope} {k row : ℕ} where
+  pub scales-other : (k ≡ 28 → ⊥) → ScalesPost tab s k row false
+  scales-other other = record { says = λ ts G Γ w o is l h. other-code G Γ l o (λ e. other (is ∙ e)) }
+
+  module _ (times : k ≡ 28) {v : Judged} (f : Bodies.ExpressionPost tab s 0 (s .tokens) row v) where
+    pub scales-judged : {t : ℕ} → v ≡ Fine t → ScalesPost tab s k row (eqb t 2050)
+    scales-judged fine =
+        record {
+          says = λ ts G Γ w o is l h.
+              times-code G Γ l o (sym is ∙ times) (judged-fixed (w .world .tokens) (f .says ts G Γ w l h) fine);
+        }
+
+    pub scales-refused : {n p : ℕ} → v ≡ Refused n p → ScalesPost tab s k row false
+    scales-refused wrong =
+        record { says = λ ts G Γ w o is l h. times-code G Γ l o (sym is ∙ times) (judged-none (f .says ts G Γ w l h) wrong) }
+
+-- the code of `&&`, and of another operator, as that of an operator
+wrote : (ts : List Token) (G : List Class) (Γ : Context) (o : Operator) (l m : Expression) {at r : ℕ} {c c′ : List ℕ} {b : Bool}
+    → isAnd o ≡ b → Written ts (λ n. emit G Γ l at (emitBinary b (operatorCode G Γ o l) (end l at) (end m) (emit G Γ m) n))
+    (endBinary b (end l at) (end m)) at c c′ r
+    → Written ts (λ n. emit G Γ l at (emitBinary (isAnd o) (operatorCode G Γ o l) (end l at) (end m) (emit G Γ m) n))
+    (endBinary (isAnd o) (end l at) (end m)) at c c′ r
+wrote ts G Γ o l m {at} {r} {c} {c′} e f =
+    subst
+    (λ (b : Bool). Written ts (λ n. emit G Γ l at (emitBinary b (operatorCode G Γ o l) (end l at) (end m) (emit G Γ m) n))
+    (endBinary b (end l at) (end m)) at c c′ r)
+    (sym e) f
+
 module _ {tab names : List ℕ} {s : Scope} {left row at r : ℕ} {c c′ : List ℕ} {k : ℕ} (kind : k ≡ kindInTable tab (s .tokens) row) where
   pub binary-and : k ≡ 24 → ConjunctionPost tab names s left row at c c′ r → ExpressionPost tab names s aBinary left row at c c′ r
   binary-and is f = record { within = f .within; says = go }
     where
       go : Says tab names s aBinary left row at c c′ r
-      go ts G Γ w e (shows-binary {o = o} {l = l} {r = m} q z x y) h =
-          let joins : isAnd o ≡ true = and-kind o ∙ ap (λ (j : ℕ). eqb j 24) (sym z ∙ sym kind ∙ is) in
-          subst
-          (λ (b : Bool).
-          Wrote (firstNamed ts) (λ n. emit G Γ l at (emitBinary b o (end l at) (end m) (emit G Γ m) n))
-          (endBinary b (end l at) (end m)) at c c′ r)
-          (sym joins)
-          (f .says ts G Γ w l m x y (subst (λ (b : Bool). endBinary b (end l at) (end m) ≤ room) joins h))
+      go ts G Γ w e (shows-binary {o = o} {l = l} {r = m} q z x y) =
+          wrote ts G Γ o l m (and-kind o ∙ ap (λ (j : ℕ). eqb j 24) (sym z ∙ sym kind ∙ is)) (f .says ts G Γ w l m x y)
 
-  pub binary-operation : (k ≡ 24 → ⊥) → PairPost tab names s 8 k left row at c c′ r → ExpressionPost tab names s aBinary left row at c c′ r
-  binary-operation other f = record { within = f .within; says = go }
-    where
-      go : Says tab names s aBinary left row at c c′ r
-      go ts G Γ w e (shows-binary {o = o} {l = l} {r = m} q z x y) h =
-          let plain : isAnd o ≡ false = and-kind o ∙ ne-eqb (operatorKind o) 24 (λ i. other (kind ∙ z ∙ i)) in
-          subst
-          (λ (b : Bool).
-          Wrote (firstNamed ts) (λ n. emit G Γ l at (emitBinary b o (end l at) (end m) (emit G Γ m) n))
-          (endBinary b (end l at) (end m)) at c c′ r)
-          (sym plain)
-          (f .says ts G Γ w (operate o) (ap (λ (n : ℕ). words 8 n 0 0) (kind ∙ z)) l m x y
-          (subst (λ (b : Bool). endBinary b (end l at) (end m) ≤ room) plain h))
+  module _ (other : k ≡ 24 → ⊥) {first : ℕ} (e₄ : first ≡ wordAt tab 4 row) {b : Bool} (scales : ScalesPost tab s k first b) where
+    -- words that are those of the operator's instruction
+    binary-pair : {op arg : ℕ} → ((ν : List ℕ → ℕ) (o : Operator) → k ≡ operatorKind o → words op arg 0 0 ≡ encode ν (chosen b o))
+        → PairPost tab names s op arg left row at c c′ r → ExpressionPost tab names s aBinary left row at c c′ r
+    binary-pair {op} {arg} is f = record { within = f .within; says = go }
+      where
+        go : Says tab names s aBinary left row at c c′ r
+        go ts G Γ w e (shows-binary {o = o} {l = l} {r = m} q z x y) =
+            let lies : PartIn tab ts first 0 (s .tokens) l =
+            record { at = x .at ∙ sym e₄; holds = x .holds; matches = x .matches; within = x .within .spans } in
+            let code = scales .says ts G Γ (w .scope) o (kind ∙ z) l lies in
+            wrote ts G Γ o l m (and-kind o ∙ ne-eqb (operatorKind o) 24 (λ i. other (kind ∙ z ∙ i)))
+            (f .says ts G Γ w (operatorCode G Γ o l) (is (firstNamed ts) o (kind ∙ z) ∙ ap (encode (firstNamed ts)) (sym code)) l m x y)
+
+    pub binary-scale : b ≡ true → PairPost tab names s 21 0 left row at c c′ r → ExpressionPost tab names s aBinary left row at c c′ r
+    binary-scale yes′ f = binary-pair (λ ν o is. rw yes′) f
+
+    pub binary-operation : b ≡ false → PairPost tab names s 8 k left row at c c′ r
+        → ExpressionPost tab names s aBinary left row at c c′ r
+    binary-operation no′ f = binary-pair (λ ν o is. rw (no′, is)) f
 
 -- THE MARK
 
@@ -331,7 +415,7 @@ opens G Γ (portGet p e) = record { code = λ i k. refl; ends = λ i. refl }
 
 module _ {tab names : List ℕ} {s : Scope} {left row at : ℕ} {c : List ℕ} where
   pub expression-none : left ≡ 0 → at ≤ room → WritePost tab names s expression left row at c c at
-  expression-none z low = record { within = low; says = λ ts G Γ w e h. absurd (omega (arith, positive e, h .within)) }
+  expression-none z low = record { within = low; says = λ ts G Γ w e h. absurd (omega (arith, positive e, h .within .few)) }
 
   module _ (more : left ≡ 0 → ⊥) {k i : ℕ} {c₁ : List ℕ} (kind : k ≡ kindInTable tab (s .tokens) row)
       (p : PutPost at 0 (wordAt tab 3 row) 0 0 c c₁ i) {r : ℕ} {c₂ : List ℕ} {b : Bool} (test : b ≡ isAtom k) where
@@ -341,8 +425,9 @@ module _ {tab names : List ℕ} {s : Scope} {left row at : ℕ} {c : List ℕ} w
         record {
           within = f .within;
           says = λ ts G Γ w e h l.
-              let sh : Shows tab ts (s .tokens) row (AtMost (left - 1)) (AtMost (left - 1)) F e
-              = shown (lexemes w) row (AtMost left) (AtMost (left - 1)) (AtMost (left - 1)) (fewer row left more)
+              let sh : Shows tab ts (s .tokens) row (Bounded (s .tokens) (left - 1)) (Bounded (s .tokens) (left - 1)) F e
+              = shown (lexemes w) row (Bounded (s .tokens) left) (Bounded (s .tokens) (left - 1)) (Bounded (s .tokens) (left - 1))
+              (fewer (s .tokens) row left more)
               (ap (λ (j : ℕ). formE j (kindInTable tab (s .tokens) (row + 1)) (kindInTable tab (s .tokens) (row + 2))) (sym kind) ∙ form) e h in
               node-wrote (opens G Γ e) (positive e) (starts sh) p l (f .says ts G Γ w e sh);
         }

@@ -15,10 +15,10 @@ use Rattle.typesystem.specs.ClassTable.{Context}
 use Rattle.lookup.specs.contracts.HeldClasses.{wordAt}
 use Rattle.lookup.specs.contracts.Shows.{PartAt, GoesOn, one-more-argument, GoesOnS, one-more-statement}
 use Rattle.lookup.specs.laws.ShowLaws.{goes-on, ended, goes-onS, endedS}
-use Rattle.writer.specs.declared.scope.Scope.{Scope}
+use Rattle.bodies.specs.declared.scope.Scope.{Scope}
 use Rattle.codegen.specs.contracts.Compile.{end, emit}
 use Rattle.writer.specs.laws.Emits.{no-code}
-use Rattle.writer.specs.contracts.Posts.{room, Wrote, AtMost, Written, Whatever, WritePost}
+use Rattle.writer.specs.contracts.Posts.{room, Wrote, Bounded, Written, Whatever, WritePost}
 use Rattle.writer.proofs.RowLaws.{positive, positive-statement, fewer-arguments, fewer-statements}
 use Rattle.writer.proofs.ExpressionLaws.{few-tokens, both-wrote}
 
@@ -39,8 +39,8 @@ spent of-arguments z (argument e es) few = absurd (omega (arith, positive e))
 spent of-statements z noStatements few = refl
 spent of-statements z (sequence t ss) few = absurd (omega (arith, positive-statement t))
 
-past : {p q : Sort} (l : Lists p q) {tab : List ℕ} {ts : List Token} {row left : ℕ} → length ts ≤ 2048 → absent ≤ row → (t : Part q)
-    → PartAt tab ts row (AtMost left q) t → none l ≡ t
+past : {p q : Sort} (l : Lists p q) {tab : List ℕ} {ts : List Token} {n row left : ℕ} → length ts ≤ 2048 → absent ≤ row → (t : Part q)
+    → PartAt tab ts row (Bounded n left q) t → none l ≡ t
 past of-arguments few far t h = ended few far t h
 past of-statements few far t h = endedS few far t h
 
@@ -51,7 +51,8 @@ nothing of-arguments ν G Γ = record { ends = refl; code = no-code }
 nothing of-statements ν G Γ = record { ends = refl; code = no-code }
 
 module _ {p q : Sort} (l : Lists p q) {tab names : List ℕ} {s : Scope} {left row at : ℕ} {c : List ℕ} where
-  empty-wrote : at ≤ room → ((ts : List Token) → length ts ≤ 2048 → (t : Part q) → PartAt tab ts row (AtMost left q) t → none l ≡ t)
+  empty-wrote : at ≤ room
+      → ((ts : List Token) → length ts ≤ 2048 → (t : Part q) → PartAt tab ts row (Bounded (s .tokens) left q) t → none l ≡ t)
       → WritePost tab names s q left row at c c at
   empty-wrote low is =
       record {
@@ -62,7 +63,7 @@ module _ {p q : Sort} (l : Lists p q) {tab names : List ℕ} {s : Scope} {left r
       }
 
   pub list-none : left ≡ 0 → at ≤ room → WritePost tab names s q left row at c c at
-  list-none z low = empty-wrote low (λ ts few t h. spent l z t (h .within))
+  list-none z low = empty-wrote low (λ ts few t h. spent l z t (h .within .few))
 
   pub list-end : absent ≤ row → at ≤ room → WritePost tab names s q left row at c c at
   list-end far low = empty-wrote low (λ ts few t h. past l few far t h)
@@ -70,18 +71,19 @@ module _ {p q : Sort} (l : Lists p q) {tab names : List ℕ} {s : Scope} {left r
 -- a list that goes on
 goes-wrote : {p q : Sort} (l : Lists p q) {tab names : List ℕ} {s : Scope} {left row at a r : ℕ} {c c₁ c₂ : List ℕ} → (left ≡ 0 → ⊥)
     → row < absent → WritePost tab names s p left row at c c₁ a → WritePost tab names s q (left - 1) (wordAt tab 6 row) a c₁ c₂ r
-    → Whatever tab names s λ ts G Γ. (t : Part q) → PartAt tab ts row (AtMost left q) t → Written ts (emit G Γ t at) (end t at) at c c₂ r
+    → Whatever tab names s λ ts G Γ. (t : Part q) → PartAt tab ts row (Bounded (s .tokens) left q) t
+    → Written ts (emit G Γ t at) (end t at) at c c₂ r
 unfolding emit end
-goes-wrote of-arguments {tab} {left = left} {row} {at} {r = r} {c} {c₂ = c₂} more near f g ts G Γ w t h =
-    go t (goes-on (fewer-arguments row left more) near t h)
+goes-wrote of-arguments {tab} {s = s} {left} {row} {at} {r = r} {c} {c₂ = c₂} more near f g ts G Γ w t h =
+    go t (goes-on (fewer-arguments (s .tokens) row left more) near t h)
   where
-    go : (es : Part arguments) → GoesOn tab ts row (AtMost left expression) (AtMost (left - 1) arguments) es
+    go : (es : Part arguments) → GoesOn tab ts row (Bounded (s .tokens) left expression) (Bounded (s .tokens) (left - 1) arguments) es
         → Written ts (emit G Γ es at) (end es at) at c c₂ r
     go es (one-more-argument {e = e} {es = rest} x y) = both-wrote f g ts G Γ w e rest x y
-goes-wrote of-statements {tab} {left = left} {row} {at} {r = r} {c} {c₂ = c₂} more near f g ts G Γ w t h =
-    go t (goes-onS (fewer-statements row left more) near t h)
+goes-wrote of-statements {tab} {s = s} {left} {row} {at} {r = r} {c} {c₂ = c₂} more near f g ts G Γ w t h =
+    go t (goes-onS (fewer-statements (s .tokens) row left more) near t h)
   where
-    go : (ss : Part statements) → GoesOnS tab ts row (AtMost left statement) (AtMost (left - 1) statements) ss
+    go : (ss : Part statements) → GoesOnS tab ts row (Bounded (s .tokens) left statement) (Bounded (s .tokens) (left - 1) statements) ss
         → Written ts (emit G Γ ss at) (end ss at) at c c₂ r
     go ss (one-more-statement {t = first} {ss = rest} x y) = both-wrote f g ts G Γ w first rest x y
 

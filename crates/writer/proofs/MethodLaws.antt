@@ -8,22 +8,23 @@ use lib.ListN.{length, set}
 use Rattle.lexer.specs.Tokens.{Token}
 use Rattle.lexer.specs.contracts.Rows.{firstNamed}
 use Rattle.parser.specs.Tree.{Sort, Sort.expression, Sort.statements, Part, Method, Class}
-use Rattle.parser.specs.Measure.{nodes}
 use Rattle.parser.specs.contracts.Layout.{absent, rowOf, rowMethods}
 use Rattle.reader.specs.contracts.Holds.{Holds}
 use Rattle.reader.specs.contracts.Matches.{Matches}
 use Rattle.base.specs.contracts.Table.{col}
 use Rattle.typesystem.specs.ClassTable.{contextOf}
 use Rattle.lookup.specs.contracts.Shows.{PartAt}
-use Rattle.lookup.specs.contracts.HeldClasses.{wordAt, MethodHeld, MethodsHeld, more-methods}
+use Rattle.lookup.specs.contracts.HeldClasses.{wordAt, a-name, MethodHeld, MethodsHeld, more-methods}
 use Rattle.lookup.specs.laws.HeldLaws.{word-in, row-there}
+use Rattle.bodies.specs.declared.scope.Scope.{Scope}
 use Rattle.codegen.specs.contracts.Code.{return}
 use Rattle.codegen.specs.contracts.Compile.{emit, middle, valueEnd, endMethods, emitMethods}
 use Rattle.writer.specs.laws.Emits.{no-code}
 use Rattle.writer.specs.laws.Lengths.{grows}
 use Rattle.writer.specs.contracts.Scoping.{Sees}
-use Rattle.writer.specs.contracts.Posts.{room, PutPost, Wrote, AtMost, WritePost}
+use Rattle.writer.specs.contracts.Posts.{room, PutPost, Wrote, Bounded, WritePost}
 use Rattle.writer.specs.contracts.Methods.{SeesClass, entered, MethodPost, MethodsPost}
+use Rattle.writer.proofs.RowLaws.{whole}
 use Rattle.writer.proofs.PieceLaws.{put-one, next-to}
 use Rattle.writer.proofs.ExpressionLaws.{both-wrote}
 
@@ -33,20 +34,24 @@ word tab k {row} {r} e at low h = e ∙ ap (wordAt tab k) (sym at) ∙ word-in t
 
 -- the part to which a column of such a row leads
 part : (tab : List ℕ) (ts : List Token) (k n : ℕ) {q : Sort} (t : Part q) {row r w : ℕ} → w ≡ wordAt tab k row → r ≡ row → r < absent
-    → col tab k r ≡ rowOf t → Holds tab t → Matches ts t → nodes t ≤ n → PartAt tab ts w (AtMost n q) t
-part tab ts k n t e at low h holds matches few =
-    record { at = sym (word tab k e at low h); holds = holds; matches = matches; within = few }
+    → col tab k r ≡ rowOf t → Holds tab t → Matches ts t → Bounded n n q t → PartAt tab ts w (Bounded n n q) t
+part tab ts k n t e at low h holds matches within =
+    record { at = sym (word tab k e at low h); holds = holds; matches = matches; within = within }
 
-pub method-wrote : {tab names : List ℕ} {n row at p l first a second b r : ℕ} {c c₁ c₂ c₃ : List ℕ} → p ≡ wordAt tab 4 row
+-- what a body of the class sees
+abbrev scopeOf : (n classes owner parameters locals : ℕ) → Scope
+scopeOf n classes owner p l = record { tokens = n; classes = classes; owner = owner; parameters = p; locals = l }
+
+pub method-wrote : {tab names : List ℕ} {n classes owner row at p l first a second b r : ℕ} {c c₁ c₂ c₃ : List ℕ} → p ≡ wordAt tab 4 row
     → l ≡ wordAt tab 5 row → first ≡ wordAt tab 4 (row + 1)
-    → WritePost tab names (record { tokens = n; parameters = p; locals = l }) statements n first at c c₁ a → second ≡ wordAt tab 5 (row + 1)
-    → WritePost tab names (record { tokens = n; parameters = p; locals = l }) expression n second a c₁ c₂ b → PutPost b 6 0 0 0 c₂ c₃ r
-    → MethodPost tab names n row at c c₃ r
-method-wrote {tab} {names} {n} {row} {at} {p} {l} {first} {a} {second} {b} {r} {c} {c₁} {c₂} {c₃} e₄ e₅ e₄′ f e₅′ g o =
+    → WritePost tab names (scopeOf n classes owner p l) statements n first at c c₁ a → second ≡ wordAt tab 5 (row + 1)
+    → WritePost tab names (scopeOf n classes owner p l) expression n second a c₁ c₂ b → PutPost b 6 0 0 0 c₂ c₃ r
+    → MethodPost tab names n classes owner row at c c₃ r
+method-wrote {tab} {names} {n} {classes} {owner} {row} {at} {p} {l} {first} {a} {second} {b} {r} {c} {c₁} {c₂} {c₃} e₄ e₅ e₄′ f e₅′ g o =
     record { within = o .within; says = go }
   where
-    go : (ts : List Token) (G : List Class) (d : List ℕ) → SeesClass tab names n ts G d → (F : Method) → F .name .row ≡ row
-        → MethodHeld tab n ts F → suc (valueEnd F at) ≤ room
+    go : (ts : List Token) (G : List Class) (d : List ℕ) → SeesClass tab names n classes owner ts G d → (F : Method)
+        → F .name .row ≡ row → MethodHeld tab n ts F → suc (valueEnd F at) ≤ room
         → Wrote (firstNamed ts) (λ k. emit G (contextOf d F) (F .body) at (emit G (contextOf d F) (F .value) (middle F at) (return ∷ k)))
         (suc (valueEnd F at)) at c c₃ r
     go ts G d w F is h low =
@@ -54,12 +59,13 @@ method-wrote {tab} {names} {n} {row} {at} {p} {l} {first} {a} {second} {b} {r} {
         let near = row-there lx (F .name .row) (h .head .name .token .there) in
         let near′ = row-there lx (F .name .row + 1) (h .after .there) in
         let is′ = ap (λ (j : ℕ). j + 1) is in
-        let sees : Sees tab names ts G (contextOf d F) (record { tokens = n; parameters = p; locals = l }) =
+        let sees : Sees tab names ts G (contextOf d F) (scopeOf n classes owner p l) =
         record {
           scope =
               record {
                 world = w .world;
-                fields = w .fields;
+                many = w .many;
+                declarer = a-name (w .declarer);
                 given = F .parameters;
                 own = F .locals;
                 seen = refl;
@@ -69,9 +75,9 @@ method-wrote {tab} {names} {n} {row} {at} {p} {l} {first} {a} {second} {b} {r} {
           sizes = w .sizes;
         } in
         let x = part tab ts 4 n (F .body) e₄′ is′ near′ (h .start) (h .body) (h .body-matches)
-        (h .body-nodes) in
+        (whole (F .body) (F .name .row) (h .body-nodes) (h .body-within)) in
         let y = part tab ts 5 n (F .value) e₅′ is′ near′ (h .return) (h .value) (h .value-matches)
-        (h .value-nodes) in
+        (whole (F .value) (F .name .row) (h .value-nodes) (h .value-within)) in
         let u = both-wrote f g ts G (contextOf d F) sees (F .body) (F .value) x y (omega arith) in
         next-to (λ j k. return ∷ k) suc u (put-one return refl o (rw (u .ends) low))
 
@@ -80,8 +86,8 @@ unfolding endMethods
 grows-methods [] i = omega arith
 grows-methods (F ∷ M) i = omega (arith, grows (F .body) i, grows (F .value) (middle F i), grows-methods M (suc (valueEnd F i)))
 
-module _ {tab names : List ℕ} {n left row at : ℕ} {c E : List ℕ} where
-  pub methods-none : left ≡ 0 → at ≤ room → MethodsPost tab names n left row at c c E E at
+module _ {tab names : List ℕ} {n classes owner left row at : ℕ} {c E : List ℕ} where
+  pub methods-none : left ≡ 0 → at ≤ room → MethodsPost tab names n classes owner left row at c c E E at
   unfolding emitMethods endMethods entered
   methods-none z low = record { within = low; says = λ ts G d w M is h few l. go ts G d M few }
     where
@@ -90,25 +96,26 @@ module _ {tab names : List ℕ} {n left row at : ℕ} {c E : List ℕ} where
       go ts G d [] few = (record { ends = refl; code = no-code }, refl)
       go ts G d (F ∷ M) few = absurd (omega arith)
 
-  pub methods-end : absent ≤ row → at ≤ room → MethodsPost tab names n left row at c c E E at
+  pub methods-end : absent ≤ row → at ≤ room → MethodsPost tab names n classes owner left row at c c E E at
   unfolding emitMethods endMethods entered
   methods-end far low = record { within = low; says = λ ts G d w M is h few l. go ts G d w M is h }
     where
-      go : (ts : List Token) (G : List Class) (d : List ℕ) → SeesClass tab names n ts G d → (M : List Method) → rowMethods M ≡ row
-          → MethodsHeld tab n ts M
+      go : (ts : List Token) (G : List Class) (d : List ℕ) → SeesClass tab names n classes owner ts G d → (M : List Method)
+          → rowMethods M ≡ row → MethodsHeld tab n ts M
           → Wrote (firstNamed ts) (emitMethods G d M at) (endMethods M at) at c c at × (E ≡ entered M at E)
       go ts G d w [] is h = (record { ends = refl; code = no-code }, refl)
       go ts G d w (F ∷ M) is (more-methods h e hs) =
           absurd (omega (arith, is, row-there (w .world .tokens) (F .name .row) (h .head .name .token .there)))
 
   pub methods-more : (left ≡ 0 → ⊥) → row < absent → {a next r : ℕ} {c₁ c₂ E₁ E₂ : List ℕ} → E₁ ≡ set E row at
-      → MethodPost tab names n row at c c₁ a → next ≡ wordAt tab 6 row
-      → MethodsPost tab names n (left - 1) next a c₁ c₂ E₁ E₂ r → MethodsPost tab names n left row at c c₂ E E₂ r
+      → MethodPost tab names n classes owner row at c c₁ a → next ≡ wordAt tab 6 row
+      → MethodsPost tab names n classes owner (left - 1) next a c₁ c₂ E₁ E₂ r
+      → MethodsPost tab names n classes owner left row at c c₂ E E₂ r
   unfolding emitMethods endMethods entered
   methods-more more near {a} {next} {r} {c₁} {c₂} {E₁} {E₂} new f e₆ g = record { within = g .within; says = go }
     where
-      go : (ts : List Token) (G : List Class) (d : List ℕ) → SeesClass tab names n ts G d → (M : List Method) → rowMethods M ≡ row
-          → MethodsHeld tab n ts M → length M ≤ left
+      go : (ts : List Token) (G : List Class) (d : List ℕ) → SeesClass tab names n classes owner ts G d → (M : List Method)
+          → rowMethods M ≡ row → MethodsHeld tab n ts M → length M ≤ left
           → endMethods M at ≤ room → Wrote (firstNamed ts) (emitMethods G d M at) (endMethods M at) at c c₂ r × (E₂ ≡ entered M at E)
       go ts G d w [] is h few l = absurd (omega (arith, is))
       go ts G d w (F ∷ M) is (more-methods h e hs) few l =

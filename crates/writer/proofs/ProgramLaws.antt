@@ -1,9 +1,8 @@
 -- What writing a program returns meets its contract: no field is in the array while main's statement is written, and all of it fits.
 use Prim.Native.Nat.{ℕ, suc, _≤_}
 use native.Mathlib.Omega.{arith}
-use mathlib.Core.Path.{_≡_, refl, sym, ap, _∙_, subst}
+use mathlib.Core.Path.{_≡_, refl, sym, ap, _∙_}
 use mathlib.Core.List.{List, [], _∷_}
-use mathlib.Core.Option.{none}
 use lib.ListN.{length, getD, replicate}
 use Rattle.base.specs.laws.Lists.{getD-replicate-same}
 use Rattle.lexer.specs.Tokens.{Token}
@@ -15,17 +14,19 @@ use Rattle.typesystem.specs.ClassTable.{mainContext}
 use Rattle.lookup.specs.contracts.Shows.{PartAt}
 use Rattle.lookup.specs.contracts.HeldClasses.{wordAt, no-name, no-variables}
 use Rattle.lookup.specs.laws.HeldLaws.{word-in}
-use Rattle.lookup.specs.contracts.Fields.{FieldsOf, FieldsFilled}
+use Rattle.lookup.specs.contracts.Fields.{FieldsFilled}
+use Rattle.bodies.specs.declared.scope.Scope.{Scope}
 use Rattle.declarations.specs.contracts.Indexing.{Ready}
 use Rattle.codegen.specs.contracts.Code.{halt}
 use Rattle.codegen.specs.contracts.Compile.{end, emit, emitClasses, compile}
 use Rattle.writer.specs.contracts.Words.{store}
 use Rattle.writer.specs.contracts.Sizing.{SizesHeld, SizesPost}
 use Rattle.writer.specs.contracts.Scoping.{Sees}
-use Rattle.writer.specs.contracts.Posts.{room, PutPost, Wrote, AtMost, WritePost}
+use Rattle.writer.specs.contracts.Posts.{room, PutPost, Wrote, Bounded, WritePost}
 use Rattle.writer.specs.contracts.Classes.{enteredClasses, ClassesPost}
 use Rattle.writer.specs.laws.Room.{program-room}
 use Rattle.writer.specs.contracts.Writing.{BeginPost, MainPost, Writes}
+use Rattle.writer.proofs.RowLaws.{whole}
 use Rattle.writer.proofs.PieceLaws.{put-one, next-to}
 use Rattle.writer.proofs.SizeLaws.{all-sizes}
 use Rattle.writer.proofs.ClassLaws.{sizes-kept, grows-classes}
@@ -35,9 +36,9 @@ use Rattle.writer.proofs.ClassLaws.{sizes-kept, grows-classes}
 pub begun : (size : ℕ) {tab names₁ names₂ names₃ : List ℕ} {n classes first : ℕ} → names₁ ≡ replicate size 0
     → SizesPost tab n classes n first names₁ names₂
     → FieldsFilled tab n classes absent names₂ names₃ → BeginPost tab n classes first names₃
-begun size {names₁ = names₁} {names₃ = names₃} zero s f =
+begun size {names₁ = names₁} zero s f =
     record {
-      fields = λ ts G w l. subst (λ (i : ℕ). FieldsOf ts G i none names₃) (sym l) (f .held .says ts G w none (no-name {c = absent} (omega arith)));
+      fields = f .held;
       sizes = λ ts G w l here. sizes-kept (f .stays) (all-sizes s zeros w l here);
     }
   where
@@ -46,21 +47,26 @@ begun size {names₁ = names₁} {names₃ = names₃} zero s f =
 
 -- MAIN
 
-pub main-wrote : {tab names : List ℕ} {n a r : ℕ} {c c₁ c₂ : List ℕ}
-    → WritePost tab names (record { tokens = n; parameters = absent; locals = absent }) statement n 14 0 c c₁ a
-    → PutPost a 7 0 0 0 c₁ c₂ r → MainPost tab names n c c₂ r
-main-wrote {tab} {names} {n} {a} {r} {c} {c₁} {c₂} f o = record { within = o .within; says = go }
+-- what main sees
+abbrev mainScope : (n classes : ℕ) → Scope
+mainScope n classes = record { tokens = n; classes = classes; owner = absent; parameters = absent; locals = absent }
+
+pub main-wrote : {tab names : List ℕ} {n classes a r : ℕ} {c c₁ c₂ : List ℕ}
+    → WritePost tab names (mainScope n classes) statement n 14 0 c c₁ a → PutPost a 7 0 0 0 c₁ c₂ r
+    → MainPost tab names n classes c c₂ r
+main-wrote {tab} {names} {n} {classes} {a} {r} {c} {c₁} {c₂} f o = record { within = o .within; says = go }
   where
-    go : (ts : List Token) (p : Program) → Ready tab n ts p → FieldsOf ts (p .classes) (length (p .classes)) none names
+    go : (ts : List Token) (p : Program) → Ready tab n ts p → length (p .classes) ≡ classes
         → SizesHeld ts (p .classes) names → suc (end (p .statement) 0) ≤ room
         → Wrote (firstNamed ts) (λ k. emit (p .classes) mainContext (p .statement) 0 (halt ∷ k)) (suc (end (p .statement) 0)) 0 c c₂ r
-    go ts p w fields sizes lim =
-        let sees : Sees tab names ts (p .classes) mainContext (record { tokens = n; parameters = absent; locals = absent }) =
+    go ts p w l sizes lim =
+        let sees : Sees tab names ts (p .classes) mainContext (mainScope n classes) =
         record {
           scope =
               record {
                 world = w .world;
-                fields = fields;
+                many = l;
+                declarer = no-name {c = absent} (omega arith);
                 given = [];
                 own = [];
                 seen = refl;
@@ -69,12 +75,12 @@ main-wrote {tab} {names} {n} {a} {r} {c} {c₁} {c₂} f o = record { within = o
               };
           sizes = sizes;
         } in
-        let x : PartAt tab ts 14 (AtMost n statement) (p .statement) =
+        let x : PartAt tab ts 14 (Bounded n n statement) (p .statement) =
         record {
           at = w .row;
           holds = w .statement;
           matches = w .matches;
-          within = w .statement-nodes;
+          within = whole (p .statement) 14 (w .statement-nodes) (w .statement-within);
         } in
         let u = f .says ts (p .classes) mainContext sees (p .statement) x (omega arith) in
         next-to (λ j k. halt ∷ k) suc u (put-one halt refl o (rw (u .ends) lim))
@@ -82,7 +88,7 @@ main-wrote {tab} {names} {n} {a} {r} {c} {c₁} {c₂} f o = record { within = o
 -- ALL
 
 pub all-wrote : {tab names : List ℕ} {n classes first a : ℕ} {c c₁ c₂ E E₂ : List ℕ} → first ≡ wordAt tab 6 0
-    → BeginPost tab n classes first names → MainPost tab names n c c₁ a
+    → BeginPost tab n classes first names → MainPost tab names n classes c c₁ a
     → ClassesPost tab n classes n first a names c₁ c₂ E E₂ → Writes tab n classes c c₂ E E₂
 unfolding compile
 all-wrote {tab} {names} {n} {classes} {first} {a} {c} {c₁} {c₂} {E} {E₂} e₆ b m g = record { says = go }
@@ -95,6 +101,6 @@ all-wrote {tab} {names} {n} {classes} {first} {a} {c} {c₁} {c₂} {E} {E₂} e
         let here : rowClasses G ≡ first = sym (w .first) ∙ sym (word-in tab 6 0 (omega arith) refl) ∙ sym e₆ in
         let sizes = b .sizes ts G (w .world) l here in
         let fits = program-room d in
-        let u = m .says ts p w (b .fields ts G (w .world) l) sizes (omega (arith, grows-classes G stop)) in
+        let u = m .says ts p w l sizes (omega (arith, grows-classes G stop)) in
         let v = g .says ts G (w .world) l sizes G (record { here = here; stand = w .world .classes; few = w .world .few }) (rw (u .ends) (omega arith)) in
         (v .0 ∙ ap (λ (i : ℕ). store (firstNamed ts) (emitClasses G G i) a c₁) (u .ends) ∙ sym (u .code .is (emitClasses G G stop)), v .1 ∙ ap (λ (i : ℕ). enteredClasses G i E) (u .ends))

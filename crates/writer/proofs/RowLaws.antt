@@ -1,12 +1,12 @@
--- A part has fewer nodes than the whole, so the laws of what the rows show hold where a part is bounded by its number of nodes. And how
--- many arguments lie in a list.
-use Prim.Native.Nat.{ℕ, _-_, _≤_}
+-- A part has fewer nodes than the whole and lies among the same tokens, so the laws of what the rows show hold where a part is bounded
+-- by its number of nodes and by the tokens. And how many arguments lie in a list.
+use Prim.Native.Nat.{ℕ, _+_, _-_, _≤_}
 use native.Mathlib.Omega.{arith}
 use mathlib.Core.Path.{_≡_, subst}
 use mathlib.Core.List.{List}
 use lib.ListN.{length}
 use Rattle.lexer.specs.Tokens.{Token}
-use Rattle.parser.specs.Tree.{Sort.expression, Sort.arguments, Sort.statement, Sort.statements, Part, Expression, Statement}
+use Rattle.parser.specs.Tree.{Sort, Sort.expression, Sort.arguments, Sort.statement, Sort.statements, Part, Expression, Statement}
 use Rattle.parser.specs.Tree.{Part.literal, Part.truth, Part.variable, Part.this, Part.newArray, Part.newObject, Part.negation, Part.binary}
 use Rattle.parser.specs.Tree.{Part.element, Part.arrayLength, Part.call, Part.portGet, Part.noArguments, Part.argument}
 use Rattle.parser.specs.Tree.{Part.block, Part.conditional, Part.loop, Part.print, Part.assign, Part.assignElement, Part.portPut}
@@ -15,11 +15,13 @@ use Rattle.parser.specs.contracts.Layout.{absent, rowOf}
 use Rattle.parser.specs.Measure.{nodes}
 use Rattle.reader.specs.contracts.Holds.{Holds}
 use Rattle.reader.specs.contracts.Matches.{Matches}
+use Rattle.reader.specs.contracts.Spans.{Among, Spans}
+use Rattle.reader.specs.laws.SpanLaws.{wider}
 use Rattle.typesystem.specs.Judge.{arity}
 use Rattle.lookup.specs.contracts.Shows.{PartAt}
 use Rattle.lookup.specs.contracts.Lookups.{Many, many-none, many-more, Counts}
 use Rattle.lookup.specs.laws.ShowLaws.{Bounds, BoundsS, there}
-use Rattle.writer.specs.contracts.Posts.{AtMost}
+use Rattle.writer.specs.contracts.Posts.{Bounded}
 
 pub positive : (e : Expression) → 1 ≤ nodes e
 unfolding nodes
@@ -48,43 +50,82 @@ positive-statement (portPut p n e) = omega arith
 
 -- PARTS
 
-module _ (row left : ℕ) (more : left ≡ 0 → ⊥) where
-  pub fewer : Bounds row (AtMost left) (AtMost (left - 1)) (AtMost (left - 1))
-  unfolding nodes
+-- what lies in a declaration
+pub whole : {q : Sort} (t : Part q) {n : ℕ} (i : ℕ) → nodes t ≤ n → Spans i n t → Bounded n n q t
+whole t {n} i few h = record { few = few; spans = wider t i n 0 n (omega arith) (omega arith) h }
+
+module _ (n row left : ℕ) (more : left ≡ 0 → ⊥) where
+  -- a part before the token i of its whole, and one behind it
+  before : {q : Sort} (t : Part q) (i : ℕ) → nodes t ≤ left - 1 → Among 0 n i → Spans 0 i t → Bounded n (left - 1) q t
+  before t i few m h = record { few = few; spans = wider t 0 i 0 n (omega arith) (omega (arith, m .high)) h }
+
+  behind : {q : Sort} (t : Part q) (i : ℕ) → nodes t ≤ left - 1 → Spans (i + 1) n t → Bounded n (left - 1) q t
+  behind t i few h = record { few = few; spans = wider t (i + 1) n 0 n (omega arith) (omega arith) h }
+
+  pub fewer : Bounds row (Bounded n left) (Bounded n (left - 1)) (Bounded n (left - 1))
+  unfolding nodes Spans
   fewer =
       record {
-        of-new-array = λ at w. omega arith;
-        of-negation = λ at w. omega arith;
-        of-binary = λ at w. (omega arith, omega arith);
-        of-element = λ at w. (omega arith, omega arith);
-        of-length = λ at w. omega arith;
-        of-call = λ at w. (omega arith, omega arith);
-        of-port-get = λ at w. omega arith;
+        of-new-array = λ {p} {u} {e} at w. behind e (p .row) (omega (arith, w .few)) (w .spans .1);
+        of-negation = λ {p} {e} at w. behind e (p .row) (omega (arith, w .few)) (w .spans .1);
+        of-binary = λ {p} {o} {l} {r} at w. (
+          before l (p .row) (omega (arith, w .few)) (w .spans .0) (w .spans .1),
+          behind r (p .row) (omega (arith, w .few)) (w .spans .2),
+        );
+        of-element = λ {p} {a} {i} at w. (
+          before a (p .row) (omega (arith, w .few)) (w .spans .0) (w .spans .1),
+          behind i (p .row) (omega (arith, w .few)) (w .spans .2),
+        );
+        of-length = λ {p} {e} at w. before e (p .row) (omega (arith, w .few)) (w .spans .0) (w .spans .1);
+        of-call = λ {p} {e} {m} {es} at w. (
+          before e (p .row) (omega (arith, w .few)) (w .spans .0) (w .spans .1),
+          behind es (p .row) (omega (arith, w .few)) (w .spans .2),
+        );
+        of-port-get = λ {p} {e} at w. behind e (p .row) (omega (arith, w .few)) (w .spans .1);
       }
 
-  pub fewerS : BoundsS row (AtMost left) (AtMost (left - 1))
-  unfolding nodes
+  pub fewerS : BoundsS row (Bounded n left) (Bounded n (left - 1))
+  unfolding nodes Spans
   fewerS =
       record {
-        of-block = λ at w. omega arith;
-        of-conditional = λ at w. (omega arith, omega arith, omega arith);
-        of-loop = λ at w. (omega arith, omega arith);
-        of-print = λ at w. omega arith;
-        of-assignment = λ at w. omega arith;
-        of-element-store = λ at w. (omega arith, omega arith);
-        of-port-put = λ at w. (omega arith, omega arith);
+        of-block = λ {p} {ss} at w. behind ss (p .row) (omega (arith, w .few)) (w .spans .1);
+        of-conditional = λ {p} {e} {s} {t} at w. (
+          behind e (p .row) (omega (arith, w .few)) (w .spans .1),
+          behind s (p .row) (omega (arith, w .few)) (w .spans .2),
+          behind t (p .row) (omega (arith, w .few)) (w .spans .3),
+        );
+        of-loop = λ {p} {e} {s} at w. (
+          behind e (p .row) (omega (arith, w .few)) (w .spans .1),
+          behind s (p .row) (omega (arith, w .few)) (w .spans .2),
+        );
+        of-print = λ {p} {e} at w. behind e (p .row) (omega (arith, w .few)) (w .spans .1);
+        of-assignment = λ {p} {x} {e} at w. behind e (p .row) (omega (arith, w .few)) (w .spans .1);
+        of-element-store = λ {p} {x} {i} {e} at w. (
+          behind i (p .row) (omega (arith, w .few)) (w .spans .1),
+          behind e (p .row) (omega (arith, w .few)) (w .spans .2),
+        );
+        of-port-put = λ {p} {n = i} {e} at w. (
+          behind i (p .row) (omega (arith, w .few)) (w .spans .1),
+          behind e (p .row) (omega (arith, w .few)) (w .spans .2),
+        );
       }
 
   -- the first of a list, and the rest
-  pub fewer-arguments : (e : Expression) (es : Part arguments) → rowOf e ≡ row → AtMost left arguments (argument e es)
-      → AtMost left expression e × AtMost (left - 1) arguments es
-  unfolding nodes
-  fewer-arguments e es at w = (omega arith, omega (arith, positive e))
+  pub fewer-arguments : (e : Expression) (es : Part arguments) → rowOf e ≡ row → Bounded n left arguments (argument e es)
+      → Bounded n left expression e × Bounded n (left - 1) arguments es
+  unfolding nodes Spans
+  fewer-arguments e es at w = (
+    record { few = omega (arith, w .few); spans = w .spans .0 },
+    behind es (rowOf e) (omega (arith, w .few, positive e)) (w .spans .1),
+  )
 
-  pub fewer-statements : (t : Statement) (ss : Part statements) → rowOf t ≡ row → AtMost left statements (sequence t ss)
-      → AtMost left statement t × AtMost (left - 1) statements ss
-  unfolding nodes
-  fewer-statements t ss at w = (omega arith, omega (arith, positive-statement t))
+  pub fewer-statements : (t : Statement) (ss : Part statements) → rowOf t ≡ row → Bounded n left statements (sequence t ss)
+      → Bounded n left statement t × Bounded n (left - 1) statements ss
+  unfolding nodes Spans
+  fewer-statements t ss at w = (
+    record { few = omega (arith, w .few); spans = w .spans .0 },
+    behind ss (rowOf t) (omega (arith, w .few, positive-statement t)) (w .spans .1),
+  )
 
 -- COUNTING
 
@@ -102,8 +143,8 @@ unfolding nodes arity
 arity-few noArguments = omega arith
 arity-few (argument e es) = omega (arith, positive e, arity-few es)
 
-pub counted : {tab : List ℕ} {ts : List Token} {left row r : ℕ} → length ts ≤ 2048 → Counts tab left row r → (es : Part arguments)
-    → PartAt tab ts row (AtMost left arguments) es → r ≡ arity es
-counted {tab} {ts} few n es h =
-    n .says (arity es) (subst (λ (i : ℕ). Many tab i (arity es)) (h .at) (arguments-many ts few es (h .holds) (h .matches)))
-    (omega (arith, h .within, arity-few es))
+pub counted : {tab : List ℕ} {ts : List Token} {n left row r : ℕ} → length ts ≤ 2048 → Counts tab left row r → (es : Part arguments)
+    → PartAt tab ts row (Bounded n left arguments) es → r ≡ arity es
+counted {tab} {ts} few c es h =
+    c .says (arity es) (subst (λ (i : ℕ). Many tab i (arity es)) (h .at) (arguments-many ts few es (h .holds) (h .matches)))
+    (omega (arith, h .within .few, arity-few es))

@@ -17,12 +17,13 @@ use Rattle.parser.specs.contracts.Layout.{absent}
 use Rattle.lookup.specs.contracts.HeldClasses.{NameNumber, noType, ClassTableHeld, chainFrom, ListedAt}
 use Rattle.lookup.specs.laws.HeldLaws.{codes-below}
 use Rattle.lookup.specs.contracts.Lookups.{Many, Counts}
-use Rattle.lookup.specs.contracts.Fields.{TellsAt, no-field, a-field}
+use Rattle.lookup.specs.contracts.Fields.{TellsAt, no-field, a-field, FieldsHeld}
 use Rattle.lookup.specs.laws.VariableLaws.{variable-left, variables-many}
-use Rattle.writer.specs.declared.scope.Scope.{Scope}
+use Rattle.bodies.specs.declared.scope.Scope.{Scope}
+use Rattle.bodies.specs.contracts.Scoping.{InScope}
 use Rattle.writer.specs.contracts.Words.{slotOf}
 use Rattle.writer.specs.contracts.Places.{placeFrom, PlacePost}
-use Rattle.writer.specs.contracts.Scoping.{CodeScope, SlotPost}
+use Rattle.writer.specs.contracts.Scoping.{SlotPost}
 use Rattle.writer.proofs.PlaceLaws.{place-below}
 
 -- THE MEANING OF A NAME
@@ -100,27 +101,27 @@ place-in : {tab : List ℕ} {n x : ℕ} {ts : List Token} {G : List Class} {i ro
     → (text : List ℕ) → NameNumber ts text x → i ≡ placeFrom 0 (variableNamed vs text)
 place-in {n = n} {ts = ts} {vs = vs} w l h text sp = h .says n ts (w .tokens) vs (l .at) (l .stand) (l .few) text sp
 
-module _ {tab names : List ℕ} {s : Scope} {x : ℕ} where
-  pub slot-parameter : {i : ℕ} → PlacePost tab (s .tokens) (s .parameters) x 0 i → i < absent → SlotPost tab names s x i
+module _ {tab : List ℕ} {s : Scope} {x : ℕ} where
+  pub slot-parameter : {i : ℕ} → PlacePost tab (s .tokens) (s .parameters) x 0 i → i < absent → SlotPost tab s x i
   slot-parameter {i} h low = record { most = omega arith; says = go }
     where
-      go : (ts : List Token) (G : List Class) (Γ : Context) → CodeScope tab names ts G Γ s → (text : List ℕ) → NameNumber ts text x
+      go : (ts : List Token) (G : List Class) (Γ : Context) → InScope tab ts G Γ s → (text : List ℕ) → NameNumber ts text x
           → i ≡ slotOf (meaning G Γ text)
       go ts G Γ w text sp =
           let f = found i (variableNamed (w .given) text) low (place-in (w .world) (w .given-listed) h text sp) in
           rw (meaning-row G Γ text (ap (λ (vs : List Variable). variableNamed vs text) (w .seen) ∙ variable-left (w .given) (w .own) text (f .1))) (f .2)
 
   module _ (few : s .tokens ≤ 2048) {i : ℕ} (h : PlacePost tab (s .tokens) (s .parameters) x 0 i) (high : absent ≤ i) where
-    not-given : {ts : List Token} {G : List Class} {Γ : Context} (w : CodeScope tab names ts G Γ s) (text : List ℕ) → NameNumber ts text x
+    not-given : {ts : List Token} {G : List Class} {Γ : Context} (w : InScope tab ts G Γ s) (text : List ℕ) → NameNumber ts text x
         → variableNamed (w .given) text ≡ none
     not-given w text sp =
         missing i (w .given) text high (omega (arith, w .given-listed .few)) (place-in (w .world) (w .given-listed) h text sp)
 
     pub slot-local : {j : ℕ} → PlacePost tab (s .tokens) (s .locals) x 0 j → j < absent → {n : ℕ} → Counts tab (s .tokens) (s .parameters) n
-        → SlotPost tab names s x (n + j)
+        → SlotPost tab s x (n + j)
     slot-local {j} h′ low {n} c = record { most = omega (arith, c .most); says = go }
       where
-        go : (ts : List Token) (G : List Class) (Γ : Context) → CodeScope tab names ts G Γ s → (text : List ℕ) → NameNumber ts text x
+        go : (ts : List Token) (G : List Class) (Γ : Context) → InScope tab ts G Γ s → (text : List ℕ) → NameNumber ts text x
             → n + j ≡ slotOf (meaning G Γ text)
         go ts G Γ w text sp =
             let f = found j (variableNamed (w .own) text) low (place-in (w .world) (w .own-listed) h′ text sp) in
@@ -132,7 +133,7 @@ module _ {tab names : List ℕ} {s : Scope} {x : ℕ} where
 
     module _ {j : ℕ} (h′ : PlacePost tab (s .tokens) (s .locals) x 0 j) (high′ : absent ≤ j) where
       -- what a name that is no parameter or local means
-      object : {ts : List Token} {G : List Class} {Γ : Context} (w : CodeScope tab names ts G Γ s) (text : List ℕ) → NameNumber ts text x
+      object : {ts : List Token} {G : List Class} {Γ : Context} (w : InScope tab ts G Γ s) (text : List ℕ) → NameNumber ts text x
           → slotOf (meaning G Γ text) ≡ objectSlot (nearestField (chainFrom (length G) G (Γ .owner)) text)
       object {G = G} {Γ} w text sp =
           let own = missing j (w .own) text high′ (omega (arith, w .own-listed .few)) (place-in (w .world) (w .own-listed) h′ text sp) in
@@ -140,23 +141,34 @@ module _ {tab names : List ℕ} {s : Scope} {x : ℕ} where
           let named : variableNamed (Γ .variables) text ≡ none = ap (λ (vs : List Variable). variableNamed vs text) (w .seen) ∙ second ∙ ap (λ (o : Option Slot). option o none λ s. some (moved (length (w .given)) s)) own in
           meaning-field G Γ text named
 
-      pub slot-held : getD names x 0 < noType → getD names (2048 + x) 0 < 4294967296 → SlotPost tab names s x (getD names (2048 + x) 0)
-      slot-held known fits =
-          record { most = fits; says = λ ts G Γ w text sp. go (nearestField (chainFrom (length G) G (Γ .owner)) text) (w .fields .says text x sp) ∙ sym (object w text sp) }
-        where
-          go : {ts : List Token} (o : Option Slot) → TellsAt ts names x o → getD names (2048 + x) 0 ≡ objectSlot o
-          go none (no-field z) = absurd (omega (arith, z))
-          go (some t) (a-field c z) = z
+      module _ {names : List ℕ} (held : FieldsHeld tab (s .tokens) (s .classes) (s .owner) names) where
+        -- the words of the name say what a field of it means
+        tells : {ts : List Token} {G : List Class} {Γ : Context} (w : InScope tab ts G Γ s) (text : List ℕ) → NameNumber ts text x
+            → TellsAt ts names x (nearestField (chainFrom (length G) G (Γ .owner)) text)
+        tells {ts} {G} {Γ} w text sp =
+            rw (w .many) (held .says ts G (w .world) (Γ .owner) (w .declarer) .says text x sp)
 
-      pub slot-none : noType ≤ getD names x 0 → SlotPost tab names s x absent
-      slot-none unknown =
-          record {
-            most = omega arith;
-            says = λ ts G Γ w text sp.
-                let short : length ts ≤ 2048 = omega (arith, w .world .tokens .count, w .world .tokens .few) in
-                go short (nearestField (chainFrom (length G) G (Γ .owner)) text) (w .fields .says text x sp) ∙ sym (object w text sp);
-          }
-        where
-          go : {ts : List Token} → length ts ≤ 2048 → (o : Option Slot) → TellsAt ts names x o → absent ≡ objectSlot o
-          go short none h = refl
-          go short (some t) (a-field c z) = absurd (omega (arith, codes-below short c))
+        pub slot-held : getD names x 0 < noType → getD names (2048 + x) 0 < 4294967296 → SlotPost tab s x (getD names (2048 + x) 0)
+        slot-held known fits =
+            record {
+              most = fits;
+              says = λ ts G Γ w text sp.
+                  go (nearestField (chainFrom (length G) G (Γ .owner)) text) (tells w text sp) ∙ sym (object w text sp);
+            }
+          where
+            go : {ts : List Token} (o : Option Slot) → TellsAt ts names x o → getD names (2048 + x) 0 ≡ objectSlot o
+            go none (no-field z) = absurd (omega (arith, z))
+            go (some t) (a-field c z) = z
+
+        pub slot-none : noType ≤ getD names x 0 → SlotPost tab s x absent
+        slot-none unknown =
+            record {
+              most = omega arith;
+              says = λ ts G Γ w text sp.
+                  let short : length ts ≤ 2048 = omega (arith, w .world .tokens .count, w .world .tokens .few) in
+                  go short (nearestField (chainFrom (length G) G (Γ .owner)) text) (tells w text sp) ∙ sym (object w text sp);
+            }
+          where
+            go : {ts : List Token} → length ts ≤ 2048 → (o : Option Slot) → TellsAt ts names x o → absent ≡ objectSlot o
+            go short none h = refl
+            go short (some t) (a-field c z) = absurd (omega (arith, codes-below short c))

@@ -15,14 +15,14 @@ use Rattle.lookup.specs.contracts.Shows.{Form, aBlock, aConditional, aLoop, aPr
 use Rattle.lookup.specs.contracts.Shows.{Bound, ShowsS, shows-block, shows-conditional, shows-loop, shows-print, shows-assignment}
 use Rattle.lookup.specs.contracts.Shows.{shows-element-store, shows-port-put}
 use Rattle.lookup.specs.laws.ShowLaws.{shownS}
-use Rattle.writer.specs.declared.scope.Scope.{Scope}
+use Rattle.bodies.specs.declared.scope.Scope.{Scope}
 use Rattle.writer.specs.contracts.Scoping.{SlotPost}
 use Rattle.codegen.specs.contracts.Code as Code
 use Rattle.codegen.specs.contracts.Code.{save, jump, unless, storeElement, writeRegister}
 use Rattle.codegen.specs.contracts.Compile.{end, emit}
 use Rattle.writer.specs.contracts.Words.{words}
 use Rattle.writer.specs.laws.Lengths.{grows}
-use Rattle.writer.specs.contracts.Posts.{room, PutPost, NextPost, AtMost, WritePost, innerS, endS}
+use Rattle.writer.specs.contracts.Posts.{room, PutPost, NextPost, Bounded, WritePost, innerS, endS}
 use Rattle.writer.specs.contracts.Posts.{formTested, SaysS}
 use Rattle.writer.specs.contracts.Posts.{StatementPost, LoadPost, FollowedPost, PairPost, BranchesPost, OtherwisePost, BodyPost}
 use Rattle.writer.proofs.RowLaws.{positive-statement, fewerS}
@@ -32,7 +32,7 @@ use Rattle.writer.proofs.ExpressionLaws.{lexemes}
 -- PARTS AND AN INSTRUCTION
 
 module _ {tab names : List ℕ} {s : Scope} {left row at r : ℕ} {c c′ : List ℕ} where
-  pub assignment-wrote : {x v first : ℕ} → x ≡ wordAt tab 2 row → SlotPost tab names s x v → first ≡ wordAt tab 4 row
+  pub assignment-wrote : {x v first : ℕ} → x ≡ wordAt tab 2 row → SlotPost tab s x v → first ≡ wordAt tab 4 row
       → FollowedPost tab names s 3 v left first at c c′ r → StatementPost tab names s anAssignment left row at c c′ r
   assignment-wrote {x} {v} e₂ g e₄ f = record { within = f .within; says = go }
     where
@@ -156,7 +156,7 @@ opens G Γ (portPut p n e) = record { code = λ i k. refl; ends = λ i. refl }
 
 module _ {tab names : List ℕ} {s : Scope} {left row at : ℕ} {c : List ℕ} where
   pub statement-none : left ≡ 0 → at ≤ room → WritePost tab names s statement left row at c c at
-  statement-none z low = record { within = low; says = λ ts G Γ w t h. absurd (omega (arith, positive-statement t, h .within)) }
+  statement-none z low = record { within = low; says = λ ts G Γ w t h. absurd (omega (arith, positive-statement t, h .within .few)) }
 
   module _ (more : left ≡ 0 → ⊥) {k i : ℕ} {c₁ : List ℕ} (kind : k ≡ kindInTable tab (s .tokens) row)
       (p : PutPost at 0 (wordAt tab 3 row) 0 0 c c₁ i) {r : ℕ} {c₂ : List ℕ} where
@@ -166,8 +166,8 @@ module _ {tab names : List ℕ} {s : Scope} {left row at : ℕ} {c : List ℕ} w
         record {
           within = fits;
           says = λ ts G Γ w t h l.
-              let sh : ShowsS tab ts row (AtMost (left - 1)) F t
-              = shownS (lexemes w) row (AtMost left) (AtMost (left - 1)) (fewerS row left more)
+              let sh : ShowsS tab ts row (Bounded (s .tokens) (left - 1)) F t
+              = shownS (lexemes w) row (Bounded (s .tokens) left) (Bounded (s .tokens) (left - 1)) (fewerS (s .tokens) row left more)
               (ap (λ (j : ℕ). formS j (kindInTable tab (s .tokens) (row + 1))) (sym kind) ∙ form) t h in
               node-wrote (opens G Γ t) (positive-statement t) (starts sh) p l (f ts G Γ w t sh);
         }

@@ -32,8 +32,9 @@ fn of_class(
     if ABSENT <= first {
         return at;
     }
-    fill(table, names, n, classes, word(table, columns::NUMBER, row));
-    methods(table, names, code, entries, n, n, first, at)
+    let owner = word(table, columns::NUMBER, row);
+    fill(table, names, n, classes, owner);
+    methods(table, names, code, entries, n, classes, owner, n, first, at)
 }
 
 // The classes from a row on, of which at most `left` may come.

@@ -1,13 +1,15 @@
 // Expressions. `left` is how many nodes may still come; `at` is the place where the code begins, and the answer the place behind it.
 use crate::code::next;
 use crate::code::put;
-use crate::scope::Scope;
 use crate::scope::slot;
 use crate::sizes::SIZES;
+use bodies::scope::Scope;
 use codegen::numbers;
 use lexer::kinds;
+use lookup::answer::Judged;
 use lookup::member::count;
 use lookup::rows::word;
+use lookup::types::FIXED;
 use parser::columns;
 use parser::columns::ABSENT;
 use parser::kinds::is_atom;
@@ -17,11 +19,11 @@ ghost use lib.ListN.{length};
 ghost use Rattle.base.specs.Word.{modulus};
 ghost use Rattle.base.specs.Codes.{tableLeast};
 ghost use Rattle.parser.specs.Tree.{Sort};
-ghost use Rattle.reader.specs.contracts.WalkPost.{Walkable};
 ghost use Rattle.lookup.specs.contracts.HeldClasses.{wordAt};
 ghost use Rattle.lookup.specs.contracts.Shows.{Form, formAtom};
+ghost use Rattle.bodies.specs.contracts.Scoping.{Judgeable};
 ghost use Rattle.writer.specs.contracts.Posts.{room, Writable, PutPost, LoadPost, WritePost, ExpressionPost, CompoundPost};
-ghost use Rattle.writer.specs.contracts.Posts.{FollowedPost, PairPost, ConjunctionPost};
+ghost use Rattle.writer.specs.contracts.Posts.{FollowedPost, PairPost, ConjunctionPost, ScalesPost};
 
 // The mark before a node: the position where it begins.
 pub fn mark(table: &[u32], code: &mut [u32], row: usize, at: usize) -> usize
@@ -41,7 +43,7 @@ pub fn loaded(
     row: usize,
     at: usize,
 ) -> usize
-    requires { ⌜ Walkable (now table) (s .tokens) × (4096 ≤ length (now names)) × (at ≤ room) ⌝ }
+    requires { ⌜ Judgeable (now table) (now names) s × (at ≤ room) ⌝ }
     ensures { λ r. ⌜ LoadPost (now (table .entry)) (now (names .entry)) s row at (now (code .entry)) (now (code .exit)) r ⌝ }
 {
     let v = slot(table, names, s, word(table, columns::NUMBER, row));
@@ -59,11 +61,15 @@ fn atom(
     row: usize,
     at: usize,
 ) -> usize
-    requires { ⌜ Writable (now table) (now names) (s .tokens) left row at ⌝ }
+    requires { ⌜ Writable (now table) (now names) s left row at ⌝ }
     ensures { λ r. ⌜ ExpressionPost (now (table .entry)) (now (names .entry)) s (formAtom k) left row at (now (code .entry))
         (now (code .exit)) r ⌝ }
 {
     if k == kinds::LITERAL {
+        let value = word(table, columns::NUMBER, row);
+        return put(code, at, numbers::PUSH, value, 0, 0);
+    }
+    if k == kinds::FIXED_LITERAL {
         let value = word(table, columns::NUMBER, row);
         return put(code, at, numbers::PUSH, value, 0, 0);
     }
@@ -89,7 +95,7 @@ fn creation(
     row: usize,
     at: usize,
 ) -> usize
-    requires { ⌜ Writable (now table) (now names) (s .tokens) left row at ⌝ }
+    requires { ⌜ Writable (now table) (now names) s left row at ⌝ }
     ensures { λ r. ⌜ ExpressionPost (now (table .entry)) (now (names .entry)) s Form.aNewObject left row at (now (code .entry))
         (now (code .exit)) r ⌝ }
 {
@@ -102,6 +108,25 @@ fn creation(
     at
 }
 
+// Whether an operator of kind k is the `*` of thousandths: the type of its left operand, which stands in a row, tells.
+fn scales(table: &[u32], names: &[u32], s: Scope, k: u32, row: usize) -> bool
+    requires { ⌜ Judgeable (now table) (now names) s ⌝ }
+    ensures { λ r. ⌜ ScalesPost (now (table .entry)) s k row r ⌝ }
+{
+    if k == kinds::TIMES {
+        let e = bodies::expr::expression(table, names, s, 0, s.tokens, row);
+        match e {
+            Judged::Fine(t) => {
+                return t == FIXED;
+            }
+            Judged::Refused(_, _) => {
+                return false;
+            }
+        }
+    }
+    false
+}
+
 // An expression.
 pub fn expression(
     table: &[u32],
@@ -112,7 +137,7 @@ pub fn expression(
     row: usize,
     at: usize,
 ) -> usize
-    requires { ⌜ Writable (now table) (now names) (s .tokens) left row at ⌝ }
+    requires { ⌜ Writable (now table) (now names) s left row at ⌝ }
     ensures { λ r. ⌜ WritePost (now (table .entry)) (now (names .entry)) s Sort.expression left row at (now (code .entry))
         (now (code .exit)) r ⌝ }
 {
@@ -138,7 +163,7 @@ fn compound(
     row: usize,
     at: usize,
 ) -> usize
-    requires { ⌜ Writable (now table) (now names) (s .tokens) left row at ⌝ }
+    requires { ⌜ Writable (now table) (now names) s left row at ⌝ }
     ensures { λ r. ⌜ CompoundPost (now (table .entry)) (now (names .entry)) s k left row at (now (code .entry)) (now (code .exit)) r ⌝ }
 {
     if k == kinds::NEW {
@@ -176,13 +201,17 @@ fn binary(
     row: usize,
     at: usize,
 ) -> usize
-    requires { ⌜ Writable (now table) (now names) (s .tokens) left row at ⌝ }
+    requires { ⌜ Writable (now table) (now names) s left row at ⌝ }
     ensures { λ r. ⌜ ExpressionPost (now (table .entry)) (now (names .entry)) s Form.aBinary left row at (now (code .entry))
         (now (code .exit)) r ⌝ }
 {
     let k = kind(table, s.tokens, row);
     if k == kinds::AND {
         return conjunction(table, names, code, s, left, row, at);
+    }
+    let first = word(table, columns::FIRST, row);
+    if scales(table, names, s, k, first) {
+        return pair(table, names, code, s, numbers::SCALE, 0, left, row, at);
     }
     let operator = k as usize;
     pair(
@@ -210,7 +239,7 @@ pub fn followed(
     row: usize,
     at: usize,
 ) -> usize
-    requires { ⌜ Writable (now table) (now names) (s .tokens) left row at × (op < modulus) × (arg < modulus) ⌝ }
+    requires { ⌜ Writable (now table) (now names) s left row at × (op < modulus) × (arg < modulus) ⌝ }
     ensures { λ r. ⌜ FollowedPost (now (table .entry)) (now (names .entry)) s op arg left row at (now (code .entry))
         (now (code .exit)) r ⌝ }
 {
@@ -229,7 +258,7 @@ pub fn located(
     row: usize,
     at: usize,
 ) -> usize
-    requires { ⌜ Writable (now table) (now names) (s .tokens) left row at × (op < modulus) ⌝ }
+    requires { ⌜ Writable (now table) (now names) s left row at × (op < modulus) ⌝ }
     ensures { λ r. ⌜ FollowedPost (now (table .entry)) (now (names .entry)) s op (wordAt (now (table .entry)) 3 row) left
         (wordAt (now (table .entry)) 4 row) at (now (code .entry)) (now (code .exit)) r ⌝ }
 {
@@ -250,7 +279,7 @@ fn pair(
     row: usize,
     at: usize,
 ) -> usize
-    requires { ⌜ Writable (now table) (now names) (s .tokens) left row at × (op < modulus) × (arg < modulus) ⌝ }
+    requires { ⌜ Writable (now table) (now names) s left row at × (op < modulus) × (arg < modulus) ⌝ }
     ensures { λ r. ⌜ PairPost (now (table .entry)) (now (names .entry)) s op arg left row at (now (code .entry)) (now (code .exit)) r ⌝ }
 {
     let first = word(table, columns::FIRST, row);
@@ -270,7 +299,7 @@ pub fn located_pair(
     row: usize,
     at: usize,
 ) -> usize
-    requires { ⌜ Writable (now table) (now names) (s .tokens) left row at × (op < modulus) ⌝ }
+    requires { ⌜ Writable (now table) (now names) s left row at × (op < modulus) ⌝ }
     ensures { λ r. ⌜ PairPost (now (table .entry)) (now (names .entry)) s op (wordAt (now (table .entry)) 3 row) left row at
         (now (code .entry)) (now (code .exit)) r ⌝ }
 {
@@ -288,7 +317,7 @@ fn conjunction(
     row: usize,
     at: usize,
 ) -> usize
-    requires { ⌜ Writable (now table) (now names) (s .tokens) left row at ⌝ }
+    requires { ⌜ Writable (now table) (now names) s left row at ⌝ }
     ensures { λ r. ⌜ ConjunctionPost (now (table .entry)) (now (names .entry)) s left row at (now (code .entry)) (now (code .exit)) r ⌝ }
 {
     let first = word(table, columns::FIRST, row);
@@ -309,7 +338,7 @@ fn call(
     row: usize,
     at: usize,
 ) -> usize
-    requires { ⌜ Writable (now table) (now names) (s .tokens) left row at ⌝ }
+    requires { ⌜ Writable (now table) (now names) s left row at ⌝ }
     ensures { λ r. ⌜ ExpressionPost (now (table .entry)) (now (names .entry)) s Form.aCall left row at (now (code .entry))
         (now (code .exit)) r ⌝ }
 {
@@ -339,7 +368,7 @@ fn arguments(
     row: usize,
     at: usize,
 ) -> usize
-    requires { ⌜ Writable (now table) (now names) (s .tokens) left row at ⌝ }
+    requires { ⌜ Writable (now table) (now names) s left row at ⌝ }
     ensures { λ r. ⌜ WritePost (now (table .entry)) (now (names .entry)) s Sort.arguments left row at (now (code .entry))
         (now (code .exit)) r ⌝ }
 {

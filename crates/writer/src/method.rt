@@ -1,8 +1,8 @@
 // Methods: the body, the value, the return; and where each method's code begins, in an array by the row of its name.
 use crate::code::put;
 use crate::expr::expression;
-use crate::scope::Scope;
 use crate::stmt::list;
+use bodies::scope::Scope;
 use codegen::numbers;
 use lookup::rows::word;
 use parser::columns;
@@ -12,19 +12,32 @@ ghost use Prim.Native.Nat.{_≤_, _<_};
 ghost use lib.ListN.{length, set};
 ghost use Rattle.base.specs.contracts.Table.{rows};
 ghost use Rattle.reader.specs.contracts.WalkPost.{Walkable};
+ghost use Rattle.lookup.specs.contracts.Fields.{FieldsHeld};
 ghost use Rattle.writer.specs.contracts.Methods.{MethodPost, MethodsPost};
 ghost use Rattle.writer.specs.contracts.Posts.{room};
 ghost use Rattle.writer.specs.contracts.Sizing.{namesLeast};
 
-// The method whose name stands in this row.
-fn method(table: &[u32], names: &[u32], code: &mut [u32], n: usize, row: usize, at: usize) -> usize
-    requires { ⌜ Walkable (now table) n × (namesLeast ≤ length (now names)) × (at ≤ room) × (row < rows) ⌝ }
-    ensures { λ r. ⌜ MethodPost (now (table .entry)) (now (names .entry)) n row at (now (code .entry)) (now (code .exit)) r ⌝ }
+// The method whose name stands in this row, in the class whose name has the number `owner`.
+fn method(
+    table: &[u32],
+    names: &[u32],
+    code: &mut [u32],
+    n: usize,
+    classes: usize,
+    owner: usize,
+    row: usize,
+    at: usize,
+) -> usize
+    requires { ⌜ Walkable (now table) n × (namesLeast ≤ length (now names)) × FieldsHeld (now table) n classes owner (now names)
+        × (at ≤ room) × (row < rows) ⌝ }
+    ensures { λ r. ⌜ MethodPost (now (table .entry)) (now (names .entry)) n classes owner row at (now (code .entry)) (now (code .exit)) r ⌝ }
 {
     let parameters = word(table, columns::PARAMETERS, row);
     let locals = word(table, columns::LOCALS, row);
     let s = Scope {
         tokens: n,
+        classes,
+        owner,
         parameters,
         locals,
     };
@@ -50,12 +63,15 @@ pub fn methods(
     code: &mut [u32],
     entries: &mut [u32],
     n: usize,
+    classes: usize,
+    owner: usize,
     left: usize,
     row: usize,
     at: usize,
 ) -> usize
-    requires { ⌜ Walkable (now table) n × (namesLeast ≤ length (now names)) × (rows ≤ length (now entries)) × (at ≤ room) ⌝ }
-    ensures { λ r. ⌜ MethodsPost (now (table .entry)) (now (names .entry)) n left row at (now (code .entry)) (now (code .exit))
+    requires { ⌜ Walkable (now table) n × (namesLeast ≤ length (now names)) × FieldsHeld (now table) n classes owner (now names)
+        × (rows ≤ length (now entries)) × (at ≤ room) ⌝ }
+    ensures { λ r. ⌜ MethodsPost (now (table .entry)) (now (names .entry)) n classes owner left row at (now (code .entry)) (now (code .exit))
         (now (entries .entry)) (now (entries .exit)) r ⌝ }
 {
     if left == 0 {
@@ -65,7 +81,18 @@ pub fn methods(
         return at;
     }
     enter(entries, row, at);
-    let a = method(table, names, code, n, row, at);
+    let a = method(table, names, code, n, classes, owner, row, at);
     let rest = word(table, columns::NEXT, row);
-    methods(table, names, code, entries, n, left - 1, rest, a)
+    methods(
+        table,
+        names,
+        code,
+        entries,
+        n,
+        classes,
+        owner,
+        left - 1,
+        rest,
+        a,
+    )
 }

@@ -1,10 +1,10 @@
 // A program: main's statement, the end, and the classes.
 use crate::classes::each;
 use crate::code::put;
-use crate::scope::Scope;
 use crate::sizes::sizes;
 use crate::stmt::single;
 use base::fill::zero_words;
+use bodies::scope::Scope;
 use codegen::numbers;
 use lookup::fields::fill;
 use lookup::rows::word;
@@ -14,6 +14,8 @@ ghost use Prim.Native.Nat.{_≤_};
 ghost use lib.ListN.{length};
 ghost use Rattle.base.specs.contracts.Table.{rows};
 ghost use Rattle.reader.specs.contracts.WalkPost.{Walkable};
+ghost use Rattle.parser.specs.contracts.Layout.{absent};
+ghost use Rattle.lookup.specs.contracts.Fields.{FieldsHeld};
 ghost use Rattle.writer.specs.contracts.Writing.{BeginPost, MainPost, Writes};
 ghost use Rattle.writer.specs.contracts.Sizing.{namesLeast};
 
@@ -28,12 +30,14 @@ fn begin(table: &[u32], names: &mut [u32], n: usize, classes: usize, first: usiz
 }
 
 // Main's statement, which stands in row 14 and sees no names, and the end.
-fn main_code(table: &[u32], names: &[u32], code: &mut [u32], n: usize) -> usize
-    requires { ⌜ Walkable (now table) n × (namesLeast ≤ length (now names)) ⌝ }
-    ensures { λ r. ⌜ MainPost (now (table .entry)) (now (names .entry)) n (now (code .entry)) (now (code .exit)) r ⌝ }
+fn main_code(table: &[u32], names: &[u32], code: &mut [u32], n: usize, classes: usize) -> usize
+    requires { ⌜ Walkable (now table) n × (namesLeast ≤ length (now names)) × FieldsHeld (now table) n classes absent (now names) ⌝ }
+    ensures { λ r. ⌜ MainPost (now (table .entry)) (now (names .entry)) n classes (now (code .entry)) (now (code .exit)) r ⌝ }
 {
     let s = Scope {
         tokens: n,
+        classes,
+        owner: ABSENT,
         parameters: ABSENT,
         locals: ABSENT,
     };
@@ -57,6 +61,6 @@ pub fn write(
 {
     let first = word(table, columns::NEXT, columns::CLASS_LIST);
     begin(table, names, n, classes, first);
-    let a = main_code(table, names, code, n);
+    let a = main_code(table, names, code, n, classes);
     each(table, names, code, entries, n, classes, n, first, a);
 }

@@ -7,8 +7,8 @@ use crate::expr::loaded;
 use crate::expr::located;
 use crate::expr::located_pair;
 use crate::expr::mark;
-use crate::scope::Scope;
 use crate::scope::slot;
+use bodies::scope::Scope;
 use codegen::numbers;
 use lexer::kinds;
 use lookup::rows::word;
@@ -31,7 +31,7 @@ fn assigned(
     row: usize,
     at: usize,
 ) -> usize
-    requires { ⌜ Writable (now table) (now names) (s .tokens) left row at ⌝ }
+    requires { ⌜ Writable (now table) (now names) s left row at ⌝ }
     ensures { λ r. ⌜ StatementPost (now (table .entry)) (now (names .entry)) s Form.anAssignment left row at (now (code .entry))
         (now (code .exit)) r ⌝ }
 {
@@ -50,7 +50,7 @@ fn element(
     row: usize,
     at: usize,
 ) -> usize
-    requires { ⌜ Writable (now table) (now names) (s .tokens) left row at ⌝ }
+    requires { ⌜ Writable (now table) (now names) s left row at ⌝ }
     ensures { λ r. ⌜ StatementPost (now (table .entry)) (now (names .entry)) s Form.anElementStore left row at (now (code .entry))
         (now (code .exit)) r ⌝ }
 {
@@ -68,7 +68,7 @@ pub fn single(
     row: usize,
     at: usize,
 ) -> usize
-    requires { ⌜ Writable (now table) (now names) (s .tokens) left row at ⌝ }
+    requires { ⌜ Writable (now table) (now names) s left row at ⌝ }
     ensures { λ r. ⌜ WritePost (now (table .entry)) (now (names .entry)) s Sort.statement left row at (now (code .entry))
         (now (code .exit)) r ⌝ }
 {
@@ -111,7 +111,7 @@ fn tested(
     row: usize,
     at: usize,
 ) -> usize
-    requires { ⌜ Writable (now table) (now names) (s .tokens) left row at ⌝ }
+    requires { ⌜ Writable (now table) (now names) s left row at ⌝ }
     ensures { λ r. ⌜ StatementPost (now (table .entry)) (now (names .entry)) s (formTested k) left row at (now (code .entry))
         (now (code .exit)) r ⌝ }
 {
@@ -133,7 +133,7 @@ fn branches(
     row: usize,
     at: usize,
 ) -> usize
-    requires { ⌜ Writable (now table) (now names) (s .tokens) left row at ⌝ }
+    requires { ⌜ Writable (now table) (now names) s left row at ⌝ }
     ensures { λ r. ⌜ BranchesPost (now (table .entry)) (now (names .entry)) s left row at (now (code .entry)) (now (code .exit)) r ⌝ }
 {
     let second = word(table, columns::SECOND, row);
@@ -153,7 +153,7 @@ fn otherwise(
     row: usize,
     at: usize,
 ) -> usize
-    requires { ⌜ Writable (now table) (now names) (s .tokens) left row at ⌝ }
+    requires { ⌜ Writable (now table) (now names) s left row at ⌝ }
     ensures { λ r. ⌜ OtherwisePost (now (table .entry)) (now (names .entry)) s left row at (now (code .entry)) (now (code .exit)) r ⌝ }
 {
     let third = word(table, columns::THIRD, row);
@@ -173,7 +173,7 @@ fn body(
     top: usize,
     at: usize,
 ) -> usize
-    requires { ⌜ Writable (now table) (now names) (s .tokens) left row at × (top ≤ room) ⌝ }
+    requires { ⌜ Writable (now table) (now names) s left row at × (top ≤ room) ⌝ }
     ensures { λ r. ⌜ BodyPost (now (table .entry)) (now (names .entry)) s left row top at (now (code .entry)) (now (code .exit)) r ⌝ }
 {
     let second = word(table, columns::SECOND, row);
@@ -193,7 +193,7 @@ pub fn list(
     row: usize,
     at: usize,
 ) -> usize
-    requires { ⌜ Writable (now table) (now names) (s .tokens) left row at ⌝ }
+    requires { ⌜ Writable (now table) (now names) s left row at ⌝ }
     ensures { λ r. ⌜ WritePost (now (table .entry)) (now (names .entry)) s Sort.statements left row at (now (code .entry))
         (now (code .exit)) r ⌝ }
 {

@@ -10,6 +10,7 @@ type Judged<T> = Result<T, Refusal>;
 
 const INT: Type = Type { element: Element::Int, is_array: false };
 const BOOLEAN: Type = Type { element: Element::Boolean, is_array: false };
+const FIXED: Type = Type { element: Element::Fixed, is_array: false };
 
 fn class_type(name: &str) -> Type {
     Type { element: Element::Class(name.to_owned()), is_array: false }
@@ -194,6 +195,14 @@ impl Body<'_> {
         }
     }
 
+    /// A part that must be int or fixed: which of the two it is.
+    fn number(&self, e: &Expr) -> Judged<Type> {
+        match self.expr(e)? {
+            ty if ty == INT || ty == FIXED => Ok(ty),
+            _ => refuse(31, e.at),
+        }
+    }
+
     /// A part that must be an array: the type of its elements.
     fn array(&self, ty: Type, at: usize) -> Judged<Type> {
         if ty.is_array {
@@ -206,6 +215,7 @@ impl Body<'_> {
     fn expr(&self, e: &Expr) -> Judged<Type> {
         match &e.kind {
             ExprKind::Literal(_) => Ok(INT),
+            ExprKind::FixedLiteral(_) => Ok(FIXED),
             ExprKind::Truth(_) => Ok(BOOLEAN),
             ExprKind::Name(name) => self.variable(name, e.at),
             ExprKind::This => self.class.map_or(refuse(34, e.at), |c| Ok(class_type(&c.id.name))),
@@ -224,15 +234,15 @@ impl Body<'_> {
                 self.part(part, &BOOLEAN)?;
                 Ok(BOOLEAN)
             }
+            ExprKind::Binary(Operator::And, left, right) => {
+                self.part(left, &BOOLEAN)?;
+                self.part(right, &BOOLEAN)?;
+                Ok(BOOLEAN)
+            }
             ExprKind::Binary(operator, left, right) => {
-                let (taken, given) = match operator {
-                    Operator::And => (BOOLEAN, BOOLEAN),
-                    Operator::Less => (INT, BOOLEAN),
-                    _ => (INT, INT),
-                };
-                self.part(left, &taken)?;
+                let taken = self.number(left)?;
                 self.part(right, &taken)?;
-                Ok(given)
+                Ok(if *operator == Operator::Less { BOOLEAN } else { taken })
             }
             ExprKind::Index(array, index) => {
                 let element = self.array(self.expr(array)?, array.at)?;
@@ -281,7 +291,7 @@ impl Body<'_> {
                 self.part(test, &BOOLEAN)?;
                 self.statement(body)
             }
-            StmtKind::Print(e) => self.part(e, &INT),
+            StmtKind::Print(e) => self.number(e).map(drop),
             StmtKind::Assign(name, value) => {
                 let ty = self.variable(name, s.at)?;
                 self.part(value, &ty)

@@ -10,11 +10,19 @@ const VARIABLES_MOST: usize = 32;
 const NAME_MOST: usize = 255;
 
 /// What an edit may put in: words and marks of the language, and what is none.
-const PIECES: [&str; 62] = [
+const PIECES: [&str; 65] = [
     "class", "extends", "public", "static", "void", "main", "String", "return", "if", "else", "while", "System", "out", "println", "length", "new", "this", "true", "false", "int",
     "boolean", "Port", "get", "put", "&&", "<", "+", "-", "*", "!", "=", ".", ",", ";", "(", ")", "[", "]", "{", "}", "a", "b", "C0", "C1", "Main", "x1", "0", "1", "00", "007",
-    "2147483647", "2147483648", "99999999999999999999", "#", "&", "/", "/*", "*/", "//", "_", "\u{b}", "\u{e4}",
+    "2147483647", "2147483648", "99999999999999999999", "fixed", "1.500", "1.5", "#", "&", "/", "/*", "*/", "//", "_", "\u{b}", "\u{e4}",
 ];
+
+/// Literals of both types, and what comes near to one.
+const LITERALS: [&str; 20] = [
+    "0", "1", "2147483647", "2147483648", "00", "007", "0.000", "1.500", "2147483.647", "2147483.648", "01.500", "00.5", "1.5", "1.5000", "2147483648.5", "1.", "1.length",
+    "1.500.500", "1 .500", "99999999999999999999.999",
+];
+
+const TYPE_WORDS: [&str; 3] = ["int", "boolean", "fixed"];
 
 /// The pieces of a lesson: a token each, with what stands before it, and what stands at the end.
 fn pieces(lesson: &[u8]) -> Vec<Vec<u8>> {
@@ -79,6 +87,24 @@ fn rename(random: &mut Random, lesson: &[u8]) -> Vec<u8> {
     let (at, name) = random.pick(&names);
     let with = if random.once_in(6) { "unknown" } else { random.pick(&names).1 };
     [&lesson[..at], with.as_bytes(), &lesson[at + name.len()..]].concat()
+}
+
+/// A literal is put in the place of another, or the word of a type in that of another.
+fn exchange(random: &mut Random, lesson: &[u8]) -> Vec<u8> {
+    let tokens = lexer::tokens(lesson).unwrap_or_default();
+    let places: Vec<(usize, usize, &[&str])> = tokens
+        .iter()
+        .filter_map(|t| match &t.kind {
+            lexer::Kind::Literal(_) | lexer::Kind::FixedLiteral(_) => Some((t.at, lexer::literal_length(&lesson[t.at..]), &LITERALS[..])),
+            lexer::Kind::Word(word) if TYPE_WORDS.contains(word) => Some((t.at, word.len(), &TYPE_WORDS[..])),
+            _ => None,
+        })
+        .collect();
+    if places.is_empty() {
+        return lesson.to_vec();
+    }
+    let (at, length, others) = random.pick(&places);
+    [&lesson[..at], random.pick(others).as_bytes(), &lesson[at + length..]].concat()
 }
 
 /// Puts text in at some occurrence of a piece of text, where there is one.
@@ -172,12 +198,13 @@ pub fn damaged(random: &mut Random, lesson: &[u8]) -> Vec<u8> {
     }
     let mut made = lesson.to_vec();
     for _ in 0..1 + random.below(2) {
-        made = match random.below(12) {
+        made = match random.below(14) {
             0..=3 => edit_pieces(random, &made),
             4..=6 => rename(random, &made),
             7 => at_a_bound(random, &made),
             8 | 9 => edit_classes(random, &made),
             10 => overwrite(random, &made),
+            11 | 12 => exchange(random, &made),
             _ => spread(random, &made),
         };
     }

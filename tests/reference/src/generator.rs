@@ -6,6 +6,7 @@ use crate::random::Random;
 enum Element {
     Int,
     Boolean,
+    Fixed,
     Class(usize),
 }
 
@@ -17,6 +18,7 @@ struct Type {
 
 const INT: Type = Type { element: Element::Int, is_array: false };
 const BOOLEAN: Type = Type { element: Element::Boolean, is_array: false };
+const FIXED: Type = Type { element: Element::Fixed, is_array: false };
 
 fn object(class: usize) -> Type {
     Type { element: Element::Class(class), is_array: false }
@@ -61,9 +63,15 @@ pub struct Generator<'a> {
 /// Few names, so that fields are hidden, methods redeclared, and names shared by fields, methods, locals and classes.
 const NAMES: [&str; 8] = ["a", "b", "out", "get", "x1", "length_", "println", "put"];
 const LITERALS: [&str; 14] = ["0", "1", "2", "3", "7", "15", "16", "99", "255", "256", "46341", "65536", "2147483647", "1000000007"];
+const FIXED_LITERALS: [&str; 12] = ["0.000", "0.001", "0.002", "0.500", "0.999", "1.000", "1.001", "1.500", "12.600", "46.341", "1465.000", "2147483.647"];
 
 impl Generator<'_> {
     fn ty(&mut self) -> Type {
+        if self.random.once_in(6) { FIXED } else { self.storable() }
+    }
+
+    /// A type that the grammar gives arrays of, or such an array.
+    fn storable(&mut self) -> Type {
         let element = match self.random.below(4) {
             0 if !self.shapes.is_empty() => Element::Class(self.random.below(self.shapes.len())),
             1 => Element::Boolean,
@@ -72,10 +80,16 @@ impl Generator<'_> {
         Type { element, is_array: self.random.once_in(4) }
     }
 
+    /// The type of something that is printed, compared or calculated with.
+    fn number_type(&mut self) -> Type {
+        if self.random.once_in(4) { FIXED } else { INT }
+    }
+
     fn type_text(&self, ty: Type) -> String {
         let element = match ty.element {
             Element::Int => "int",
             Element::Boolean => "boolean",
+            Element::Fixed => "fixed",
             Element::Class(k) => &self.shapes[k].name,
         };
         format!("{}{}", element, if ty.is_array { "[]" } else { "" })
@@ -183,7 +197,7 @@ impl Generator<'_> {
                 return self.random.pick(&fitting);
             }
         }
-        if depth > 0 && !wanted.is_array && self.random.once_in(6) {
+        if depth > 0 && !wanted.is_array && wanted != FIXED && self.random.once_in(6) {
             let array = Type { is_array: true, ..wanted };
             let whole = self.expr(scope, array, depth - 1);
             let index = self.expr(scope, INT, depth - 1);
@@ -197,6 +211,7 @@ impl Generator<'_> {
             }
             INT => self.integer(scope, depth),
             BOOLEAN => self.boolean(scope, depth),
+            FIXED => self.fixed(scope, depth),
             Type { element: Element::Class(class), .. } => match scope.class {
                 Some(own) if self.fits(object(own), wanted) && self.random.once_in(2) => "this".to_owned(),
                 _ => {
@@ -213,17 +228,27 @@ impl Generator<'_> {
         }
         match self.random.below(10) {
             0 => {
-                let array = Type { is_array: true, ..self.ty() };
+                let array = Type { is_array: true, ..self.storable() };
                 format!("{}.length", self.expr(scope, array, depth - 1))
             }
             1 => format!("Port.get({})", self.register(scope, depth - 1)),
-            k => {
-                let left = self.expr(scope, INT, depth - 1);
-                let right = self.expr(scope, INT, depth - 1);
-                let mark = ["+", "-", "*"][k % 3];
-                if self.random.once_in(3) { format!("{}{}({})", left, mark, right) } else { format!("({}){}{}", left, mark, right) }
-            }
+            _ => self.calculation(scope, INT, depth),
         }
+    }
+
+    fn fixed(&mut self, scope: &Scope, depth: usize) -> String {
+        if depth == 0 || self.random.once_in(4) {
+            return self.random.pick(&FIXED_LITERALS).to_owned();
+        }
+        self.calculation(scope, FIXED, depth)
+    }
+
+    /// A sum, difference or product of a type.
+    fn calculation(&mut self, scope: &Scope, ty: Type, depth: usize) -> String {
+        let left = self.expr(scope, ty, depth - 1);
+        let right = self.expr(scope, ty, depth - 1);
+        let mark = self.random.pick(&["+", "-", "*"]);
+        if self.random.once_in(3) { format!("{}{}({})", left, mark, right) } else { format!("({}){}{}", left, mark, right) }
     }
 
     /// Mostly one of the registers that do something.
@@ -242,8 +267,9 @@ impl Generator<'_> {
             0 => format!("!{}", self.expr(scope, BOOLEAN, 0)),
             1 => format!("({})&&{}", self.expr(scope, BOOLEAN, depth - 1), self.expr(scope, BOOLEAN, 0)),
             _ => {
-                let left = self.expr(scope, INT, depth - 1);
-                format!("({})<({})", left, self.expr(scope, INT, depth - 1))
+                let ty = self.number_type();
+                let left = self.expr(scope, ty, depth - 1);
+                format!("({})<({})", left, self.expr(scope, ty, depth - 1))
             }
         }
     }
@@ -273,7 +299,10 @@ impl Generator<'_> {
     fn statement(&mut self, scope: &mut Scope, depth: usize) -> String {
         let names = self.names(scope);
         match self.random.below(if depth > 0 { 10 } else { 6 }) {
-            0 | 1 => format!("System.out.println({});", self.expr(scope, INT, self.size.depth)),
+            0 | 1 => {
+                let ty = self.number_type();
+                format!("System.out.println({});", self.expr(scope, ty, self.size.depth))
+            }
             2 => {
                 let register = self.register(scope, 1);
                 let value = if self.random.once_in(6) { self.expr(scope, INT, 1) } else { self.random.below(256).to_string() };

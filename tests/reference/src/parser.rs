@@ -40,7 +40,7 @@ impl Parser<'_> {
     }
 
     fn is_ahead(&self, distance: usize, word: &str) -> bool {
-        matches!(self.tokens.get(self.next + distance), Some(Token { kind: Kind::Fixed(w), .. }) if *w == word)
+        matches!(self.tokens.get(self.next + distance), Some(Token { kind: Kind::Word(w), .. }) if *w == word)
     }
 
     fn is_name_ahead(&self, distance: usize) -> bool {
@@ -104,7 +104,7 @@ impl Parser<'_> {
         let parent = if self.take("extends") { Some(self.id()?) } else { None };
         self.expect(&["{"])?;
         let mut fields = Vec::new();
-        while self.is("int") || self.is("boolean") || self.is_name_ahead(0) {
+        while self.is_type_word() || self.is_name_ahead(0) {
             fields.push(self.variable()?);
             self.expect(&[";"])?;
         }
@@ -116,8 +116,15 @@ impl Parser<'_> {
         Ok(Class { id, parent, fields, methods })
     }
 
+    fn is_type_word(&self) -> bool {
+        self.is("int") || self.is("boolean") || self.is("fixed")
+    }
+
     fn ty(&mut self) -> Result<(Type, usize), Refusal> {
         let at = self.at();
+        if self.take("fixed") {
+            return Ok((Type { element: Element::Fixed, is_array: false }, at));
+        }
         let element = if self.take("int") {
             Element::Int
         } else if self.take("boolean") {
@@ -141,7 +148,7 @@ impl Parser<'_> {
     /// Whether a declaration of a local stands here: a name begins one where a name or `[]` follows. Where the lesson ends after the `[`, either could follow.
     fn is_local(&self) -> bool {
         let is_after_name = self.is_name_ahead(0) && (self.is_name_ahead(1) || (self.is_ahead(1, "[") && self.is_ahead(2, "]")));
-        self.is("int") || self.is("boolean") || is_after_name
+        self.is_type_word() || is_after_name
     }
 
     fn method(&mut self) -> Result<Method, Refusal> {
@@ -318,12 +325,21 @@ impl Parser<'_> {
         if self.take("this") {
             return Ok(plain(at, ExprKind::This));
         }
-        if let Some(Token { kind: Kind::Literal(value), .. }) = self.tokens.get(self.next) {
+        if let Some(literal) = self.literal() {
             self.next += 1;
-            return Ok(plain(at, ExprKind::Literal(*value)));
+            return Ok(plain(at, literal));
         }
         let id = self.id()?;
         Ok(plain(at, ExprKind::Name(id.name)))
+    }
+
+    /// The literal that stands here, if one does.
+    fn literal(&self) -> Option<ExprKind> {
+        match self.tokens.get(self.next)?.kind {
+            Kind::Literal(value) => Some(ExprKind::Literal(value)),
+            Kind::FixedLiteral(count) => Some(ExprKind::FixedLiteral(count)),
+            _ => None,
+        }
     }
 
     fn creation(&mut self, at: usize) -> Result<Parsed, Refusal> {

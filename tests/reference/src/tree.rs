@@ -6,6 +6,8 @@ pub type Name = String;
 pub enum Element {
     Int,
     Boolean,
+    /// The grammar gives no array of it.
+    Fixed,
     Class(Name),
 }
 
@@ -48,6 +50,8 @@ pub struct Expr {
 #[derive(Clone, Debug)]
 pub enum ExprKind {
     Literal(i32),
+    /// A count of thousandths.
+    FixedLiteral(i32),
     Truth(bool),
     Name(Name),
     This,
@@ -134,7 +138,7 @@ impl Measure {
     fn expr(&mut self, e: &Expr, depth: usize) {
         self.node(e.at, depth);
         match &e.kind {
-            ExprKind::Literal(_) | ExprKind::Truth(_) | ExprKind::Name(_) | ExprKind::This | ExprKind::NewObject(_) => {}
+            ExprKind::Literal(_) | ExprKind::FixedLiteral(_) | ExprKind::Truth(_) | ExprKind::Name(_) | ExprKind::This | ExprKind::NewObject(_) => {}
             ExprKind::NewArray { size: a, .. } | ExprKind::Not(a) | ExprKind::Length(a) | ExprKind::Get(a) => self.expr(a, depth + 1),
             ExprKind::Binary(_, a, b) | ExprKind::Index(a, b) => {
                 self.expr(a, depth + 1);

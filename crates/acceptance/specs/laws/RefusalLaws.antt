@@ -12,8 +12,9 @@ use Rattle.base.specs.Choice.{if_then_else_, option}
 use Rattle.base.specs.Codes.{sourceMost, tokensMost, variablesMost}
 use Rattle.base.specs.Outcome.{Outcome, accepted, refused, _>>=_}
 use Rattle.base.specs.laws.Tests.{if-both}
-use Rattle.lexer.specs.Tokens.{Token, Item, gap, unclosed, nothing, token, item, tooLong, zeroFirst, tooLarge, turn, tokensFrom, tokens}
-use Rattle.parser.specs.Tree.{Element, Element.int, Element.boolean, Element.class, Ty, Ty.plain, Ty.arrayOf}
+use Rattle.lexer.specs.Tokens.{Token, Item, gap, unclosed, nothing, token, item, tooLong, zeroFirst, notThree, tooLarge, turn}
+use Rattle.lexer.specs.Tokens.{tokensFrom, tokens}
+use Rattle.parser.specs.Tree.{Element, Element.int, Element.boolean, Element.fixed, Element.class, Ty, Ty.plain, Ty.arrayOf}
 use Rattle.parser.specs.Tree.{Name, TypeUse, Sort, Part, Expression, Variable, Method, Class, Program, Place, placeE}
 use Rattle.parser.specs.Tree.{Sort.expression, Sort.arguments, Sort.statement, Sort.statements}
 use Rattle.parser.specs.Tree.{Part.literal, Part.truth, Part.variable, Part.this, Part.newArray, Part.newObject, Part.negation, Part.binary, Part.element, Part.arrayLength, Part.call, Part.portGet, Part.noArguments, Part.argument}
@@ -23,10 +24,11 @@ use Rattle.parser.specs.Measure.{programDeep}
 use Rattle.parser.specs.Read.{grammatical, shallow, reading}
 use Rattle.typesystem.specs.ClassTable.{Context, Found, mainContext, contextOf, classNamed, endsWithin, underlying, known, fits, chain, nearestMethod, methodOf, meaning, occurs, textOf}
 use Rattle.typesystem.specs.Declarations.{distinctClasses, knownParent, knownParents, endingChains, knownType, fields, variables, redeclares, redeclaration, newMethod, heads, declarations}
-use Rattle.typesystem.specs.Operators.{operation}
+use Rattle.typesystem.specs.Operators.{operation, printable}
 use Rattle.typesystem.specs.Judge.{Judgement, arity, must, receiver, nextParameter, invocation, lookUp, ofArray, judge}
 use Rattle.typesystem.specs.Check.{body, bodies, classBodies, allBodies, judged, checking}
-use Rattle.acceptance.specs.Numbers.{ReadRefusal, source-too-long, no-token, comment-not-closed, name-too-long, literal-too-large, too-many-tokens, not-in-grammar, too-deep, leading-zero}
+use Rattle.acceptance.specs.Numbers.{ReadRefusal, source-too-long, no-token, comment-not-closed, name-too-long, literal-too-large}
+use Rattle.acceptance.specs.Numbers.{too-many-tokens, not-in-grammar, too-deep, leading-zero, not-three-digits}
 use Rattle.acceptance.specs.Numbers.{CheckRefusal, of-read, class-repeated, parent-unknown, chain-endless, field-repeated, type-unknown, method-repeated, bad-redeclaration, variable-repeated, too-many-variables, name-unknown, wrong-type, method-unknown, argument-count, this-in-main}
 
 -- THE NUMBERS
@@ -41,6 +43,7 @@ read-least too-many-tokens = omega arith
 read-least not-in-grammar = omega arith
 read-least too-deep = omega arith
 read-least leading-zero = omega arith
+read-least not-three-digits = omega arith
 
 pub at-least-ten : {n : ℕ} → CheckRefusal n → 10 ≤ n
 at-least-ten (of-read r) = read-least r
@@ -99,8 +102,9 @@ of-turn next count i (token k t) f =
     either (eqb count tokensMost) _ _ (refuses too-many-tokens)
     (either (tooLong k t) _ _ (refuses name-too-long)
     (either (zeroFirst k t) _ _ (refuses leading-zero)
+    (either (notThree k t) _ _ (refuses not-three-digits)
     (either (tooLarge k t) _ _ (refuses literal-too-large)
-    (both (next (count + 1) (i + length t)) _ (f (count + 1) (i + length t)) (λ ts. accepts)))))
+    (both (next (count + 1) (i + length t)) _ (f (count + 1) (i + length t)) (λ ts. accepts))))))
 
 of-tokens : (f : ℕ) (s : List ℕ) (count i : ℕ) → Refuses ReadRefusal (tokensFrom f s count i)
 unfolding tokensFrom
@@ -199,6 +203,7 @@ of-receiver : (e : Expression) (t : Ty) (k : List ℕ → Outcome Ty) → ((c : 
     → Refuses CheckRefusal (receiver e t k)
 of-receiver e (plain int) k f = refuses wrong-type
 of-receiver e (plain boolean) k f = refuses wrong-type
+of-receiver e (plain fixed) k f = refuses wrong-type
 of-receiver e (plain (class c)) k f = f c
 of-receiver e (arrayOf t) k f = refuses wrong-type
 
@@ -258,7 +263,7 @@ module _ (G : List Class) (Γ : Context) where
   of-judge (block p ss) = of-judge ss
   of-judge (conditional p e s t) = fitting e (plain boolean) _ (of-judge e) (both (judge G Γ s) _ (of-judge s) (λ _. of-judge t))
   of-judge (loop p e s) = fitting e (plain boolean) _ (of-judge e) (of-judge s)
-  of-judge (print p e) = fitting-last e (plain int) (of-judge e)
+  of-judge (print p e) = both (judge G Γ e) _ (of-judge e) (λ t. either (printable t) _ _ accepts (refuses wrong-type))
   of-judge (assign p x e) = both (lookUp G Γ p x) _ (of-name p x) (λ t. fitting-last e t (of-judge e))
   of-judge (assignElement p x i e) =
       both (lookUp G Γ p x) _ (of-name p x)

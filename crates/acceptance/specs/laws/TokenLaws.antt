@@ -9,17 +9,18 @@ use lib.ListN.{length, drop}
 use lib.Dec.{eqb, leb}
 use borrow.Author.Tests.{leb-false, le-leb}
 use Rattle.base.specs.Choice.{if_then_else_}
-use Rattle.base.specs.Codes.{tokensMost, nameTooLong, leadingZero, literalTooLarge, tooManyTokens}
+use Rattle.base.specs.Codes.{tokensMost, nameTooLong, leadingZero, notThreeDigits, literalTooLarge, tooManyTokens}
 use Rattle.base.specs.Outcome.{Outcome, accepted, refused, _>>=_}
-use Rattle.lexer.specs.Tokens.{Token, Item, gap, unclosed, nothing, token, item, tooLong, zeroFirst, tooLarge, turn, tokensFrom}
+use Rattle.lexer.specs.Tokens.{Token, Item, gap, unclosed, nothing, token, item, tooLong, zeroFirst, notThree, tooLarge, turn, tokensFrom}
 use Rattle.lexer.specs.laws.ItemLaws.{Good, good}
 
 -- what is read on after a token, by the answers of the tests
-abbrev judged : (tooMany long zeroes large : Bool) (i : ℕ) → Token → Outcome (List Token) → Outcome (List Token)
-judged tooMany long zeroes large i t rest =
+abbrev judged : (tooMany long zeroes digits large : Bool) (i : ℕ) → Token → Outcome (List Token) → Outcome (List Token)
+judged tooMany long zeroes digits large i t rest =
     if tooMany then (λ _. refused tooManyTokens i) else λ _.
     if long then (λ _. refused nameTooLong i) else λ _.
     if zeroes then (λ _. refused leadingZero i) else λ _.
+    if digits then (λ _. refused notThreeDigits i) else λ _.
     if large then (λ _. refused literalTooLarge i) else λ _.
     rest >>= λ ts. accepted (t ∷ ts)
 
@@ -30,7 +31,8 @@ module _ (next next′ : ℕ → ℕ → Outcome (List Token)) (count i : ℕ) (
   same-turn bs unclosed g = refl
   same-turn bs nothing g = refl
   same-turn bs (token k t) g =
-      ap (judged (eqb count tokensMost) (tooLong k t) (zeroFirst k t) (tooLarge k t) i (record { kind = k; start = i; text = t }))
+      let new : Token = record { kind = k; start = i; text = t } in
+      ap (judged (eqb count tokensMost) (tooLong k t) (zeroFirst k t) (notThree k t) (tooLarge k t) i new)
       (alike (count + 1) (i + length t) (omega (arith, g .nonempty)))
 
 -- past the last byte there are no tokens, with any fuel

@@ -14,6 +14,11 @@ pub data LinePost (left want result : ℕ) : ℕ → Type 0 where
   has-line : left ≡ want → LinePost left want result result
   no-line : (left ≡ want → ⊥) → LinePost left want result noType
 
+-- two lines: int makes `integer`, fixed makes `fixed`
+pub data NumericPost (left integer fixed : ℕ) : ℕ → Type 0 where
+  int-line : left ≡ 2048 → NumericPost left integer fixed integer
+  fixed-line : {r : ℕ} → (left ≡ 2048 → ⊥) → LinePost left 2050 fixed r → NumericPost left integer fixed r
+
 pub record OperationPost (kind left r : ℕ) : Type 0 where
   pub says : (tab : List ℕ) (n : ℕ) (ts : List Token) → Lexemes tab n ts → (o : Operator) → kind ≡ operatorKind o
       → (t : Ty) → Codes ts t left → LookedUp ts (λ (u : Ty). u) (operation o t) r

@@ -1,15 +1,16 @@
--- A lesson on the three machines (tree, code, words), computed: each reports the same, with budget enough and cut by the budget.
+-- Lessons on the three machines (tree, code, words), computed: each reports the same, with budget enough and cut by the budget.
 use Prim.Native.Nat.{ℕ, _+_, _*_}
 use mathlib.Core.Bool.{true}
 use mathlib.Core.List.{List, [], _∷_}
 use mathlib.Core.Option.{none}
 use mathlib.Core.Path.{_≡_, refl}
 use lib.ListN.{replicate}
-use lib.IntN.{pos}
-use Rattle.parser.specs.Tree.{Place, Name, Element.int, Ty.plain, Variable, Method, Program, Operator.plus, Operator.minus, Operator.less, Operator.and}
+use lib.IntN.{pos, negsuc}
+use Rattle.parser.specs.Tree.{Place, Name, Element.int, Ty.plain, Variable, Method, Program, Operator.plus, Operator.minus, Operator.less, Operator.and, Operator.times, Numeral.intLiteral, Numeral.fixedLiteral}
 use Rattle.parser.specs.Tree.{Part.literal, Part.truth, Part.variable, Part.newObject, Part.binary, Part.call, Part.noArguments, Part.argument, Part.conditional, Part.loop, Part.assign, Part.block, Part.print, Part.noStatements, Part.sequence}
 use Rattle.typesystem.specs.ClassTable as ClassTable
 use Rattle.typesystem.specs.Judge as Judge
+use Rattle.typesystem.specs.Operators as Operators
 use Rattle.semantics.specs.Machine as Machine
 use Rattle.semantics.specs.Limits as Limits
 use Rattle.semantics.specs.Limits.{Limits, begun, Report, ended, runWith, run}
@@ -57,11 +58,12 @@ sum =
       locals = number s ∷ [];
       body =
           sequence
-          (loop (on 20) (binary (on 21) and (binary (on 22) less (literal (on 22) 0) (variable (on 23) n)) (truth (on 24) true))
+          (loop (on 20)
+          (binary (on 21) and (binary (on 22) less (literal (on 22) (intLiteral 0)) (variable (on 23) n)) (truth (on 24) true))
           (block (on 25)
           (sequence (assign (on 26) s (binary (on 27) plus (variable (on 27) s) (variable (on 28) n)))
-          (sequence (assign (on 29) t (binary (on 30) plus (variable (on 30) t) (literal (on 31) 1)))
-          (sequence (assign (on 32) n (binary (on 33) minus (variable (on 33) n) (literal (on 34) 1))) noStatements)))))
+          (sequence (assign (on 29) t (binary (on 30) plus (variable (on 30) t) (literal (on 31) (intLiteral 1))))
+          (sequence (assign (on 32) n (binary (on 33) minus (variable (on 33) n) (literal (on 34) (intLiteral 1)))) noStatements)))))
           noStatements;
       value = binary (on 40) plus (variable (on 40) s) (variable (on 41) t);
     }
@@ -73,9 +75,23 @@ lesson =
       main = name (77 ∷ []);
       parameter = name (97 ∷ []);
       statement =
-          conditional (on 1) (truth (on 2) true) (print (on 3) (call (on 4) (newObject (on 4) (name A)) (name f) (argument (literal (on 5) 3) noArguments)))
-          (print (on 6) (literal (on 7) 7));
+          conditional (on 1) (truth (on 2) true)
+          (print (on 3) (call (on 4) (newObject (on 4) (name A)) (name f) (argument (literal (on 5) (intLiteral 3)) noArguments)))
+          (print (on 6) (literal (on 7) (intLiteral 7)));
       classes = record { name = name A; parent = none; fields = number t ∷ []; methods = sum ∷ [] } ∷ [];
+    }
+
+-- document 02, (ix): main prints (0.000-1.500)*0.001
+abbrev volts : Program
+volts =
+    record {
+      main = name (77 ∷ []);
+      parameter = name (97 ∷ []);
+      statement =
+          print (on 1)
+          (binary (on 2) times (binary (on 3) minus (literal (on 3) (fixedLiteral 0)) (literal (on 4) (fixedLiteral 1500)))
+          (literal (on 5) (fixedLiteral 1)));
+      classes = [];
     }
 
 abbrev limits : ℕ → Limits
@@ -88,26 +104,34 @@ whole = record { ending = ended 0 0; steps = 68; climbs = 1; words = 2; printed 
 abbrev cut : Report
 cut = record { ending = ended 50 30; steps = 37; climbs = 1; words = 2; printed = []; registers = replicate 16 0 }
 
-on-tree : (run lesson (limits 100) [] ≡ whole) × (run lesson (limits 37) [] ≡ cut)
+abbrev below : Report
+below = record { ending = ended 0 0; steps = 6; climbs = 0; words = 0; printed = negsuc 0 ∷ []; registers = replicate 16 0 }
+
+on-tree : (run lesson (limits 100) [] ≡ whole) × (run lesson (limits 37) [] ≡ cut) × (run volts (limits 100) [] ≡ below)
 unfolding run Limits.runWith Limits.guard Machine.plan Machine.go Machine.begin Machine.beginStatement Machine.second Machine.callMethod Machine.nextArgument Machine.nextStatement
     Machine.nextOfBody Machine.newObjectOf Machine.search Machine.readName Machine.writeName
     ClassTable.classNamed ClassTable.methodNamed ClassTable.variableNamed ClassTable.chainWithin ClassTable.chain ClassTable.layout ClassTable.fieldsOf ClassTable.nearestField ClassTable.meaning Judge.arity
-on-tree = (refl, refl)
+on-tree = (refl, refl, refl)
 
 on-code : (runCode (compile lesson) (limits 100) [] ≡ whole) × (runCode (compile lesson) (limits 37) [] ≡ cut)
+    × (runCode (compile volts) (limits 100) [] ≡ below)
 unfolding runCode Demand.turnsOfCode Limits.runWith Limits.guard Code.due Code.act Code.dispatch Code.climb Code.rowNamed Code.entryNamed
     compile Compile.end Compile.emit Compile.endMethods Compile.emitMethods Compile.namedOf Compile.emitClasses Compile.rowsOf
-    ClassTable.classNamed ClassTable.methodNamed ClassTable.variableNamed ClassTable.chainWithin ClassTable.chain ClassTable.layout ClassTable.fieldsOf ClassTable.nearestField ClassTable.meaning Judge.arity
-on-code = (refl, refl)
+    ClassTable.classNamed ClassTable.methodNamed ClassTable.variableNamed ClassTable.chainWithin ClassTable.chain
+    ClassTable.layout ClassTable.fieldsOf ClassTable.nearestField ClassTable.meaning ClassTable.sameElement ClassTable.sameType
+    ClassTable.fits Operators.resultIn Judge.arity Judge.judge
+on-code = (refl, refl, refl)
 
--- the number of the one class is 0
-abbrev onWords : Limits → Report
-onWords L =
-    let P = compile lesson in
+-- the number of the one class that there is, if any, is 0
+abbrev onWords : Program → Limits → Report
+onWords p L =
+    let P = compile p in
     runWith (wordDue P (λ _. 0) (λ _ m. climb 1 (P .rows) A m)) wordSize L (4 * L .budget + 4) (wordAt 0 [] [] []) (begun [])
 
-on-words : (onWords (limits 100) ≡ whole) × (onWords (limits 37) ≡ cut)
+on-words : (onWords lesson (limits 100) ≡ whole) × (onWords lesson (limits 37) ≡ cut) × (onWords volts (limits 100) ≡ below)
 unfolding Limits.runWith Limits.guard wordDue Words.wordAct climb Code.rowNamed Code.entryNamed
     compile Compile.end Compile.emit Compile.endMethods Compile.emitMethods Compile.namedOf Compile.emitClasses Compile.rowsOf
-    ClassTable.classNamed ClassTable.methodNamed ClassTable.variableNamed ClassTable.chainWithin ClassTable.chain ClassTable.layout ClassTable.fieldsOf ClassTable.nearestField ClassTable.meaning Judge.arity
-on-words = (refl, refl)
+    ClassTable.classNamed ClassTable.methodNamed ClassTable.variableNamed ClassTable.chainWithin ClassTable.chain
+    ClassTable.layout ClassTable.fieldsOf ClassTable.nearestField ClassTable.meaning ClassTable.sameElement ClassTable.sameType
+    ClassTable.fits Operators.resultIn Judge.arity Judge.judge
+on-words = (refl, refl, refl)

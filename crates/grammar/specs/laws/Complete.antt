@@ -13,7 +13,7 @@ use lib.ListN.{length, List·getD-eq-default}
 use Rattle.base.specs.Choice.{if_then_else_, option}
 use Rattle.lexer.specs.Tokens.{Token}
 use Rattle.lexer.specs.Kinds.{kEnd, kLiteral, kClass, kFalse, kLength, kNew, kPublic, kReturn, kThis, kTrue, kAnd, kLess, kPlus, kMinus}
-use Rattle.lexer.specs.Kinds.{kTimes, kPort}
+use Rattle.lexer.specs.Kinds.{kTimes, kPort, kFixedLiteral}
 use Rattle.lexer.specs.Kinds.{kNot, kDot, kOpen, kClose, kOpenBracket, kCloseBracket, kOpenBrace, kCloseBrace, isName}
 use Rattle.parser.specs.Tree.{Name, Operator, Sort, Sort.statements, Part, Expression, TypeUse, Variable, Method, Class, Program}
 use Rattle.parser.specs.Stream.{noMore, kindAt, Level, Level.conjunction, Level.comparison, Level.sum, Level.product, operatorOf}
@@ -25,14 +25,14 @@ use Rattle.parser.specs.Grammar as Grammar
 use Rattle.parser.specs.Grammar.{Kind, Derives, operate, one-operand, negate, no-negation, make-array, no-array, index, take-length, invoke}
 use Rattle.parser.specs.Grammar.{no-suffix, a-literal, a-true, a-false, a-name, a-this, make-object, get-register, parentheses}
 use Rattle.parser.specs.Grammar.{none-given, some-given, one-argument, more-arguments, a-block, an-if, a-while, a-print, an-assignment}
-use Rattle.parser.specs.Grammar.{an-element-assignment, put-register, no-statement, more-statements}
+use Rattle.parser.specs.Grammar.{an-element-assignment, put-register, no-statement, more-statements, a-fixed-literal, a-fixed}
 use Rattle.parser.specs.Grammar.{DerivesType, an-array, no-mark, DerivesVariable, a-variable, DerivesVariables, no-variable, more-variables}
 use Rattle.parser.specs.Grammar.{DerivesParameters, one-parameter, more-parameters, DerivesFormals, no-formal, some-formals, DerivesMethod}
 use Rattle.parser.specs.Grammar.{a-method, DerivesMethods, no-method, more-methods}
 use Rattle.parser.specs.Grammar.{DerivesParent, no-parent, a-parent, DerivesClass, a-class-declaration, DerivesClasses, no-class}
 use Rattle.parser.specs.Grammar.{more-classes, DerivesProgram, a-program}
-use Rattle.grammar.specs.laws.Passing.{kinds-apart, no-keyword, no-basic-type, element-found, element-begins, isOperatorOf, or-left}
-use Rattle.grammar.specs.laws.Passing.{or-right}
+use Rattle.grammar.specs.laws.Passing.{kinds-apart, no-keyword, no-basic-type, element-found, element-begins, element-not-fixed}
+use Rattle.grammar.specs.laws.Passing.{isOperatorOf, or-left, or-right}
 
 -- the answer is a, up to token j, or the fuel was used up
 pub data Gives {A : Type 0} (a : A) (j : ℕ) : Parsed A → Type 0 where
@@ -47,7 +47,9 @@ after g spent h = spent
 -- WHAT A FORM BEGINS WITH
 
 startsPrimary : ℕ → Bool
-startsPrimary k = isName k || eqb k kLiteral || eqb k kTrue || eqb k kFalse || eqb k kThis || eqb k kNew || eqb k kOpen || eqb k kPort
+startsPrimary k =
+    isName k || eqb k kLiteral || eqb k kTrue || eqb k kFalse || eqb k kThis || eqb k kNew || eqb k kOpen || eqb k kPort
+    || eqb k kFixedLiteral
 
 startsUnary : ℕ → Bool
 startsUnary k = startsPrimary k || eqb k kNot
@@ -82,7 +84,7 @@ unfolding beginsStatement beginsVariable beginsType isName
 first-named ts i e n =
     let m = no-keyword (kindAt ts i) e in
     let l = no-basic-type (kindAt ts i) e in
-    (rw (m .0, m .1, m .2, m .3, m .4, e), rw (l .0, l .1, e, n))
+    (rw (m .0, m .1, m .2, m .3, m .4, e), rw (l .0, l .1, l .2, e, n))
 
 first : {ts : List Token} {s : Sort} {c : Kind s} {i j : ℕ} {t : Part s} → Derives ts s c i j t → First ts c i
 unfolding startsPrimary startsUnary beginsStatement beginsVariable beginsType isName
@@ -97,11 +99,12 @@ first (take-length a e e₁) = first a
 first (invoke x e e₁ e₂ d e₃) = first x
 first (no-suffix d) = first d .0
 first (a-literal e) = (rw e, rw e)
+first (a-fixed-literal e) = (rw e, rw e)
 first (a-true e) = (rw e, rw e)
 first (a-false e) = (rw e, rw e)
 first {ts} (a-name {i = i} e) = (rw e, rw (kinds-apart isName (kindAt ts i) kNew e refl))
 first (a-this e) = (rw e, rw e)
-first {ts} (make-object {i = i} e e₁ e₂ e₃) = let n = no-basic-type (kindAt ts (i + 1)) e₁ in (rw e, rw (e, n .0, n .1, e₁, e₂))
+first {ts} (make-object {i = i} e e₁ e₂ e₃) = let n = no-basic-type (kindAt ts (i + 1)) e₁ in (rw e, rw (e, n .0, n .1, n .2, e₁, e₂))
 first (get-register e e₁ e₂ e₃ d e₄) = (rw e, rw e)
 first (parentheses e d e₁) = (rw e, rw e)
 first none-given = tt
@@ -233,11 +236,18 @@ module _ (ts : List Token) where
       rw (e, kinds-apart isName (kindAt ts (m + 1)) kLength e₁ refl, e₁) (simp towards-numerals (rw e₂ (after _ (found d e₃ f) (k f))))
   found (no-suffix {i = i} d) = λ t n k. unroll Mode.postfix i λ f. rw (first d .1) (after _ (found d f) (k f))
   found (a-literal {i = i} e) = unroll Mode.primary i λ f. rw e given
+  found (a-fixed-literal {i = i} e) = unroll Mode.primary i λ f. rw e given
   found (a-true {i = i} e) = unroll Mode.primary i λ f. rw e given
   found (a-false {i = i} e) = unroll Mode.primary i λ f. rw e given
   found (a-name {i = i} e) =
       let k = kindAt ts i in
-      unroll Mode.primary i λ f. rw (kinds-apart isName k kLiteral e refl, kinds-apart isName k kTrue e refl, kinds-apart isName k kFalse e refl, e) given
+      unroll Mode.primary i λ f. rw (
+        kinds-apart isName k kLiteral e refl,
+        kinds-apart isName k kFixedLiteral e refl,
+        kinds-apart isName k kTrue e refl,
+        kinds-apart isName k kFalse e refl,
+        e,
+      ) given
   found (a-this {i = i} e) = unroll Mode.primary i λ f. rw e given
   found (make-object {i = i} e e₁ e₂ e₃) = unroll Mode.primary i λ f. rw (e, e₁) (simp towards-numerals (rw (e₂, e₃) given))
   found (get-register {i = i} {j = j} {e = x} e e₁ e₂ e₃ d e₄) =
@@ -274,8 +284,9 @@ module _ (ts : List Token) where
 
   found-type : {i j : ℕ} {t : TypeUse} → DerivesType ts i j t → isName (kindAt ts j) ≡ true → typeFrom ts i ≡ ok t j
   unfolding typeFrom isName
-  found-type (an-array d e e₁) n = rw (element-found d, e, e₁) (simp towards-numerals)
-  found-type (no-mark {i = i} d) n = rw (element-found d, kinds-apart isName (kindAt ts (i + 1)) kOpenBracket n refl)
+  found-type (an-array d e e₁) n = rw (element-not-fixed d, element-found d, e, e₁) (simp towards-numerals)
+  found-type (no-mark {i = i} d) n = rw (element-not-fixed d, element-found d, kinds-apart isName (kindAt ts (i + 1)) kOpenBracket n refl)
+  found-type (a-fixed e) n = rw e
 
   found-variable : {i j : ℕ} {v : Variable} → DerivesVariable ts i j v → variableFrom ts i ≡ ok v j
   unfolding variableFrom
@@ -284,12 +295,14 @@ module _ (ts : List Token) where
   -- what begins a variable, in a class and in a body
   type-begins : {i j : ℕ} {t : TypeUse} → DerivesType ts i j t → isName (kindAt ts j) ≡ true → (inClass : Bool)
       → beginsVariable inClass ts i ≡ true
-  unfolding beginsVariable isName
+  unfolding beginsVariable beginsType isName
   type-begins (an-array d e e₁) n true = element-begins d
   type-begins (an-array {i = i} d e e₁) n false =
       let e₂ : kindAt ts (i + 1 + 1) ≡ kCloseBracket = simp towards-numerals e₁ in rw (e, e₂) (element-begins d)
   type-begins (no-mark d) n true = element-begins d
   type-begins (no-mark d) n false = rw n (element-begins d)
+  type-begins (a-fixed e) n true = rw e
+  type-begins (a-fixed e) n false = rw e
 
   variable-begins : {i j : ℕ} {v : Variable} → DerivesVariable ts i j v → (inClass : Bool) → beginsVariable inClass ts i ≡ true
   variable-begins (a-variable d e) b = type-begins d e b
@@ -315,6 +328,7 @@ module _ (ts : List Token) where
   unfolding beginsType isName
   type-opens (an-array {i = i} d e e₁) = kinds-apart (λ k. beginsType k true) (kindAt ts i) kClose (element-begins d) refl
   type-opens (no-mark {i = i} d) = kinds-apart (λ k. beginsType k true) (kindAt ts i) kClose (element-begins d) refl
+  type-opens (a-fixed e) = rw e
 
   variable-opens : {i j : ℕ} {v : Variable} → DerivesVariable ts i j v → eqb (kindAt ts i) kClose ≡ false
   variable-opens (a-variable d e) = type-opens d

@@ -24,7 +24,7 @@ use Rattle.grammar.specs.laws.Recogniser.{afterClass, primary, suffixes,
 use Rattle.grammar.specs.laws.Recogniser.{aStatement, afterName, statementList, aType, afterElement, fields, locals, afterLocal}
 use Rattle.grammar.specs.laws.Recogniser.{afterMark, formals, someFormals, moreFormals, methods, parent, classes}
 use Rattle.grammar.specs.laws.Recogniser.{expression, operandOf, isBasic, Move, shift, push, refuse, rule, startStack, Halt, done}
-use Rattle.grammar.specs.laws.Recogniser.{stopped, indexOf, RunsTo, finish, shifts, pushes, refuses, onward}
+use Rattle.grammar.specs.laws.Recogniser.{isElement, stopped, indexOf, RunsTo, finish, shifts, pushes, refuses, onward}
 use Rattle.grammar.specs.laws.Passing.{seen}
 
 -- A WORD FOR EACH SYMBOL
@@ -141,7 +141,7 @@ keeps : (x : Symbol) (k : ℕ) {S : List Symbol} → follow x (first (words S)) 
 unfolding rule closes ends
 keeps (one q) k f h = kept-if (eqb k q) kept-shift kept-refuse
 keeps aName k f h = kept-if (isName k) kept-shift kept-refuse
-keeps anElement k f h = kept-if (beginsType k true) kept-shift kept-refuse
+keeps anElement k f h = kept-if (isElement k) kept-shift kept-refuse
 keeps (anOperator L) k {S} f h = go (operatorOf L k)
   where
     go : (o : Option Operator) → Kept S (option o refuse λ o. shift)
@@ -158,9 +158,10 @@ keeps postfix k f h = kept-if (eqb k _) (kept-push (refl ▹ f ▹ h)) (kept-pus
 keeps afterNew k f h = kept-if (isBasic k) (kept-push (refl ▹ refl ▹ refl ▹ refl ▹ f ▹ h)) (kept-push (refl ▹ f ▹ h))
 keeps afterClass k f h = kept-if (eqb k _) (kept-push (refl ▹ refl ▹ refl ▹ f ▹ h)) (kept-push (refl ▹ refl ▹ f ▹ h))
 keeps primary k f h =
-    kept-if (eqb k _) (kept-push (refl ▹ h)) (kept-if (eqb k _) (kept-push (refl ▹ h)) (kept-if (eqb k _) (kept-push (refl ▹ h)) (kept-if (isName k) (kept-push (refl ▹ h))
-    (kept-if (eqb k _) (kept-push (refl ▹ h)) (kept-if (eqb k _) (kept-push (refl ▹ refl ▹ refl ▹ refl ▹ h)) (kept-if (eqb k _) (kept-push (refl ▹ refl ▹ refl ▹ h))
-    (kept-if (eqb k _) (kept-push (refl ▹ refl ▹ refl ▹ refl ▹ refl ▹ refl ▹ h)) kept-refuse)))))))
+    kept-if (eqb k _) (kept-push (refl ▹ h)) (kept-if (eqb k _) (kept-push (refl ▹ h)) (kept-if (eqb k _) (kept-push (refl ▹ h))
+    (kept-if (eqb k _) (kept-push (refl ▹ h)) (kept-if (isName k) (kept-push (refl ▹ h)) (kept-if (eqb k _) (kept-push (refl ▹ h))
+    (kept-if (eqb k _) (kept-push (refl ▹ refl ▹ refl ▹ refl ▹ h)) (kept-if (eqb k _) (kept-push (refl ▹ refl ▹ refl ▹ h))
+    (kept-if (eqb k _) (kept-push (refl ▹ refl ▹ refl ▹ refl ▹ refl ▹ refl ▹ h)) kept-refuse))))))))
 keeps (suffixes b) k f h =
     kept-if (eqb k _ && b) (kept-push (refl ▹ refl ▹ refl ▹ f ▹ h)) (kept-if (eqb k _) kept-refuse (kept-if (eqb k _) (kept-push (refl ▹ f ▹ h)) (kept-push h)))
 keeps afterDot k f h = kept-if (eqb k _) (kept-push (refl ▹ f ▹ h)) (kept-push (refl ▹ refl ▹ refl ▹ f ▹ h))
@@ -173,7 +174,7 @@ keeps aStatement k f h =
     (kept-if (eqb k _) (kept-push (refl ▹ refl ▹ refl ▹ refl ▹ refl ▹ refl ▹ refl ▹ refl ▹ refl ▹ h)) (kept-if (isName k) (kept-push (refl ▹ refl ▹ h)) kept-refuse)))))
 keeps afterName k f h = kept-if (eqb k _) (kept-push (refl ▹ refl ▹ refl ▹ refl ▹ refl ▹ refl ▹ h)) (kept-push (refl ▹ refl ▹ refl ▹ h))
 keeps statementList k f h = kept-if (beginsStatement k) (kept-push (refl ▹ f ▹ h)) (kept-push h)
-keeps aType k f h = kept-push (refl ▹ f ▹ h)
+keeps aType k f h = kept-if (eqb k _) (kept-push (refl ▹ h)) (kept-push (refl ▹ f ▹ h))
 keeps afterElement k f h = kept-if (eqb k _) (kept-push (refl ▹ refl ▹ h)) (kept-push h)
 keeps fields k f h = kept-if (beginsType k true) (kept-push (refl ▹ refl ▹ refl ▹ f ▹ h)) (kept-push h)
 keeps locals k f h =
@@ -275,7 +276,7 @@ module _ (us : List Token) where
   fill-name S e i g sp k = shifts (ap (rule aName) (sp .0)) (k (i + 1) (sp .1))
 
   fill-element : Filled anElement
-  unfolding rule beginsType
+  unfolding rule
   fill-element S e i g sp k = shifts (ap (rule anElement) (sp .0)) (k (i + 1) (sp .1))
 
   fill-operator : (L : Level) → Filled (anOperator L)

@@ -11,7 +11,7 @@ use lib.Dec.{eqb}
 use lib.ListN.{length}
 use Rattle.base.specs.laws.Tests.{and-true}
 use Rattle.lexer.specs.Tokens.{Token}
-use Rattle.lexer.specs.Kinds.{kEnd, kClass, kExtends, kMain, kPublic, kReturn, kStatic, kString, kVoid}
+use Rattle.lexer.specs.Kinds.{kEnd, kClass, kExtends, kFixed, kMain, kPublic, kReturn, kStatic, kString, kVoid}
 use Rattle.lexer.specs.Kinds.{kComma, kSemicolon, kOpen, kClose, kOpenBracket, kCloseBracket, kOpenBrace, kCloseBrace, isName}
 use Rattle.parser.specs.Tree.{Sort.statements, Variable}
 use Rattle.parser.specs.Stream.{kindAt, Level.conjunction}
@@ -20,7 +20,7 @@ use Rattle.parser.specs.Parse.{typeFrom, beginsType, variableFrom, marked, begi
 use Rattle.parser.specs.Parse.{someParameters, parametersFrom, methodFrom, methodsFrom, parentFrom, classFrom, classesFrom, programFrom}
 use Rattle.parser.specs.Parse.{parse}
 use Rattle.parser.specs.Grammar.{Kind, Derives, more-statements, a-class, DerivesType, an-array, no-mark, DerivesVariable, a-variable}
-use Rattle.parser.specs.Grammar.{DerivesVariables, no-variable, more-variables}
+use Rattle.parser.specs.Grammar.{a-fixed, DerivesVariables, no-variable, more-variables}
 use Rattle.parser.specs.Grammar.{DerivesParameters, one-parameter, more-parameters, DerivesFormals, no-formal, some-formals, DerivesMethod}
 use Rattle.parser.specs.Grammar.{a-method, DerivesMethods, no-method, more-methods}
 use Rattle.parser.specs.Grammar.{DerivesParent, no-parent, a-parent, DerivesClass, a-class-declaration, DerivesClasses, no-class}
@@ -51,10 +51,11 @@ module _ (ts : List Token) where
   read-type : (i : ℕ) → PassesOver ts (aType ∷ []) i (λ t j. DerivesType ts i j t) (typeFrom ts i)
   unfolding typeFrom rule
   read-type i =
-      looks aType i (pushed (expects-element i _ λ t d. looks afterElement (i + 1) (tests-kind kOpenBracket (i + 1) _ _ _ _
+      looks aType i (tests-kind kFixed i _ _ _ _ (single kFixed i a-fixed)
+      (λ _. pushed (expects-element i _ λ t d. looks afterElement (i + 1) (tests-kind kOpenBracket (i + 1) _ _ _ _
       (λ e₁. pushed (takes kOpenBracket e₁ (moved (i + 2) (omega arith) (expects kCloseBracket (i + 2) _ λ e₂.
       accept (simp towards-numerals (an-array d e₁ e₂))))))
-      (λ _. pushed (accept (no-mark d))))))
+      (λ _. pushed (accept (no-mark d)))))))
 
   read-variable : (i : ℕ) → PassesOver ts (aType ∷ aName ∷ []) i (λ v j. DerivesVariable ts i j v) (variableFrom ts i)
   unfolding variableFrom
@@ -98,16 +99,19 @@ module _ (ts : List Token) where
     unfolding variablesFrom variableFrom typeFrom beginsVariable beginsType rule isName
     named-local i h begins e =
         let n = no-basic-type (kindAt ts i) e in
-        pushed-by {xs = aName ∷ afterLocal ∷ []} (rw (n .0, n .1, e))
-        (takes-name e (go (isName (kindAt ts (i + 1))) refl (rw (n .0, n .1, e) at begins)))
+        pushed-by {xs = aName ∷ afterLocal ∷ []} (rw (n .0, n .1, n .2, e))
+        (takes-name e (go (isName (kindAt ts (i + 1))) refl (rw (n .0, n .1, n .2, e) at begins)))
       where
         here : i < length ts
         here = seen ts i isName refl e
 
+        unfixed : eqb (kindAt ts i) kFixed ≡ false
+        unfixed = no-basic-type (kindAt ts i) e .2
+
         go : (b : Bool) → isName (kindAt ts (i + 1)) ≡ b → (b || marked ts (i + 1)) ≡ true
             → Passes ts (afterLocal ∷ []) (locals ∷ []) (i + 1) (Locals i) (variablesFrom (suc f) false ts i)
         go true e₁ m =
-            rw (begins, element-found (a-class e), kinds-apart isName (kindAt ts (i + 1)) kOpenBracket e₁ refl, e₁)
+            rw (begins, unfixed, element-found (a-class e), kinds-apart isName (kindAt ts (i + 1)) kOpenBracket e₁ refl, e₁)
             (pushed-by {xs = aName ∷ one kSemicolon ∷ locals ∷ []} (rw e₁) (takes-name e₁
             (after-local i h here _ (i + 1 + 1) (omega arith) (a-variable (no-mark (a-class e)) e₁))))
         go false n m =
@@ -116,7 +120,7 @@ module _ (ts : List Token) where
             let e₁ = eqb-true (kindAt ts (i + 1)) kOpenBracket b in
             let e₂ = eqb-true (kindAt ts (i + 1 + 1)) kCloseBracket b₂ in
             let e₃ : kindAt ts (i + 2) ≡ kCloseBracket = simp towards-numerals at e₂ in
-            rw (begins, element-found (a-class e), e₁, e₃)
+            rw (begins, unfixed, element-found (a-class e), e₁, e₃)
             (pushed-by {xs = one kOpenBracket ∷ afterMark ∷ []} (rw (n, b)) (takes kOpenBracket e₁
             (pushed-by {xs = one kCloseBracket ∷ aName ∷ one kSemicolon ∷ locals ∷ []} (rw b₂) (takes kCloseBracket e₂
             (binds-all (aName ∷ []) _ (moved (i + 2 + 1) (omega arith) (expects-name (i + 2 + 1) _ λ e₄.

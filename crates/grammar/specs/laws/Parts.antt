@@ -14,7 +14,7 @@ use Rattle.base.specs.Choice.{if_then_else_, option}
 use Rattle.base.specs.laws.Tests.{and-true}
 use Rattle.lexer.specs.Tokens.{Token}
 use Rattle.lexer.specs.Kinds.{kEnd, kOut, kPrintln, kLiteral, kElse, kFalse, kIf, kLength, kNew, kSystem, kThis, kTrue, kWhile}
-use Rattle.lexer.specs.Kinds.{kGet, kPut, kPort}
+use Rattle.lexer.specs.Kinds.{kGet, kPut, kPort, kFixedLiteral}
 use Rattle.lexer.specs.Kinds.{kNot, kAssign, kDot, kComma, kSemicolon, kOpen, kClose, kOpenBracket, kCloseBracket, kOpenBrace, kCloseBrace}
 use Rattle.lexer.specs.Kinds.{isName}
 use Rattle.parser.specs.Tree.{Operator, Element, Sort, Sort.expression, Sort.arguments, Sort.statement, Sort.statements, Part, Expression}
@@ -29,7 +29,7 @@ use Rattle.parser.specs.Grammar.{DerivesElement, a-class}
 use Rattle.parser.specs.Grammar.{Kind, Derives, operate, one-operand, negate, no-negation, make-array, no-array, index, take-length, invoke}
 use Rattle.parser.specs.Grammar.{no-suffix, a-literal, a-true, a-false, a-name, a-this, make-object, get-register, parentheses}
 use Rattle.parser.specs.Grammar.{none-given, some-given, one-argument, more-arguments, a-block, an-if, a-while, a-print, an-assignment}
-use Rattle.parser.specs.Grammar.{an-element-assignment, put-register, no-statement, more-statements}
+use Rattle.parser.specs.Grammar.{an-element-assignment, put-register, no-statement, more-statements, a-fixed-literal}
 use Rattle.grammar.specs.laws.Recogniser.{Symbol, push, rule, refuses, operandOf, arrayEnd, targetEnd, isBasic}
 use Rattle.grammar.specs.laws.Passing.{seen, seen-kind, no-keyword, element-found, isOperatorOf, single}
 use Rattle.grammar.specs.laws.Passing.{tests-kind, tests-next, tests-either, tests-again, pushed-by, binds-all, moved, passes-bad}
@@ -227,6 +227,7 @@ module _ (ts : List Token) (f : ℕ) (p : Below ts f) where
   unfolding step rule
   primary-step i h =
       looks Symbol.primary i (tests-kind kLiteral i _ _ _ _ (single kLiteral i a-literal)
+      (λ _. tests-kind kFixedLiteral i _ _ _ _ (single kFixedLiteral i a-fixed-literal)
       (λ _. tests-kind kTrue i _ _ _ _ (single kTrue i a-true)
       (λ _. tests-kind kFalse i _ _ _ _ (single kFalse i a-false)
       (λ _. tests (isName (kindAt ts i)) i _ _ _ _ (λ e. pushed (takes-name e (accept (a-name e))))
@@ -241,7 +242,7 @@ module _ (ts : List Token) (f : ℕ) (p : Below ts f) where
       pushed (takes kPort e (expects kDot (i + 1) _ λ e₁. expects kGet (i + 1 + 1) _ λ e₂. expects kOpen (i + 1 + 1 + 1) _ λ e₃.
       binds _ (p .of anExpression (i + 1 + 1 + 1 + 1) (omega arith)) λ x j le d. expects kClose j _ λ e₄.
       accept (get-register e e₁ (simp towards-numerals at e₂) (simp towards-numerals at e₃) (simp towards-numerals at d) e₄))))
-      (λ _. refused)))))))))
+      (λ _. refused))))))))))
 
   argumentList-step : (i : ℕ) → Step ts f Mode.argumentList i
   unfolding step rule

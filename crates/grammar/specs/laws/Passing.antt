@@ -14,14 +14,14 @@ use lib.Dec.{eqb}
 use lib.ListN.{length, List·getD-eq-default}
 use Rattle.base.specs.Choice.{if_then_else_, option}
 use Rattle.lexer.specs.Tokens.{Token}
-use Rattle.lexer.specs.Kinds.{kEnd, kBoolean, kIf, kInt, kPort, kSystem, kWhile, kOpenBrace, isName}
+use Rattle.lexer.specs.Kinds.{kEnd, kBoolean, kFixed, kIf, kInt, kPort, kSystem, kWhile, kOpenBrace, isName}
 pub use Rattle.lexer.specs.laws.ItemLaws.{kinds-apart}
 use Rattle.parser.specs.Stream.{noMore, tokenAt, kindAt, Level, operatorOf}
 use Rattle.parser.specs.Tree.{Operator, Element, Element.int, Element.boolean, Element.class}
 use Rattle.parser.specs.Parse.{Parsed, ok, bad, bind, expect, expectName, elementType, beginsType}
 use Rattle.parser.specs.Grammar.{DerivesElement, an-int, a-boolean, a-class}
 use Rattle.grammar.specs.laws.Recogniser.{Symbol, one, aName, anElement, anOperator, Move, shift, push, refuse, rule, Halt, stopped}
-use Rattle.grammar.specs.laws.Recogniser.{RunsTo, shifts, pushes, refuses}
+use Rattle.grammar.specs.laws.Recogniser.{isElement, RunsTo, shifts, pushes, refuses}
 
 -- a token that passes a test which none past the end passes is there
 pub seen : (ts : List Token) (i : ℕ) (test : ℕ → Bool) → test kEnd ≡ false → test (kindAt ts i) ≡ true → i < length ts
@@ -49,9 +49,9 @@ no-keyword k e = (
   kinds-apart isName k kPort e refl,
 )
 
-pub no-basic-type : (k : ℕ) → isName k ≡ true → (eqb k kInt ≡ false) × (eqb k kBoolean ≡ false)
+pub no-basic-type : (k : ℕ) → isName k ≡ true → (eqb k kInt ≡ false) × (eqb k kBoolean ≡ false) × (eqb k kFixed ≡ false)
 unfolding isName
-no-basic-type k e = (kinds-apart isName k kInt e refl, kinds-apart isName k kBoolean e refl)
+no-basic-type k e = (kinds-apart isName k kInt e refl, kinds-apart isName k kBoolean e refl, kinds-apart isName k kFixed e refl)
 
 -- an element type is found where the grammar derives one, and there alone
 pub element-found : {ts : List Token} {i : ℕ} {t : Element} → DerivesElement ts i t → elementType ts i ≡ some t
@@ -64,14 +64,26 @@ pub element-begins : {ts : List Token} {i : ℕ} {t : Element} → DerivesElemen
 unfolding beginsType isName
 element-begins (an-int e) = rw e
 element-begins (a-boolean e) = rw e
-element-begins {ts} (a-class {i = i} e) = let n = no-basic-type (kindAt ts i) e in rw (n .0, n .1, e)
+element-begins {ts} (a-class {i = i} e) = let n = no-basic-type (kindAt ts i) e in rw (n .0, n .1, n .2, e)
+
+element-is : {ts : List Token} {i : ℕ} {t : Element} → DerivesElement ts i t → isElement (kindAt ts i) ≡ true
+unfolding isName
+element-is (an-int e) = rw e
+element-is (a-boolean e) = rw e
+element-is {ts} (a-class {i = i} e) = let n = no-basic-type (kindAt ts i) e in rw (n .0, n .1, e)
+
+-- no array holds `fixed`
+pub element-not-fixed : {ts : List Token} {i : ℕ} {t : Element} → DerivesElement ts i t → eqb (kindAt ts i) kFixed ≡ false
+element-not-fixed (an-int e) = rw e
+element-not-fixed (a-boolean e) = rw e
+element-not-fixed {ts} (a-class {i = i} e) = no-basic-type (kindAt ts i) e .2
 
 data ElementHere (ts : List Token) (i : ℕ) : Option Element → Type 0 where
   an-element : {t : Element} → DerivesElement ts i t → ElementHere ts i (some t)
-  no-element : beginsType (kindAt ts i) true ≡ false → ElementHere ts i none
+  no-element : isElement (kindAt ts i) ≡ false → ElementHere ts i none
 
 element-here : (ts : List Token) (i : ℕ) → ElementHere ts i (elementType ts i)
-unfolding elementType beginsType
+unfolding elementType
 element-here ts i = go (eqb (kindAt ts i) kInt) (eqb (kindAt ts i) kBoolean) (isName (kindAt ts i)) refl refl refl
   where
     go : (a b c : Bool) → eqb (kindAt ts i) kInt ≡ a → eqb (kindAt ts i) kBoolean ≡ b → isName (kindAt ts i) ≡ c
@@ -251,7 +263,7 @@ module _ {ts : List Token} {A : Type 0} {Q : A → ℕ → Type 0} {ys : List Sy
   expects-element {xs} i r f = go (element-here ts i)
     where
       go : {o : Option Element} → ElementHere ts i o → Passes ts (anElement ∷ xs) ys i Q (option o (bad i) r)
-      go (an-element {t = t} d) = shifted (rw (element-begins d)) (f t d)
+      go (an-element {t = t} d) = shifted (rw (element-is d)) (f t d)
       go (no-element n) = passes-bad (λ S. refuses {x = anElement} {i = i} (rw n))
 
 -- a form of one token

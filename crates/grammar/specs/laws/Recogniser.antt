@@ -11,7 +11,7 @@ use Rattle.lexer.specs.Tokens.{Token}
 use Rattle.lexer.specs.Kinds.{kEnd, kOut, kPrintln, kLiteral, kBoolean, kClass, kElse, kExtends, kFalse, kIf, kInt, kLength, kMain, kNew}
 use Rattle.lexer.specs.Kinds.{kGet, kPut, kPort, kPublic, kReturn, kStatic, kString, kSystem, kThis, kTrue, kVoid, kWhile}
 use Rattle.lexer.specs.Kinds.{kNot, kAssign, kDot, kComma, kSemicolon, kOpen, kClose, kOpenBracket, kCloseBracket, kOpenBrace, kCloseBrace}
-use Rattle.lexer.specs.Kinds.{isName}
+use Rattle.lexer.specs.Kinds.{isName, kFixed, kFixedLiteral}
 use Rattle.parser.specs.Stream.{kindAt, Level, Level.conjunction, Level.comparison, Level.sum, Level.product, operatorOf}
 use Rattle.parser.specs.Parse.{beginsType, beginsStatement}
 
@@ -40,7 +40,11 @@ targetEnd = expression ∷ one kCloseBracket ∷ one kAssign ∷ expression ∷ 
 
 -- the tokens that are a type wherever they stand
 abbrev pub isBasic : ℕ → Bool
-isBasic k = eqb k kInt || eqb k kBoolean
+isBasic k = eqb k kInt || eqb k kBoolean || eqb k kFixed
+
+-- the tokens that say what an array may hold
+abbrev pub isElement : ℕ → Bool
+isElement k = eqb k kInt || eqb k kBoolean || isName k
 
 abbrev pub operandOf : Level → Symbol
 operandOf conjunction = operation comparison
@@ -57,7 +61,7 @@ pub data Move : Type 0 where
 unfoldable pub rule : Symbol → (kind : ℕ) → Move
 rule (one q) k = if eqb k q then (λ _. shift) else λ _. refuse
 rule aName k = if isName k then (λ _. shift) else λ _. refuse
-rule anElement k = if beginsType k true then (λ _. shift) else λ _. refuse
+rule anElement k = if isElement k then (λ _. shift) else λ _. refuse
 rule (anOperator L) k = option (operatorOf L k) refuse λ o. shift
 rule (operation L) k = push (operandOf L ∷ operations L ∷ [])
 rule (operations L) k = option (operatorOf L k) (push []) λ o. push (anOperator L ∷ operandOf L ∷ operations L ∷ [])
@@ -69,6 +73,7 @@ rule afterNew k =
 rule afterClass k = if eqb k kOpenBracket then (λ _. push arrayEnd) else λ _. push (one kOpen ∷ one kClose ∷ suffixes true ∷ [])
 rule primary k =
     if eqb k kLiteral then (λ _. push (one kLiteral ∷ [])) else λ _.
+    if eqb k kFixedLiteral then (λ _. push (one kFixedLiteral ∷ [])) else λ _.
     if eqb k kTrue then (λ _. push (one kTrue ∷ [])) else λ _.
     if eqb k kFalse then (λ _. push (one kFalse ∷ [])) else λ _.
     if isName k then (λ _. push (aName ∷ [])) else λ _.
@@ -99,7 +104,7 @@ rule afterName k =
     if eqb k kOpenBracket then (λ _. push (one kOpenBracket ∷ targetEnd)) else λ _.
     push (one kAssign ∷ expression ∷ one kSemicolon ∷ [])
 rule statementList k = if beginsStatement k then (λ _. push (aStatement ∷ statementList ∷ [])) else λ _. push []
-rule aType k = push (anElement ∷ afterElement ∷ [])
+rule aType k = if eqb k kFixed then (λ _. push (one kFixed ∷ [])) else λ _. push (anElement ∷ afterElement ∷ [])
 rule afterElement k = if eqb k kOpenBracket then (λ _. push (one kOpenBracket ∷ one kCloseBracket ∷ [])) else λ _. push []
 rule fields k =
     if beginsType k true then (λ _. push (aType ∷ aName ∷ one kSemicolon ∷ fields ∷ [])) else λ _.

@@ -1,6 +1,6 @@
 -- The literals of a derived tree are words: each is the value of a literal token, which the lexer bounds.
-use Prim.Native.Nat.{ℕ, _≤_}
-use mathlib.Core.Path.{_≡_, sym, ap, _∙_}
+use Prim.Native.Nat.{ℕ, _≤_, _<_}
+use mathlib.Core.Path.{_≡_, ap}
 use mathlib.Core.List.{List}
 use native.Mathlib.Omega.{arith}
 use native.Mathlib.Decide.{decLt}
@@ -9,27 +9,37 @@ use Rattle.base.specs.Codes.{literalMost}
 use Rattle.base.specs.All.{All, all-nil, all-cons}
 use Rattle.base.specs.laws.Lists.{get-getD}
 use Rattle.base.specs.Outcome.{accepted}
-use Rattle.lexer.specs.Kinds.{kLiteral}
-use Rattle.lexer.specs.Tokens.{Token, decimal, tokens}
-use Rattle.lexer.specs.laws.RowLaws.{token-of}
+use Rattle.lexer.specs.Kinds.{kLiteral, kFixedLiteral}
+use Rattle.lexer.specs.Tokens.{Token, decimal, thousandthsOf, tokens}
+use Rattle.lexer.specs.laws.RowLaws.{TokenOf, token-of}
 use Rattle.parser.specs.Tree.{Sort, Part, Method, Class, Program}
 use Rattle.parser.specs.Stream.{tokenAt, kindAt, noMore}
-use Rattle.parser.specs.Grammar.{Kind, Derives, operate, one-operand, negate, no-negation, make-array, no-array, index, take-length, invoke, no-suffix, a-literal, a-true, a-false, a-name, a-this, make-object, get-register, parentheses, none-given, some-given, one-argument, more-arguments, a-block, an-if, a-while, a-print, an-assignment, an-element-assignment, put-register, no-statement, more-statements}
+use Rattle.parser.specs.Grammar.{Kind, Derives, operate, one-operand, negate, no-negation, make-array, no-array, index, take-length, invoke, no-suffix, a-literal, a-fixed-literal, a-true, a-false, a-name, a-this, make-object, get-register, parentheses, none-given, some-given, one-argument, more-arguments, a-block, an-if, a-while, a-print, an-assignment, an-element-assignment, put-register, no-statement, more-statements}
 use Rattle.parser.specs.Grammar.{DerivesMethod, a-method, DerivesMethods, no-method, more-methods, DerivesClass, a-class-declaration, DerivesClasses, no-class, more-classes, DerivesProgram, a-program}
 use Rattle.typesystem.specs.Check.{checking}
 use Rattle.soundness.specs.laws.StateTyping.{WordLiterals, MethodFits, LiteralsFit}
 use Rattle.acceptance.specs.Accepted.{allowed}
 
--- every literal token has a small value
-abbrev pub SmallLiterals : List Token → Type 0
-SmallLiterals ts = (i : ℕ) → kindAt ts i ≡ kLiteral → decimal 0 (tokenAt ts i .text) ≤ literalMost
+-- every literal token has a small value, of int or of fixed
+pub record SmallLiterals (ts : List Token) : Type 0 where
+  pub integers : (i : ℕ) → kindAt ts i ≡ kLiteral → decimal 0 (tokenAt ts i .text) ≤ literalMost
+  pub counts : (i : ℕ) → kindAt ts i ≡ kFixedLiteral → thousandthsOf (tokenAt ts i .text) ≤ literalMost
 
 -- those of a source have
 pub small : (s : List ℕ) (ts : List Token) → tokens s ≡ accepted ts → SmallLiterals ts
-small s ts e i k = elim (decLt i (length ts)) [
-  | yes l ↦ token-of s ts e i (tokenAt ts i) (get-getD ts i noMore l) .literal k
-  | no l ↦ absurd (omega (arith, sym (ap (λ (t : Token). t .kind) (List·getD-eq-default ts noMore (omega arith))) ∙ k))
-]
+small s ts e =
+    record {
+      integers = λ i k. is-token i (omega (arith, k)) .literal k;
+      counts = λ i k. is-token i (omega (arith, k)) .fixed k .small;
+    }
+  where
+    is-token : (i : ℕ) → 0 < kindAt ts i → TokenOf s (tokenAt ts i)
+    is-token i k = elim (decLt i (length ts)) [
+      | yes l ↦ token-of s ts e i (tokenAt ts i) (get-getD ts i noMore l)
+      | no l ↦
+          let behind : length ts ≤ i = omega arith in
+          absurd (omega (arith, k, ap (λ (t : Token). t .kind) (List·getD-eq-default ts noMore behind)))
+    ]
 
 module _ {ts : List Token} (fitting : SmallLiterals ts) where
   fit : {s : Sort} {k : Kind s} {i j : ℕ} {t : Part s} → Derives ts s k i j t → WordLiterals t
@@ -43,7 +53,8 @@ module _ {ts : List Token} (fitting : SmallLiterals ts) where
   fit (take-length a e₁ e₂) = fit a
   fit (invoke d e₁ e₂ e₃ ds e₄) = (fit d, fit ds)
   fit (no-suffix d) = fit d
-  fit (a-literal {i = i} e) = omega (arith, fitting i e)
+  fit (a-literal {i = i} e) = omega (arith, fitting .integers i e)
+  fit (a-fixed-literal {i = i} e) = omega (arith, fitting .counts i e)
   fit (a-true e) = tt
   fit (a-false e) = tt
   fit (a-name e) = tt

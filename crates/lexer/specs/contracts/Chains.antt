@@ -7,8 +7,8 @@ use mathlib.Core.Path.{_≡_}
 use lib.ListN.{length, take, drop}
 use Rattle.base.specs.Outcome.{Outcome, accepted, refused, _>>=_}
 use Rattle.base.specs.contracts.Table.{col, put, rows, size}
-use Rattle.lexer.specs.Kinds.{kLiteral, isName}
-use Rattle.lexer.specs.Tokens.{Token, token, decimal, turn}
+use Rattle.lexer.specs.Kinds.{kLiteral, kFixedLiteral, isName}
+use Rattle.lexer.specs.Tokens.{Token, token, decimal, thousandthsOf, turn}
 use Rattle.lexer.specs.contracts.Rows.{firstNamed}
 use Rattle.lexer.specs.declared.Stored.{Stored}
 use Rattle.lexer.specs.declared.Stored.the-variants.{Refused, Done}
@@ -66,6 +66,7 @@ pub record Numbered (s tab : List ℕ) (i : ℕ) : Type 0 where
   pub link : Link tab i (col tab 6 i)
   pub name : isName (col tab 0 i) ≡ true → col tab 2 i ≡ firstNamed (tokensOf s tab i) (textAt s tab i)
   pub literal : col tab 0 i ≡ kLiteral → col tab 2 i ≡ decimal 0 (textAt s tab i)
+  pub fixed : col tab 0 i ≡ kFixedLiteral → col tab 2 i ≡ thousandthsOf (textAt s tab i)
 
 -- the first n rows hold tokens
 pub record RowsFilled (s tab : List ℕ) (n : ℕ) : Type 0 where

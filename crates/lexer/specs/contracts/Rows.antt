@@ -11,8 +11,8 @@ use Rattle.base.specs.Choice.{if_then_else_}
 use Rattle.base.specs.Codes.{tokensMost}
 use Rattle.base.specs.Outcome.{Outcome, accepted, refused}
 use Rattle.base.specs.contracts.Table.{col}
-use Rattle.lexer.specs.Kinds.{kLiteral, isName}
-use Rattle.lexer.specs.Tokens.{Token, decimal}
+use Rattle.lexer.specs.Kinds.{kLiteral, kFixedLiteral, isName}
+use Rattle.lexer.specs.Tokens.{Token, decimal, thousandthsOf}
 use Rattle.lexer.specs.declared.Lexed.{Lexed}
 use Rattle.lexer.specs.declared.Lexed.the-variants.{Tokens, Refused}
 
@@ -27,6 +27,7 @@ pub record RowOf (tab : List ℕ) (ts : List Token) (i : ℕ) (t : Token) : Type
   pub start : col tab 1 i ≡ t .start
   pub name : isName (t .kind) ≡ true → col tab 2 i ≡ firstNamed ts (t .text)
   pub literal : t .kind ≡ kLiteral → col tab 2 i ≡ decimal 0 (t .text)
+  pub fixed : t .kind ≡ kFixedLiteral → col tab 2 i ≡ thousandthsOf (t .text)
 
 -- the table has a row for each token
 abbrev pub Rows : List ℕ → List Token → Type 0

@@ -1,23 +1,24 @@
 -- Laws on what begins at a position: a run is the front of what it is taken from, each item ends past its beginning and within the bytes,
--- and a literal has digits only.
+-- and a literal has digits only, or, of fixed, digits, a point and digits.
 use Prim.Native.Nat.{ℕ, suc, _+_, _-_, _≤_, _<_}
 use native.Mathlib.Omega.{arith}
-use mathlib.Core.List.{List, [], _∷_}
+use mathlib.Core.List.{List, [], _∷_, _++_}
 use mathlib.Core.Logic.{_≢_}
 use mathlib.Core.Bool.{Bool, true, false, _&&_, _||_, not, true≢false, false≢true}
 use mathlib.Core.Option.{Option, none, some}
-use mathlib.Core.Path.{_≡_, refl, sym, ap, _∙_}
-use lib.ListN.{length, getD, take, drop, length-drop}
+use mathlib.Core.Path.{_≡_, refl, sym, ap, _∙_, subst}
+use lib.ListN.{length, getD, take, drop, length-append, length-drop}
 use lib.Dec.{eqb, ltb, lit<}
-use lib.Seq.{drop-cons}
+use lib.Seq.{drop-cons, drop-append-add, take-add}
 use borrow.Author.Tests.{ltb-true, eqb-true, ne-eqb, eqb-false, not-true}
 use Rattle.base.specs.Bytes.{same}
 use Rattle.base.specs.Choice.{if_then_else_}
 use Rattle.base.specs.All.{All, all-nil, all-cons}
-use Rattle.base.specs.laws.Tests.{apart, and-true, and-false, if-both}
+use Rattle.base.specs.laws.Tests.{apart, and-true, and-false, or-neither, if-both}
 use Rattle.lexer.specs.Bytes.{isBlank, isLetter, isDigit, isNamePart}
-use Rattle.lexer.specs.Kinds.{Word, words, kLiteral, kAnd, isName, kindIn, wordKind, markKind}
-use Rattle.lexer.specs.Tokens.{Item, gap, unclosed, nothing, token, longestRun, begins, closing, comment, mark, item}
+use Rattle.lexer.specs.Kinds.{Word, words, kLiteral, kFixedLiteral, kAnd, isName, kindIn, wordKind, markKind}
+use Rattle.lexer.specs.Tokens.{Item, gap, unclosed, nothing, token, longestRun, begins, closing, comment, mark, numeral, item}
+use Rattle.lexer.specs.Tokens.{wholeDigits, fractionDigits}
 
 -- ---- two bytes
 
@@ -74,6 +75,12 @@ run-some : (p : ℕ → Bool) (b : ℕ) (l : List ℕ) → p b ≡ true → 0 < 
 unfolding longestRun
 run-some p b l e = rw e (omega arith)
 
+-- it ends before a byte that does not pass
+run-stop : (p : ℕ → Bool) (l : List ℕ) (b : ℕ) (r : List ℕ) → All (λ c. p c ≡ true) l → p b ≡ false → longestRun p (l ++ b ∷ r) ≡ l
+unfolding longestRun
+run-stop p [] b r all-nil n = rw n refl
+run-stop p (c ∷ l) b r (all-cons e h) n = rw e (ap (λ (m : List ℕ). c ∷ m) (run-stop p l b r h n))
+
 -- ---- the kinds of words and marks
 
 -- a test tells two kinds apart
@@ -82,11 +89,11 @@ kinds-apart test k q e n = ne-eqb k q λ z. absurd (true≢false (sym e ∙ ap t
 
 -- every kind is below this number
 abbrev pub kindsEnd : ℕ
-kindsEnd = 43
+kindsEnd = 45
 
 -- a kind of a word or a mark, which is no literal's; 0 is the kind of no mark
 abbrev kindFits : ℕ → Bool
-kindFits k = ltb k kindsEnd && not (eqb k kLiteral)
+kindFits k = ltb k kindsEnd && not (eqb k kLiteral || eqb k kFixedLiteral)
 
 abbrev kindsFit : List Word → Bool
 kindsFit [] = true
@@ -100,12 +107,13 @@ word-fits (w ∷ ws) t e =
 
 -- the same as facts
 abbrev KindFits : ℕ → Type 0
-KindFits k = (k < kindsEnd) × (k ≢ kLiteral)
+KindFits k = (k < kindsEnd) × (k ≢ kLiteral) × (k ≢ kFixedLiteral)
 
 kind-fits : (k : ℕ) → kindFits k ≡ true → KindFits k
 kind-fits k e =
-    let q = and-true (ltb k kindsEnd) (not (eqb k kLiteral)) e in
-    (ltb-true k kindsEnd (q .0), eqb-false k kLiteral (not-true (eqb k kLiteral) (q .1)))
+    let q = and-true (ltb k kindsEnd) (not (eqb k kLiteral || eqb k kFixedLiteral)) e in
+    let n = or-neither (eqb k kLiteral) (eqb k kFixedLiteral) (not-true (eqb k kLiteral || eqb k kFixedLiteral) (q .1)) in
+    (ltb-true k kindsEnd (q .0), eqb-false k kLiteral (n .0), eqb-false k kFixedLiteral (n .1))
 
 pub word-kind-fits : (t : List ℕ) → (0 < wordKind t) × KindFits (wordKind t)
 unfolding wordKind words
@@ -165,11 +173,38 @@ closing-ends d i (a ∷ b ∷ bs) =
     (ends-later i (i + 2) n (suc (suc n)) (closing (d - 1) (i + 2) bs) (omega arith) (omega arith) (closing-ends (d - 1) (i + 2) bs)))
     (ends-later i (i + 1) (suc n) (suc (suc n)) (closing d (i + 1) (b ∷ bs)) (omega arith) (omega arith) (closing-ends d (i + 1) (b ∷ bs))))
 
--- ---- items
+-- ---- literals
 
 -- every byte is a digit
 abbrev pub Digits : List ℕ → Type 0
 Digits t = All (λ b. isDigit b ≡ true) t
+
+-- digits, a point, digits
+pub record Pointed (text : List ℕ) : Type 0 where
+  pub some-whole : 0 < length (wholeDigits text)
+  pub whole : Digits (wholeDigits text)
+  pub fraction : Digits (fractionDigits text)
+  pub is : text ≡ wholeDigits text ++ 46 ∷ fractionDigits text
+
+with-point : (w f : List ℕ) → 0 < length w → Digits w → Digits f → Pointed (w ++ 46 ∷ f)
+unfolding isDigit
+with-point w f l dw df =
+    let whole : wholeDigits (w ++ 46 ∷ f) ≡ w = run-stop isDigit w 46 f dw refl in
+    let fraction : fractionDigits (w ++ 46 ∷ f) ≡ f =
+    ap (λ (v : List ℕ). drop (length v + 1) (w ++ 46 ∷ f)) whole ∙ drop-append-add w (46 ∷ f) 1 in
+    record {
+      some-whole = subst (λ (v : List ℕ). 0 < length v) (sym whole) l;
+      whole = subst Digits (sym whole) dw;
+      fraction = subst Digits (sym fraction) df;
+      is = λ j. sym whole j ++ 46 ∷ sym fraction j;
+    }
+
+-- the point that bytes begin with, and what is behind it
+behind-point : (l : List ℕ) → getD l 0 0 ≡ 46 → l ≡ 46 ∷ drop 1 l
+behind-point [] e = absurd (omega arith)
+behind-point (c ∷ l) e = ap (λ (d : ℕ). d ∷ l) e
+
+-- ---- items
 
 -- a token's kind and its text, which the bytes begin with
 pub record Shape (kind : ℕ) (text bs : List ℕ) : Type 0 where
@@ -179,6 +214,7 @@ pub record Shape (kind : ℕ) (text bs : List ℕ) : Type 0 where
   pub short : length text ≤ length bs
   pub front : take (length text) bs ≡ text
   pub digits : kind ≡ kLiteral → Digits text
+  pub pointed : kind ≡ kFixedLiteral → Pointed text
   pub named : isName kind ≡ true → text ≡ longestRun isNamePart bs
 
 -- an item that begins at i, with the bytes bs
@@ -196,7 +232,7 @@ chosen i b r blank line block letter digit and =
     if line then (λ _. gap (i + length (longestRun (λ c. not (eqb c 10)) bs))) else λ _.
     if block then (λ _. comment (closing 1 (i + 2) (drop 2 bs))) else λ _.
     if letter then (λ _. let text = longestRun isNamePart bs in token (wordKind text) text) else λ _.
-    if digit then (λ _. token kLiteral (longestRun isDigit bs)) else λ _.
+    if digit then (λ _. numeral bs) else λ _.
     if and then (λ _. token kAnd (38 ∷ 38 ∷ [])) else λ _.
     mark b (markKind b)
 
@@ -210,16 +246,17 @@ module _ (i b : ℕ) (r : List ℕ) where
   good-comment none e w = tt
   good-comment (some j) e w = omega (arith, length-drop 1 r, ap length (w .second))
 
-  good-run : (p : ℕ → Bool) (k : ℕ) → 0 < k → k < kindsEnd → (k ≡ kLiteral → Digits (longestRun p (b ∷ r)))
+  good-run : (p : ℕ → Bool) (k : ℕ) → 0 < k → k < kindsEnd → (k ≡ kLiteral → Digits (longestRun p (b ∷ r))) → k ≢ kFixedLiteral
       → (isName k ≡ true → longestRun p (b ∷ r) ≡ longestRun isNamePart (b ∷ r))
       → p b ≡ true → Good i (b ∷ r) (token k (longestRun p (b ∷ r)))
-  good-run p k l h d n e = record {
+  good-run p k l h d f n e = record {
     positive = l;
     below = h;
     nonempty = run-some p b r e;
     short = run-short p (b ∷ r);
     front = run-front p (b ∷ r);
     digits = d;
+    pointed = λ q. absurd (f q);
     named = n;
   }
 
@@ -228,11 +265,52 @@ module _ (i b : ℕ) (r : List ℕ) where
   good-word e =
       let t = longestRun isNamePart (b ∷ r) in
       let f = word-kind-fits t in
-      good-run isNamePart (wordKind t) (f .0) (f .1 .0) (λ q. absurd (f .1 .1 q)) (λ _. refl) (ap (λ (x : Bool). x || isDigit b || eqb b 95) e)
+      good-run isNamePart (wordKind t) (f .0) (f .1 .0) (λ q. absurd (f .1 .1 q)) (f .1 .2) (λ _. refl)
+      (ap (λ (x : Bool). x || isDigit b || eqb b 95) e)
 
   good-literal : isDigit b ≡ true → Good i (b ∷ r) (token kLiteral (longestRun isDigit (b ∷ r)))
   unfolding isName
-  good-literal e = good-run isDigit kLiteral (lit< tt) (lit< tt) (λ _. run-all isDigit (b ∷ r)) (λ q. absurd (false≢true q)) e
+  good-literal e =
+      good-run isDigit kLiteral (lit< tt) (lit< tt) (λ _. run-all isDigit (b ∷ r)) (λ q. apart (cc)) (λ q. absurd (false≢true q)) e
+
+  good-fixed : let rest = drop (length (longestRun isDigit (b ∷ r))) (b ∷ r) in isDigit b ≡ true → getD rest 0 0 ≡ 46
+      → Good i (b ∷ r) (token kFixedLiteral (longestRun isDigit (b ∷ r) ++ 46 ∷ longestRun isDigit (drop 1 rest)))
+  unfolding isName
+  good-fixed e q =
+      let bs = b ∷ r in
+      let w = longestRun isDigit bs in
+      let rest = drop (length w) bs in
+      let f = longestRun isDigit (drop 1 rest) in
+      let n = length-append w (46 ∷ f) in
+      let z = behind-point rest q in
+      let tail = ap (take (suc (length f))) z ∙ ap (λ (l : List ℕ). 46 ∷ l) (run-front isDigit (drop 1 rest)) in
+      record {
+        positive = lit< tt;
+        below = lit< tt;
+        nonempty = omega (arith, n);
+        short =
+            omega (arith, n, run-short isDigit bs, run-short isDigit (drop 1 rest), ap length z, length-drop (length w) bs);
+        front =
+            ap (λ (m : ℕ). take m bs) n
+            ∙ take-add (length w) (suc (length f)) bs
+            ∙ (λ j. run-front isDigit bs j ++ tail j);
+        digits = λ k. apart (cc);
+        pointed = λ _. with-point w f (run-some isDigit b r e) (run-all isDigit bs) (run-all isDigit (drop 1 rest));
+        named = λ k. absurd (false≢true k);
+      }
+
+  good-numeral : isDigit b ≡ true → Good i (b ∷ r) (numeral (b ∷ r))
+  good-numeral e = by (eqb (getD rest 0 0) 46 && isDigit (getD rest 1 0)) refl
+    where
+      rest : List ℕ
+      rest = drop (length (longestRun isDigit (b ∷ r))) (b ∷ r)
+
+      by : (c : Bool) → (eqb (getD rest 0 0) 46 && isDigit (getD rest 1 0)) ≡ c
+          → Good i (b ∷ r)
+          (if c then (λ _. token kFixedLiteral (longestRun isDigit (b ∷ r) ++ 46 ∷ longestRun isDigit (drop 1 rest)))
+          else λ _. token kLiteral (longestRun isDigit (b ∷ r)))
+      by true q = good-fixed e (eqb-true (getD rest 0 0) 46 (and-true (eqb (getD rest 0 0) 46) (isDigit (getD rest 1 0)) q .0))
+      by false q = good-literal e
 
   good-and : Two 38 38 b r → Good i (b ∷ r) (token kAnd (38 ∷ 38 ∷ []))
   unfolding isName
@@ -243,6 +321,7 @@ module _ (i b : ℕ) (r : List ℕ) where
     short = omega (arith, ap length (w .second));
     front = (λ j. take 2 (w .first j ∷ w .second j));
     digits = λ q. apart (cc);
+    pointed = λ q. apart (cc);
     named = λ q. absurd (false≢true q);
   }
 
@@ -256,6 +335,7 @@ module _ (i b : ℕ) (r : List ℕ) where
     short = omega arith;
     front = refl;
     digits = λ q. absurd (h .1 q);
+    pointed = λ q. absurd (h .2 q);
     named = λ q. absurd (false≢true (sym n ∙ q));
   }
     where
@@ -270,7 +350,7 @@ module _ (i b : ℕ) (r : List ℕ) where
       good-comment (closing 1 (i + 2) (drop 1 r)) (closing-ends 1 (i + 2) (drop 1 r)) (two 47 42 b r e₃)
   good-chosen false false false true x₅ x₆ e₂ e₃ e₄ e₅ e₆ =
       good-word e₄
-  good-chosen false false false false true x₆ e₂ e₃ e₄ e₅ e₆ = good-literal e₅
+  good-chosen false false false false true x₆ e₂ e₃ e₄ e₅ e₆ = good-numeral e₅
   good-chosen false false false false false true e₂ e₃ e₄ e₅ e₆ = good-and (two 38 38 b r e₆)
   good-chosen false false false false false false e₂ e₃ e₄ e₅ e₆ =
       good-mark (markKind b) (kind-fits (markKind b) (mark-kind-fits b)) (mark-no-name b) (eqb (markKind b) 0) refl

@@ -1,13 +1,13 @@
 -- Document 02, (i): without leading zeros a literal's bytes are given by its value. Two literals have equal values exactly when they have
--- equal bytes.
+-- equal bytes; and so have two literals of fixed, (ix), by the thousandths that they count.
 use Prim.Native.Nat.{ℕ, suc, _+_, _*_, _-_, _≤_, _<_}
 use native.Mathlib.Decide.{decLt}
 use native.Mathlib.Omega.{arith}
-use mathlib.Core.List.{List, [], _∷_}
+use mathlib.Core.List.{List, [], _∷_, _++_}
 use mathlib.Core.Logic.{_≢_, _↔_}
 use mathlib.Core.Bool.{true, false}
 use mathlib.Core.Option.{some}
-use mathlib.Core.Path.{_≡_, refl, ap}
+use mathlib.Core.Path.{_≡_, refl, sym, ap, _∙_}
 use lib.ListN.{length, getElem?}
 use lib.Dec.{eqb, ltb, leb}
 use borrow.Author.Tests.{leb-true, lt-ltb, eqb-false}
@@ -15,10 +15,10 @@ use Rattle.base.specs.All.{all-cons}
 use Rattle.base.specs.Outcome.{accepted}
 use Rattle.base.specs.laws.Tests.{and-true, and-right}
 use Rattle.lexer.specs.Bytes.{isDigit}
-use Rattle.lexer.specs.Kinds.{kLiteral}
-use Rattle.lexer.specs.Tokens.{Token, decimal, startsWithZero, tokens}
+use Rattle.lexer.specs.Kinds.{kLiteral, kFixedLiteral}
+use Rattle.lexer.specs.Tokens.{Token, decimal, startsWithZero, wholeDigits, fractionDigits, thousandthsOf, tokens}
 use Rattle.lexer.specs.laws.ItemLaws.{Digits}
-use Rattle.lexer.specs.laws.RowLaws.{TokenOf, token-of}
+use Rattle.lexer.specs.laws.RowLaws.{FixedText, TokenOf, token-of}
 
 -- more digits only add to a value
 pub decimal-grows : (high : ℕ) (ds : List ℕ) → high ≤ decimal high ds
@@ -79,6 +79,21 @@ equal-value ds es p q v =
       ]
     ]
 
+-- ---- literals of fixed
+
+whole-of : {t : List ℕ} → FixedText t → Literal (wholeDigits t)
+whole-of f = record { digits = f .pointed .whole; nonempty = f .pointed .some-whole; no-zero = f .no-zero }
+
+-- three digits each behind the point: as many, so these are equal and those before the point have equal values
+equal-count : (t u : List ℕ) → FixedText t → FixedText u → thousandthsOf t ≡ thousandthsOf u → t ≡ u
+unfolding thousandthsOf
+equal-count t u f g v =
+    let r =
+    as-many (fractionDigits t) (fractionDigits u) (decimal 0 (wholeDigits t)) (decimal 0 (wholeDigits u))
+    (f .pointed .fraction) (g .pointed .fraction) (f .three ∙ sym (g .three)) v in
+    let w = equal-value (wholeDigits t) (wholeDigits u) (whole-of f) (whole-of g) (r .0) in
+    f .pointed .is ∙ (λ j. w j ++ 46 ∷ r .1 j) ∙ sym (g .pointed .is)
+
 -- ---- of sources
 
 literal-of : {s : List ℕ} {t : Token} → TokenOf s t → t .kind ≡ kLiteral → Literal (t .text)
@@ -94,3 +109,14 @@ pub value-text : (s : List ℕ) (ts : List Token) → tokens s ≡ accepted ts �
     → getElem? ts i ≡ some t → t .kind ≡ kLiteral → getElem? ts j ≡ some u → u .kind ≡ kLiteral
     → (decimal 0 (t .text) ≡ decimal 0 (u .text)) ↔ (t .text ≡ u .text)
 value-text s ts a i j t u et kt eu ku = literal-text (token-of s ts a i t et) (token-of s ts a j u eu) kt ku
+
+-- two literals of fixed, of one accepted source or of two
+pub fixed-text : {s s′ : List ℕ} {t u : Token} → TokenOf s t → TokenOf s′ u → t .kind ≡ kFixedLiteral → u .kind ≡ kFixedLiteral
+    → (thousandthsOf (t .text) ≡ thousandthsOf (u .text)) ↔ (t .text ≡ u .text)
+fixed-text {t = t} {u = u} o o′ k k′ = (λ v. equal-count (t .text) (u .text) (o .fixed k) (o′ .fixed k′) v, λ e. ap thousandthsOf e)
+
+-- two literals of fixed of an accepted source
+pub fixed-value-text : (s : List ℕ) (ts : List Token) → tokens s ≡ accepted ts → (i j : ℕ) (t u : Token)
+    → getElem? ts i ≡ some t → t .kind ≡ kFixedLiteral → getElem? ts j ≡ some u → u .kind ≡ kFixedLiteral
+    → (thousandthsOf (t .text) ≡ thousandthsOf (u .text)) ↔ (t .text ≡ u .text)
+fixed-value-text s ts a i j t u et kt eu ku = fixed-text (token-of s ts a i t et) (token-of s ts a j u eu) kt ku

@@ -5,22 +5,24 @@ use native.Mathlib.Numerals.{add-one}
 use native.Mathlib.Omega.{arith}
 use mathlib.Core.List.{List, [], _∷_, _++_}
 use mathlib.Core.Logic.{_≢_}
-use mathlib.Core.Bool.{Bool, true, false, _&&_}
+use mathlib.Core.Bool.{Bool, true, false, _&&_, not}
 use mathlib.Core.Option.{some, Option·none-ne-some, Option·some-injective}
-use mathlib.Core.Path.{_≡_, refl, sym, ap, _∙_, subst}
+use mathlib.Core.Path.{_≡_, refl, ap, _∙_, subst}
 use lib.ListN.{length, getElem?, take, drop, length-drop}
 use lib.Dec.{eqb, ltb, leb}
-use borrow.Author.Tests.{eqb-false, eq-eqb, ltb-false, leb-false}
+use borrow.Author.Tests.{eqb-true, eqb-false, eq-eqb, ltb-false, leb-false, not-false}
 use Rattle.base.specs.Bytes.{same}
 use Rattle.base.specs.Choice.{if_then_else_}
-use Rattle.base.specs.Codes.{tokensMost, nameMost, literalMost, leadingZero, literalTooLarge, nameTooLong, tooManyTokens}
+use Rattle.base.specs.Codes.{tokensMost, nameMost, literalMost, leadingZero, notThreeDigits, literalTooLarge, nameTooLong, tooManyTokens}
 use Rattle.base.specs.laws.Lists.{get-below}
 use Rattle.base.specs.Outcome.{Outcome, accepted, refused, _>>=_}
 use Rattle.lexer.specs.Bytes.{isNamePart}
-use Rattle.lexer.specs.Kinds.{kEnd, kLiteral, isName}
-use Rattle.lexer.specs.Tokens.{Token, Item, gap, unclosed, nothing, token, longestRun, decimal, startsWithZero, item, tooLong, zeroFirst, tooLarge, turn, tokensFrom, tokens}
-use Rattle.base.specs.laws.Tests.{apart, and-true, and-right, same-refl, same-equal}
-use Rattle.lexer.specs.laws.ItemLaws.{kindsEnd, Good, Shape, Digits, good}
+use Rattle.lexer.specs.Kinds.{kEnd, kLiteral, kFixedLiteral, isName}
+use Rattle.lexer.specs.Tokens.{Token, Item, gap, unclosed, nothing, token, longestRun, decimal, startsWithZero, item}
+use Rattle.lexer.specs.Tokens.{wholeDigits, fractionDigits, thousandthsOf, tooLong, zeroFirst, notThree, tooLarge}
+use Rattle.lexer.specs.Tokens.{turn, tokensFrom, tokens}
+use Rattle.base.specs.laws.Tests.{apart, and-true, and-right, or-neither, same-refl, same-equal}
+use Rattle.lexer.specs.laws.ItemLaws.{kindsEnd, Good, Shape, Digits, Pointed, good}
 use Rattle.lexer.specs.contracts.Rows.{firstNamed, Rows, Lexes}
 use Rattle.lexer.specs.declared.Lexed.the-variants.{Tokens, Refused}
 
@@ -113,6 +115,13 @@ module _ (ts : List Token) (i : ℕ) (t : Token) (at : getElem? ts i ≡ some t)
 
 -- ---- the tokens of a source
 
+-- the bytes of a literal of fixed: digits without a leading zero, a point, three digits
+pub record FixedText (text : List ℕ) : Type 0 where
+  pub pointed : Pointed text
+  pub no-zero : startsWithZero (wholeDigits text) ≡ false
+  pub three : length (fractionDigits text) ≡ 3
+  pub small : thousandthsOf text ≤ literalMost
+
 -- a token of s
 pub record TokenOf (s : List ℕ) (t : Token) : Type 0 where
   pub positive : 0 < t .kind
@@ -125,6 +134,7 @@ pub record TokenOf (s : List ℕ) (t : Token) : Type 0 where
   pub literal : t .kind ≡ kLiteral → decimal 0 (t .text) ≤ literalMost
   pub digits : t .kind ≡ kLiteral → Digits (t .text)
   pub no-zero : t .kind ≡ kLiteral → startsWithZero (t .text) ≡ false
+  pub fixed : t .kind ≡ kFixedLiteral → FixedText (t .text)
 
 -- tokens of s, one behind the other from i on, where `count` stand before; others may lie between
 pub data Sequence (s : List ℕ) : (count i : ℕ) → List Token → Type 0 where
@@ -158,22 +168,28 @@ module _
     (inside : i < length s)
     (ts : List Token)
   where
-    of-token : (k : ℕ) (t : List ℕ) → Shape k t (drop i s) → (x y w z : Bool) → eqb count tokensMost ≡ x → tooLong k t ≡ y
-        → zeroFirst k t ≡ w → tooLarge k t ≡ z
+    of-token : (k : ℕ) (t : List ℕ) → Shape k t (drop i s) → (x y w v z : Bool) → eqb count tokensMost ≡ x → tooLong k t ≡ y
+        → zeroFirst k t ≡ w → notThree k t ≡ v → tooLarge k t ≡ z
         → (if x then (λ _. refused tooManyTokens i) else λ _.
         if y then (λ _. refused nameTooLong i) else λ _.
         if w then (λ _. refused leadingZero i) else λ _.
+        if v then (λ _. refused notThreeDigits i) else λ _.
         if z then (λ _. refused literalTooLarge i) else λ _.
         next (count + 1) (i + length t) >>= λ us. accepted ((record { kind = k; start = i; text = t }) ∷ us))
         ≡ accepted ts → Sequence s count i ts
-    of-token k t g true y w z ex ey ew ez e = never e
-    of-token k t g false true w z ex ey ew ez e = never e
-    of-token k t g false false true z ex ey ew ez e = never e
-    of-token k t g false false false true ex ey ew ez e = never e
-    of-token k t g false false false false ex ey ew ez e =
+    of-token k t g true y w v z ex ey ew ev ez e = never e
+    of-token k t g false true w v z ex ey ew ev ez e = never e
+    of-token k t g false false true v z ex ey ew ev ez e = never e
+    of-token k t g false false false true z ex ey ew ev ez e = never e
+    of-token k t g false false false false true ex ey ew ev ez e = never e
+    of-token k t g false false false false false ex ey ew ev ez e =
         let u : Token = record { kind = k; start = i; text = t } in
         let b = bound (next (count + 1) (i + length t)) (λ us. u ∷ us) e in
         let c : count < tokensMost = below (eqb-false count tokensMost ex) in
+        let zeroes =
+        or-neither (eqb k kLiteral && startsWithZero t) (eqb k kFixedLiteral && startsWithZero (wholeDigits t)) ew in
+        let larges =
+        or-neither (eqb k kLiteral && ltb literalMost (decimal 0 t)) (eqb k kFixedLiteral && ltb literalMost (thousandthsOf t)) ez in
         let o : TokenOf s u = record {
           positive = g .positive;
           below = g .below;
@@ -181,10 +197,23 @@ module _
           inside = omega (arith, g .short, length-drop i s);
           front = g .front;
           name = λ n. ltb-false nameMost (length t) (and-right (isName k) (ltb nameMost (length t)) ey n);
-          literal = λ n. ltb-false literalMost (decimal 0 t) (and-right (eqb k kLiteral) (ltb literalMost (decimal 0 t)) ez (eq-eqb k kLiteral n));
+          literal = λ n.
+              ltb-false literalMost (decimal 0 t)
+              (and-right (eqb k kLiteral) (ltb literalMost (decimal 0 t)) (larges .0) (eq-eqb k kLiteral n));
           named = g .named;
           digits = g .digits;
-          no-zero = λ n. and-right (eqb k kLiteral) (startsWithZero t) ew (eq-eqb k kLiteral n);
+          no-zero = λ n. and-right (eqb k kLiteral) (startsWithZero t) (zeroes .0) (eq-eqb k kLiteral n);
+          fixed = λ n.
+              let is = eq-eqb k kFixedLiteral n in
+              let exact = and-right (eqb k kFixedLiteral) (not (eqb (length (fractionDigits t)) 3)) ev is in
+              record {
+                pointed = g .pointed n;
+                no-zero = and-right (eqb k kFixedLiteral) (startsWithZero (wholeDigits t)) (zeroes .1) is;
+                three = eqb-true (length (fractionDigits t)) 3 (not-false (eqb (length (fractionDigits t)) 3) exact);
+                small =
+                    ltb-false literalMost (thousandthsOf t)
+                    (and-right (eqb k kFixedLiteral) (ltb literalMost (thousandthsOf t)) (larges .1) is);
+              };
         } in
         subst (Sequence s count i) (b .2) (follow {t = u} c (omega arith) o (after (count + 1) (i + length t) (b .0) (omega arith) (b .1)))
       where
@@ -196,7 +225,8 @@ module _
     of-item (gap j) g e = earlier (omega (arith, g .0)) (after count j ts few e)
     of-item unclosed g e = never e
     of-item nothing g e = never e
-    of-item (token k t) g e = of-token k t g (eqb count tokensMost) (tooLong k t) (zeroFirst k t) (tooLarge k t) refl refl refl refl e
+    of-item (token k t) g e =
+        of-token k t g (eqb count tokensMost) (tooLong k t) (zeroFirst k t) (notThree k t) (tooLarge k t) refl refl refl refl refl e
 
 sequence-from : (f : ℕ) (s : List ℕ) (count i : ℕ) (ts : List Token) → count ≤ tokensMost → tokensFrom f s count i ≡ accepted ts
     → Sequence s count i ts
@@ -240,8 +270,8 @@ module _ (s : List ℕ) (ts : List Token) (accepts : tokens s ≡ accepted ts) w
   unfolding tokens
   sequence = sequence-from (length s + 1) s 0 0 ts (omega arith) accepts
 
-  -- each token has a kind from 1 to 39 and lies within the source; a name has 1 to 255 bytes; a literal has digits only, no leading zero,
-  -- and a value of at most 2147483647
+  -- each token has a kind from 1 to 44 and lies within the source; a name has 1 to 255 bytes; a literal has digits only, no leading zero,
+  -- and a value of at most 2147483647; a literal of fixed has digits, a point and three digits, no leading zero, and counts at most as many
   pub token-of : (i : ℕ) (t : Token) → getElem? ts i ≡ some t → TokenOf s t
   token-of i t e = of-sequence i sequence e .1
 

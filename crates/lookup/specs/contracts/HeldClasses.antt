@@ -10,7 +10,8 @@ use lib.Dec.{ltb}
 use Rattle.base.specs.contracts.Table.{col}
 use Rattle.lexer.specs.Tokens.{Token}
 use Rattle.lexer.specs.contracts.Rows.{firstNamed, Rows}
-use Rattle.parser.specs.Tree.{Name, Element, Element.int, Element.boolean, Element.class, Ty, Ty.plain, Ty.arrayOf, Variable, Method, Class}
+use Rattle.parser.specs.Tree.{Name, Element, Element.int, Element.boolean, Element.fixed, Element.class, Ty, Ty.plain, Ty.arrayOf}
+use Rattle.parser.specs.Tree.{Variable, Method, Class}
 use Rattle.parser.specs.Measure.{nodes}
 use Rattle.parser.specs.contracts.Layout.{absent, rowOf, rowVariables, rowMethods, rowParent, rowClasses, headOf}
 use Rattle.reader.specs.contracts.Holds.{Holds}
@@ -47,6 +48,7 @@ pub data MaybeNumber (ts : List Token) : Option (List ℕ) → ℕ → Type 0 wh
 abbrev pub elementCode : List Token → Element → ℕ
 elementCode ts int = 2048
 elementCode ts boolean = 2049
+elementCode ts fixed = 2050
 elementCode ts (class c) = firstNamed ts c
 
 -- the mark for array, above all of these
@@ -66,6 +68,7 @@ noType = 8192
 pub data ElementCodes (ts : List Token) : Element → ℕ → Type 0 where
   code-int : {w : ℕ} → w ≡ 2048 → ElementCodes ts int w
   code-boolean : {w : ℕ} → w ≡ 2049 → ElementCodes ts boolean w
+  code-fixed : {w : ℕ} → w ≡ 2050 → ElementCodes ts fixed w
   code-class : {c : List ℕ} {w : ℕ} → NameNumber ts c w → ElementCodes ts (class c) w
 
 pub data Codes (ts : List Token) : Ty → ℕ → Type 0 where

@@ -6,10 +6,10 @@ use mathlib.Core.List.{List}
 use mathlib.Core.Bool.{Bool, true, false}
 use lib.Dec.{eqb}
 use Rattle.base.specs.Choice.{if_then_else_}
-use Rattle.lexer.specs.Kinds.{kLiteral, kTrue, kFalse, kThis, kNew, kDot, kLength, kNot, kPort}
+use Rattle.lexer.specs.Kinds.{kLiteral, kFixedLiteral, kTrue, kFalse, kThis, kNew, kDot, kLength, kNot, kPort}
 use Rattle.lexer.specs.Kinds.{kOpenBracket, kOpenBrace, kIf, kWhile, kSystem}
 use Rattle.lexer.specs.Tokens.{Token}
-use Rattle.parser.specs.Tree.{Place, Name, Operator, ElementUse, Ty.arrayOf}
+use Rattle.parser.specs.Tree.{Place, Name, Operator, Numeral.intLiteral, Numeral.fixedLiteral, ElementUse, Ty.arrayOf}
 use Rattle.parser.specs.Tree.{Sort, Sort.expression, Sort.arguments, Sort.statement, Sort.statements, Part, Expression, Statement}
 use Rattle.parser.specs.Tree.{Part.literal, Part.truth, Part.variable, Part.this, Part.newArray, Part.newObject, Part.negation, Part.binary}
 use Rattle.parser.specs.Tree.{Part.element, Part.arrayLength, Part.call, Part.portGet, Part.argument}
@@ -35,13 +35,14 @@ Bound = (s : Sort) → Part s → Type 0
 -- FORMS BY KINDS
 
 pub data Form : Type 0 where
-  aLiteral aVariable aThis aNewArray aNewObject aNegation aBinary anElement aLength aCall aPortGet : Form
+  aLiteral aFixedLiteral aVariable aThis aNewArray aNewObject aNegation aBinary anElement aLength aCall aPortGet : Form
   aTruth : Bool → Form
   aBlock aConditional aLoop aPrint anAssignment anElementStore aPortPut : Form
 
 unfoldable pub formAtom : ℕ → Form
 formAtom k =
     if eqb k kLiteral then (λ _. aLiteral) else λ _.
+    if eqb k kFixedLiteral then (λ _. aFixedLiteral) else λ _.
     if eqb k kTrue then (λ _. aTruth true) else λ _.
     if eqb k kFalse then (λ _. aTruth false) else λ _.
     if eqb k kThis then (λ _. aThis) else λ _.
@@ -79,7 +80,9 @@ formS k next =
 -- the parts before a node's own token are within one bound, those behind it within another
 module _ (tab : List ℕ) (ts : List Token) (n row : ℕ) (Before Behind : Bound) where
   pub data Shows : Form → Expression → Type 0 where
-    shows-literal : {p : Place} {v : ℕ} → wordAt tab 3 row ≡ p .start → wordAt tab 2 row ≡ v → Shows aLiteral (literal p v)
+    shows-literal : {p : Place} {v : ℕ} → wordAt tab 3 row ≡ p .start → wordAt tab 2 row ≡ v → Shows aLiteral (literal p (intLiteral v))
+    shows-fixed-literal : {p : Place} {v : ℕ} → wordAt tab 3 row ≡ p .start → wordAt tab 2 row ≡ v
+        → Shows aFixedLiteral (literal p (fixedLiteral v))
     shows-truth : {p : Place} {b : Bool} → wordAt tab 3 row ≡ p .start → Shows (aTruth b) (truth p b)
     shows-variable : {p : Place} {x : List ℕ} → wordAt tab 3 row ≡ p .start → NameNumber ts x (wordAt tab 2 row)
         → Shows aVariable (variable p x)

@@ -16,7 +16,7 @@ use Rattle.lexer.specs.Kinds.{isName}
 use Rattle.lexer.specs.Tokens.{Token}
 use Rattle.lexer.specs.contracts.Rows.{firstNamed}
 use Rattle.lexer.specs.laws.RowLaws.{first-named, first-least}
-use Rattle.parser.specs.Tree.{Element, Element.int, Element.boolean, Element.class, Ty, Ty.plain, Ty.arrayOf, Class, Method}
+use Rattle.parser.specs.Tree.{Element, Element.int, Element.boolean, Element.fixed, Element.class, Ty, Ty.plain, Ty.arrayOf, Class, Method}
 use Rattle.parser.specs.Stream.{tokenAt, noMore, kindAt, startAt}
 use Rattle.parser.specs.contracts.Post.{kindInTable}
 use Rattle.reader.specs.contracts.Matches.{NameIs, ElementMatches}
@@ -26,7 +26,7 @@ use Rattle.base.specs.laws.Tests.{same-of, apart-same}
 use Rattle.typing.specs.laws.Tests.{sameType-of, apart-sameType}
 use Rattle.typing.specs.laws.Chains.{class-name, all-classes}
 use Rattle.parser.specs.contracts.Layout.{absent}
-use Rattle.lookup.specs.contracts.HeldClasses.{wordAt, Lexemes, NameNumber, MaybeNumber, no-name, a-name, elementCode, code, arrayMark, noType, ElementCodes, code-int, code-boolean, code-class, Codes, code-plain, code-array, MethodHeld, MethodsHeld, no-methods, more-methods, ClassHeld, ClassesHeld, no-classes, more-classes, rowClass, ClassTableHeld, classOf}
+use Rattle.lookup.specs.contracts.HeldClasses.{wordAt, Lexemes, NameNumber, MaybeNumber, no-name, a-name, elementCode, code, arrayMark, noType, ElementCodes, code-int, code-boolean, code-fixed, code-class, Codes, code-plain, code-array, MethodHeld, MethodsHeld, no-methods, more-methods, ClassHeld, ClassesHeld, no-classes, more-classes, rowClass, ClassTableHeld, classOf}
 
 -- a list that stands in a row, and not past the last, has a member
 pub none-left : {A : Type 0} (first : List A → ℕ) → first [] ≡ absent → (xs : List A) {row left : ℕ} → first xs ≡ row → length xs ≤ left
@@ -131,12 +131,14 @@ pub element-there : (ts : List Token) (i : ℕ) (t : Element) → ElementMatches
 unfolding ElementMatches
 element-there ts i int m = m .there
 element-there ts i boolean m = m .there
+element-there ts i fixed m = m .there
 element-there ts i (class c) m = m .there
 
 -- the number of an element type is below the mark for array
-pub element-below : {ts : List Token} {t : Element} {w : ℕ} → length ts ≤ 2048 → ElementCodes ts t w → w < 2050
+pub element-below : {ts : List Token} {t : Element} {w : ℕ} → length ts ≤ 2048 → ElementCodes ts t w → w < 2051
 element-below few (code-int e) = omega arith
 element-below few (code-boolean e) = omega arith
+element-below few (code-fixed e) = omega arith
 element-below few (code-class s) = omega (arith, s .there)
 
 -- two types have one number just where they are one
@@ -147,12 +149,19 @@ module _ {tab : List ℕ} {n : ℕ} {ts : List Token} (lx : Lexemes tab n ts) wh
   equal-elements : {s t : Element} {v w : ℕ} → ElementCodes ts s v → ElementCodes ts t w → v ≡ w → s ≡ t
   equal-elements (code-int p) (code-int q) e = refl
   equal-elements (code-int p) (code-boolean q) e = absurd (omega arith)
+  equal-elements (code-int p) (code-fixed q) e = absurd (omega arith)
   equal-elements (code-int p) (code-class q) e = absurd (omega (arith, q .there, few-tokens))
   equal-elements (code-boolean p) (code-int q) e = absurd (omega arith)
   equal-elements (code-boolean p) (code-boolean q) e = refl
+  equal-elements (code-boolean p) (code-fixed q) e = absurd (omega arith)
   equal-elements (code-boolean p) (code-class q) e = absurd (omega (arith, q .there, few-tokens))
+  equal-elements (code-fixed p) (code-int q) e = absurd (omega arith)
+  equal-elements (code-fixed p) (code-boolean q) e = absurd (omega arith)
+  equal-elements (code-fixed p) (code-fixed q) e = refl
+  equal-elements (code-fixed p) (code-class q) e = absurd (omega (arith, q .there, few-tokens))
   equal-elements (code-class p) (code-int q) e = absurd (omega (arith, p .there, few-tokens))
   equal-elements (code-class p) (code-boolean q) e = absurd (omega (arith, p .there, few-tokens))
+  equal-elements (code-class p) (code-fixed q) e = absurd (omega (arith, p .there, few-tokens))
   equal-elements (code-class p) (code-class q) e = ap class (one-name p q e)
 
   pub equal-codes : {s t : Ty} {v w : ℕ} → Codes ts s v → Codes ts t w → v ≡ w → s ≡ t
@@ -171,6 +180,7 @@ module _ {tab : List ℕ} {n : ℕ} {ts : List Token} (lx : Lexemes tab n ts) wh
       element : {u : Element} {x : ℕ} → ElementCodes ts u x → x ≡ elementCode ts u
       element (code-int q) = q
       element (code-boolean q) = q
+      element (code-fixed q) = q
       element (code-class q) = sym (q .first)
 
       number : {u : Ty} {x : ℕ} → Codes ts u x → x ≡ code ts u

@@ -10,9 +10,9 @@ use lib.Dec.{eqb}
 use borrow.Author.Tests.{ne-eqb}
 use Rattle.base.specs.laws.Lists.{get-getD}
 use Rattle.base.specs.contracts.Table.{col}
-use Rattle.lexer.specs.Kinds.{isName, kLiteral, kTrue, kFalse, kThis, kLength, kOpenBrace, kIf, kWhile, kSystem, kPort}
-use Rattle.lexer.specs.Tokens.{Token, decimal}
-use Rattle.parser.specs.Tree.{ElementUse, Ty.arrayOf}
+use Rattle.lexer.specs.Kinds.{isName, kLiteral, kFixedLiteral, kTrue, kFalse, kThis, kLength, kOpenBrace, kIf, kWhile, kSystem, kPort}
+use Rattle.lexer.specs.Tokens.{Token, decimal, thousandthsOf}
+use Rattle.parser.specs.Tree.{Numeral, Numeral.intLiteral, Numeral.fixedLiteral, ElementUse, Ty.arrayOf}
 use Rattle.parser.specs.Tree.{Place, Name, Operator, Operator.and, Operator.less, Operator.plus, Operator.minus, Operator.times}
 use Rattle.parser.specs.Tree.{Sort, Sort.expression, Sort.arguments, Sort.statement, Sort.statements, Part, Expression, Statement, placeE}
 use Rattle.parser.specs.Tree.{Part.literal, Part.truth, Part.variable, Part.this, Part.newArray, Part.newObject, Part.negation, Part.binary}
@@ -23,21 +23,26 @@ use Rattle.parser.specs.contracts.Layout.{absent, rowOf}
 use Rattle.parser.specs.Stream.{noMore, tokenAt, kindAt}
 use Rattle.parser.specs.contracts.Post.{kindInTable, isAtom}
 use Rattle.reader.specs.contracts.Holds.{Holds}
-use Rattle.reader.specs.contracts.Matches.{TokenIs, NameIs, NameMatches, TypeMatches, Matches, operatorKind}
+use Rattle.reader.specs.contracts.Matches.{TokenIs, NameIs, NameMatches, TypeMatches, NumeralMatches, Matches, operatorKind}
 use Rattle.lookup.specs.contracts.HeldClasses.{wordAt, Lexemes, NameNumber}
 use Rattle.lookup.specs.laws.HeldLaws.{element-there, word-in, name-kind, kinds, start-word, name-word, row-there}
 use Rattle.lookup.specs.contracts.Shows.{PartAt, Bound, Form, aVariable, aBinary, aCall}
 use Rattle.lookup.specs.contracts.Shows.{formAtom, formCompound, formE, formAt, formS}
-use Rattle.lookup.specs.contracts.Shows.{Shows, shows-literal, shows-truth, shows-variable, shows-this, shows-new-array}
-use Rattle.lookup.specs.contracts.Shows.{shows-new-object, shows-negation, shows-binary, shows-element, shows-length, shows-call}
-use Rattle.lookup.specs.contracts.Shows.{shows-port-get}
+use Rattle.lookup.specs.contracts.Shows.{Shows, shows-literal, shows-fixed-literal, shows-truth, shows-variable, shows-this}
+use Rattle.lookup.specs.contracts.Shows.{shows-new-array, shows-new-object, shows-negation, shows-binary, shows-element, shows-length}
+use Rattle.lookup.specs.contracts.Shows.{shows-call, shows-port-get}
 use Rattle.lookup.specs.contracts.Shows.{ShowsS, shows-block, shows-conditional, shows-loop, shows-print, shows-assignment}
 use Rattle.lookup.specs.contracts.Shows.{shows-element-store, shows-port-put, GoesOn, one-more-argument, GoesOnS, one-more-statement}
 
--- the token of a node is there
+-- the token of a literal, and of any node, is there
+numeral-there : (ts : List Token) {i : ℕ} (n : Numeral) → NumeralMatches ts i n → i < length ts
+unfolding NumeralMatches
+numeral-there ts (intLiteral v) m = m .0 .there
+numeral-there ts (fixedLiteral v) m = m .0 .there
+
 pub there : (ts : List Token) (e : Expression) → Matches ts e → rowOf e < length ts
 unfolding Matches
-there ts (literal p n) m = m .0 .there
+there ts (literal p n) m = numeral-there ts n m
 there ts (truth p b) m = m .there
 there ts (variable p x) m = m .there
 there ts (this p) m = m .there
@@ -84,6 +89,9 @@ module _ {tab : List ℕ} {n : ℕ} {ts : List Token} (lx : Lexemes tab n ts) {r
   value-of : {v : ℕ} → TokenIs ts r kLiteral → decimal 0 (tokenAt ts r .text) ≡ v → wordAt tab 2 row ≡ v
   value-of t e = word 2 (lx .rows r (tokenAt ts r) (get-getD ts r noMore low) .literal (t .is) ∙ e)
 
+  thousandths-of : {v : ℕ} → TokenIs ts r kFixedLiteral → thousandthsOf (tokenAt ts r .text) ≡ v → wordAt tab 2 row ≡ v
+  thousandths-of t e = word 2 (lx .rows r (tokenAt ts r) (get-getD ts r noMore low) .fixed (t .is) ∙ e)
+
 -- a name after this token: its number, its position, and that it is no reserved word
 module _ {tab : List ℕ} {n : ℕ} {ts : List Token} (lx : Lexemes tab n ts) {row r : ℕ} (at : r ≡ row) (x : Name) (e : x .row ≡ r + 1)
     (m : NameMatches ts x) where
@@ -108,7 +116,8 @@ no-name k q e n = ne-eqb k q (name-kind k q e n)
 form-name : (k next third : ℕ) → isName k ≡ true → formE k next third ≡ aVariable
 unfolding formE formAtom isAtom isName
 form-name k next third e =
-    rw (no-name k kLiteral e refl, no-name k kTrue e refl, no-name k kFalse e refl, no-name k kThis e refl, e)
+    let other : (q : ℕ) → isName q ≡ false → eqb k q ≡ false = λ q n. no-name k q e n in
+    rw (other kLiteral refl, other kFixedLiteral refl, other kTrue refl, other kFalse refl, other kThis refl, e)
 
 form-dot : (k next third : ℕ) → k ≡ 31 → isName next ≡ true → formE k next third ≡ aCall
 unfolding formE formCompound isAtom isName
@@ -184,11 +193,15 @@ module _ {tab : List ℕ} {n : ℕ} {ts : List Token} (lx : Lexemes tab n ts) (r
 
   see : (e : Expression) → rowOf e ≡ row → Holds tab e → Matches ts e → Within expression e
       → Shows tab ts n row Before Behind (formAt tab n row) e
-  unfolding Holds Matches TypeMatches formE formAtom formCompound isAtom isName
-  see (literal p v) at h m w =
+  unfolding Holds Matches TypeMatches NumeralMatches formE formAtom formCompound isAtom isName
+  see (literal p (intLiteral v)) at h m w =
       let low = m .0 .there in
       shows (by tab n row 4 (kind-of lx at low (m .0 .is)) (λ _ _. refl))
       (shows-literal (word lx at low 3 (h .start)) (value-of lx at low (m .0) (m .1)))
+  see (literal p (fixedLiteral v)) at h m w =
+      let low = m .0 .there in
+      shows (by tab n row kFixedLiteral (kind-of lx at low (m .0 .is)) (λ _ _. refl))
+      (shows-fixed-literal (word lx at low 3 (h .start)) (thousandths-of lx at low (m .0) (m .1)))
   see (truth p true) at h m w =
       shows (by tab n row 21 (kind-of lx at (m .there) (m .is)) (λ _ _. refl)) (shows-truth (word lx at (m .there) 3 (h .start)))
   see (truth p false) at h m w =
@@ -312,6 +325,7 @@ module _ {tab : List ℕ} {n : ℕ} {ts : List Token} (lx : Lexemes tab n ts) (r
 pub starts : {tab : List ℕ} {ts : List Token} {n row : ℕ} {Before Behind : Bound} {F : Form} {e : Expression}
     → Shows tab ts n row Before Behind F e → wordAt tab 3 row ≡ placeE e .start
 starts (shows-literal s n) = s
+starts (shows-fixed-literal s n) = s
 starts (shows-truth s) = s
 starts (shows-variable s x) = s
 starts (shows-this s) = s

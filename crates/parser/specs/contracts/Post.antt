@@ -7,14 +7,14 @@ use lib.ListN.{length}
 use lib.Dec.{eqb, ltb}
 use Rattle.base.specs.Choice.{if_then_else_, option}
 use Rattle.base.specs.contracts.Table.{col}
-use Rattle.lexer.specs.Kinds.{isName, kLiteral, kTrue, kFalse, kThis, kNew, kOpenBracket}
+use Rattle.lexer.specs.Kinds.{isName, kLiteral, kFixedLiteral, kBoolean, kInt, kTrue, kFalse, kThis, kNew, kOpenBracket}
 use Rattle.lexer.specs.Tokens.{Token}
 use Rattle.parser.specs.declared.answer.Answer.{Answer}
 use Rattle.parser.specs.declared.answer.Answer.the-variants.{At, Bad}
 use Rattle.parser.specs.Tree.{Sort, Sort.expression, Sort.statement, Sort.statements, Part, Expression}
 use Rattle.parser.specs.Stream.{kindAt, startAt, Level, Level.conjunction, Level.comparison, Level.sum, Level.product, operatorOf}
 use Rattle.parser.specs.Parse.{Parsed, ok, bad, Mode, operation, operations, operand, unary, postfix, primary, suffixes, argumentList}
-use Rattle.parser.specs.Parse.{someArguments, aStatement, statementList, accepts, beginsType, parseAs, branchesFrom}
+use Rattle.parser.specs.Parse.{someArguments, aStatement, statementList, accepts, parseAs, branchesFrom}
 use Rattle.parser.specs.contracts.Layout.{rowOf, store, given}
 
 -- THE TOKENS IN THE TABLE
@@ -67,14 +67,18 @@ levelAt k =
 unfoldable pub isOperator : (level kind : ℕ) → Bool
 isOperator level kind = option (operatorOf (levelAt level) kind) false λ _. true
 
+-- a type of which there are arrays, that is any but `fixed`; a name is one where what follows it says so
+unfoldable pub beginsElement : (kind : ℕ) → (named : Bool) → Bool
+beginsElement k named = eqb k kInt || eqb k kBoolean || isName k && named
+
 -- `new T[e]` begins here
 unfoldable pub startsArray : List ℕ → (n i : ℕ) → Bool
 startsArray tab n i =
-    eqb (kindInTable tab n i) kNew && beginsType (kindInTable tab n (i + 1)) (eqb (kindInTable tab n (i + 2)) kOpenBracket)
+    eqb (kindInTable tab n i) kNew && beginsElement (kindInTable tab n (i + 1)) (eqb (kindInTable tab n (i + 2)) kOpenBracket)
 
 -- an expression of one token
 unfoldable pub isAtom : ℕ → Bool
-isAtom k = eqb k kLiteral || eqb k kTrue || eqb k kFalse || eqb k kThis || isName k
+isAtom k = eqb k kFixedLiteral || eqb k kLiteral || eqb k kTrue || eqb k kFalse || eqb k kThis || isName k
 
 -- how many parsers a parser of a mode opens at the same token
 abbrev pub rank : {s : Sort} → Mode s → ℕ

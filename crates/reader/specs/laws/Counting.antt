@@ -11,7 +11,7 @@ use Rattle.parser.specs.Grammar.{Kind, Derives, DerivesMethod, DerivesMethods, 
 use Rattle.parser.specs.Grammar.{Derives.operate, Derives.one-operand, Derives.negate, Derives.no-negation, Derives.make-array, Derives.no-array, Derives.index, Derives.take-length, Derives.invoke, Derives.no-suffix}
 use Rattle.parser.specs.Grammar.{Derives.a-literal, Derives.a-true, Derives.a-false, Derives.a-name, Derives.a-this, Derives.make-object, Derives.get-register, Derives.parentheses, Derives.none-given, Derives.some-given, Derives.one-argument, Derives.more-arguments}
 use Rattle.parser.specs.Grammar.{Derives.a-block, Derives.an-if, Derives.a-while, Derives.a-print, Derives.an-assignment, Derives.an-element-assignment, Derives.put-register, Derives.no-statement, Derives.more-statements}
-use Rattle.parser.specs.Grammar.{DerivesMethod.a-method, DerivesMethods.no-method, DerivesMethods.more-methods}
+use Rattle.parser.specs.Grammar.{Derives.a-fixed-literal, DerivesMethod.a-method, DerivesMethods.no-method, DerivesMethods.more-methods}
 use Rattle.parser.specs.Grammar.{DerivesClass.a-class-declaration, DerivesClasses.no-class, DerivesClasses.more-classes, DerivesProgram.a-program}
 use Rattle.reader.specs.laws.Stored.{variable-lies, variables-lie, formals-lie, parent-order}
 
@@ -29,6 +29,7 @@ module _ {ts : List Token} where
   tree-nodes (invoke d _ _ _ d′ _) = omega (arith, tree-nodes d, tree-nodes d′)
   tree-nodes (no-suffix d) = tree-nodes d
   tree-nodes (a-literal _) = omega arith
+  tree-nodes (a-fixed-literal _) = omega arith
   tree-nodes (a-true _) = omega arith
   tree-nodes (a-false _) = omega arith
   tree-nodes (a-name _) = omega arith

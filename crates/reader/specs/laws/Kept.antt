@@ -9,12 +9,14 @@ use Rattle.base.specs.contracts.Table.{rows, col, SameColumn}
 use Rattle.lexer.specs.Kinds.{kIf}
 use Rattle.lexer.specs.Tokens.{Token}
 use Rattle.parser.specs.Tree.{Place, Sort, Part, Expression, Statement, Variable, Method, Class, Program}
+use Rattle.parser.specs.Tree.{Numeral, Numeral.intLiteral, Numeral.fixedLiteral}
 use Rattle.parser.specs.Tree.{Part.literal, Part.truth, Part.variable, Part.this, Part.newArray, Part.newObject, Part.negation, Part.binary, Part.element, Part.arrayLength, Part.call, Part.portGet, Part.noArguments, Part.argument}
 use Rattle.parser.specs.Tree.{Part.block, Part.conditional, Part.loop, Part.print, Part.assign, Part.assignElement, Part.portPut, Part.noStatements, Part.sequence}
 use Rattle.parser.specs.Stream.{kindAt}
 use Rattle.parser.specs.contracts.Layout.{rowOf}
 use Rattle.reader.specs.contracts.Holds.{NodeRow, Holds, HoldsVariables, HoldsMethod, HoldsMethods, HoldsClass, HoldsClasses, HoldsProgram}
-use Rattle.reader.specs.contracts.Matches.{Matches, VariablesMatch, MethodMatches, MethodsMatch, ClassMatches, ClassesMatch, ProgramMatches}
+use Rattle.reader.specs.contracts.Matches.{NumeralMatches, Matches, VariablesMatch, MethodMatches, MethodsMatch}
+use Rattle.reader.specs.contracts.Matches.{ClassMatches, ClassesMatch, ProgramMatches}
 
 -- the second table has the first one's columns 3 to 6, and its column 7 in the rows of `if` tokens
 pub record SameTree (ts : List Token) (tab tab′ : List ℕ) : Type 0 where
@@ -22,9 +24,14 @@ pub record SameTree (ts : List Token) (tab tab′ : List ℕ) : Type 0 where
   pub thirds : (i : ℕ) → i < rows → kindAt ts i ≡ kIf → col tab′ 7 i ≡ col tab 7 i
 
 -- a node's own token is there
+pub numeral-there : (ts : List Token) (i : ℕ) (n : Numeral) → NumeralMatches ts i n → i < length ts
+unfolding NumeralMatches
+numeral-there ts i (intLiteral n) m = m .0 .there
+numeral-there ts i (fixedLiteral n) m = m .0 .there
+
 expression-there : (ts : List Token) (e : Expression) → Matches ts e → rowOf e < length ts
 unfolding Matches
-expression-there ts (literal p n) m = m .0 .there
+expression-there ts (literal p n) m = numeral-there ts (p .row) n m
 expression-there ts (truth p b) m = m .there
 expression-there ts (variable p x) m = m .there
 expression-there ts (this p) m = m .there
@@ -65,7 +72,7 @@ module _ {ts : List Token} {tab tab′ : List ℕ} (short : length ts ≤ rows) 
 
   pub tree-kept : {s : Sort} (t : Part s) → Matches ts t → Holds tab t → Holds tab′ t
   unfolding Matches Holds
-  tree-kept (literal p n) m h = row p (m .0 .there) h
+  tree-kept (literal p n) m h = row p (numeral-there ts (p .row) n m) h
   tree-kept (truth p b) m h = row p (m .there) h
   tree-kept (variable p x) m h = row p (m .there) h
   tree-kept (this p) m h = row p (m .there) h

@@ -19,13 +19,13 @@ use Rattle.parser.specs.Grammar.{DerivesMethods, DerivesParent, DerivesClass, D
 use Rattle.parser.specs.Grammar.{Derives.operate, Derives.one-operand, Derives.negate, Derives.no-negation, Derives.make-array}
 use Rattle.parser.specs.Grammar.{Derives.no-array, Derives.index, Derives.take-length, Derives.invoke, Derives.no-suffix}
 use Rattle.parser.specs.Grammar.{Derives.a-literal, Derives.a-true, Derives.a-false, Derives.a-name, Derives.a-this, Derives.make-object}
-use Rattle.parser.specs.Grammar.{Derives.get-register}
+use Rattle.parser.specs.Grammar.{Derives.get-register, Derives.a-fixed-literal}
 use Rattle.parser.specs.Grammar.{Derives.parentheses, Derives.none-given, Derives.some-given, Derives.one-argument, Derives.more-arguments}
 use Rattle.parser.specs.Grammar.{Derives.a-block, Derives.an-if, Derives.a-while, Derives.a-print, Derives.an-assignment}
 use Rattle.parser.specs.Grammar.{Derives.an-element-assignment, Derives.put-register, Derives.no-statement, Derives.more-statements}
 use Rattle.parser.specs.Grammar.{DerivesElement, DerivesElement.an-int, DerivesElement.a-boolean, DerivesElement.a-class}
 use Rattle.parser.specs.Grammar.{DerivesType.an-array, DerivesType.no-mark, DerivesVariable.a-variable, DerivesVariables.no-variable}
-use Rattle.parser.specs.Grammar.{DerivesVariables.more-variables}
+use Rattle.parser.specs.Grammar.{DerivesVariables.more-variables, DerivesType.a-fixed}
 use Rattle.parser.specs.Grammar.{DerivesParameters.one-parameter, DerivesParameters.more-parameters, DerivesFormals.no-formal}
 use Rattle.parser.specs.Grammar.{DerivesFormals.some-formals, DerivesMethod.a-method, DerivesMethods.no-method, DerivesMethods.more-methods}
 use Rattle.parser.specs.Grammar.{DerivesParent.no-parent, DerivesParent.a-parent, DerivesClass.a-class-declaration, DerivesClasses.no-class}
@@ -33,7 +33,7 @@ use Rattle.parser.specs.Grammar.{DerivesClasses.more-classes, DerivesProgram.a-
 use Rattle.grammar.specs.laws.Passing.{seen, seen-kind, kinds-apart}
 use Rattle.reader.specs.contracts.Matches.{TokenIs, NameIs, NameMatches, operatorKind, ElementMatches, TypeMatches, Matches}
 use Rattle.reader.specs.contracts.Matches.{VariableMatches, VariablesMatch, MethodMatches, MethodsMatch, ParentMatches, ClassMatches}
-use Rattle.reader.specs.contracts.Matches.{ClassesMatch, ProgramMatches}
+use Rattle.reader.specs.contracts.Matches.{ClassesMatch, ProgramMatches, NumeralMatches}
 
 -- the kind of an operator's token
 picked : (k q : ℕ) (a o : Operator) (r : Option Operator) → q ≡ operatorKind a → (r ≡ some o → k ≡ operatorKind o)
@@ -61,6 +61,11 @@ no-end plus = refl
 no-end minus = refl
 no-end times = refl
 
+-- a name is no `[`
+no-bracket : (k : ℕ) → isName k ≡ true → ¬ (k ≡ kOpenBracket)
+unfolding isName
+no-bracket k n = eqb-false k kOpenBracket (kinds-apart isName k kOpenBracket n refl)
+
 module _ {ts : List Token} where
   -- a token of a kind, or a name, is there
   token : {i q : ℕ} → eqb kEnd q ≡ false → kindAt ts i ≡ q → TokenIs ts i q
@@ -80,7 +85,7 @@ module _ {ts : List Token} where
   element-matches (a-class {i} n) = named i n
 
   pub tree-matches : {s : Sort} {k : Kind s} {i j : ℕ} {t : Part s} → Derives ts s k i j t → Matches ts t
-  unfolding Matches TypeMatches
+  unfolding Matches NumeralMatches TypeMatches
   tree-matches (operate {L} {m = m} {o = o} d e d′) = (token (no-end o) (operator-kind L (kindAt ts m) e), tree-matches d, tree-matches d′)
   tree-matches (one-operand d) = tree-matches d
   tree-matches (negate e d) = (token refl e, tree-matches d)
@@ -94,6 +99,7 @@ module _ {ts : List Token} where
   tree-matches (invoke {m = m} d e n _ d′ _) = (token refl e, refl, name (m + 1) n, tree-matches d, tree-matches d′)
   tree-matches (no-suffix d) = tree-matches d
   tree-matches (a-literal e) = (token refl e, refl)
+  tree-matches (a-fixed-literal e) = (token refl e, refl)
   tree-matches (a-true e) = token refl e
   tree-matches (a-false e) = token refl e
   tree-matches (a-name {i = i} n) = named i n
@@ -118,15 +124,17 @@ module _ {ts : List Token} where
   -- DECLARATIONS. After a type comes a name, so that a type with no mark is not followed by `[`.
 
   variable-matches : {i j : ℕ} {v : Variable} → DerivesVariable ts i j v → VariableMatches ts v
-  unfolding TypeMatches isName
+  unfolding TypeMatches ElementMatches
   variable-matches (a-variable (an-array {i} t f _) n) =
       record { type = (element-matches t, token refl f); start = refl; name = name (i + 3) n }
   variable-matches (a-variable (no-mark {i} t) n) =
       record {
-        type = (element-matches t, λ z. eqb-false _ _ (kinds-apart isName (kindAt ts (i + 1)) kOpenBracket n refl) z);
+        type = (element-matches t, no-bracket (kindAt ts (i + 1)) n);
         start = refl;
         name = name (i + 1) n;
       }
+  variable-matches (a-variable (a-fixed {i} e) n) =
+      record { type = (token refl e, no-bracket (kindAt ts (i + 1)) n); start = refl; name = name (i + 1) n }
 
   variables-match : {i j : ℕ} {vs : List Variable} → DerivesVariables ts i j vs → VariablesMatch ts vs
   unfolding VariablesMatch

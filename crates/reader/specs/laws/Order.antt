@@ -17,7 +17,7 @@ use Rattle.parser.specs.Stream.{kindAt, startAt, noMore, Level, Level.conjuncti
 use Rattle.parser.specs.contracts.Layout.{rowOf, rowMethods, rowClasses}
 use Rattle.parser.specs.Grammar.{Kind, Derives, operate, one-operand, negate, no-negation, make-array, no-array, index, take-length, invoke}
 use Rattle.parser.specs.Grammar.{no-suffix, a-literal, a-true, a-false, a-name, a-this, make-object, get-register, parentheses, none-given}
-use Rattle.parser.specs.Grammar.{some-given}
+use Rattle.parser.specs.Grammar.{some-given, a-fixed-literal, a-fixed}
 use Rattle.parser.specs.Grammar.{one-argument, more-arguments, a-block, an-if, a-while, a-print, an-assignment, an-element-assignment}
 use Rattle.parser.specs.Grammar.{put-register, no-statement, more-statements}
 use Rattle.parser.specs.Grammar.{DerivesType, an-array, no-mark, DerivesVariable, a-variable, DerivesVariables, no-variable, more-variables}
@@ -57,6 +57,7 @@ first-row (take-length a e₁ e₂) = tt
 first-row (invoke d e₁ e₂ e₃ ds e₄) = tt
 first-row (no-suffix d) = tt
 first-row (a-literal e) = tt
+first-row (a-fixed-literal e) = tt
 first-row (a-true e) = tt
 first-row (a-false e) = tt
 first-row (a-name e) = tt
@@ -123,6 +124,7 @@ module _ (ts : List Token) (few : length ts ≤ 2048) where
       (omega (arith, u), omega (arith, v), omega arith)
   range (no-suffix d) h = range d h
   range (a-literal {i = i} e) h = let n = there ts i e (lit< tt) in (omega arith, omega arith, omega arith)
+  range (a-fixed-literal {i = i} e) h = let n = there ts i e (lit< tt) in (omega arith, omega arith, omega arith)
   range (a-true {i = i} e) h = let n = there ts i e (lit< tt) in (omega arith, omega arith, omega arith)
   range (a-false {i = i} e) h = let n = there ts i e (lit< tt) in (omega arith, omega arith, omega arith)
   range (a-name {i = i} e) h = let n = name-there ts i e in (omega arith, omega arith, omega arith)
@@ -191,6 +193,7 @@ module _ (ts : List Token) (few : length ts ≤ 2048) (rising : TokensRise ts) w
       (f (omega (arith, u)), order d h (at i), order ds (omega arith) (later i (m + 3) (at i) (omega (arith, u))))
   order (no-suffix d) h f = order d h f
   order (a-literal {i = i} e) h f = f (there ts i e (lit< tt))
+  order (a-fixed-literal {i = i} e) h f = f (there ts i e (lit< tt))
   order (a-true {i = i} e) h f = f (there ts i e (lit< tt))
   order (a-false {i = i} e) h f = f (there ts i e (lit< tt))
   order (a-name {i = i} e) h f = f (name-there ts i e)
@@ -238,6 +241,7 @@ module _ (ts : List Token) (few : length ts ≤ 2048) (rising : TokensRise ts) w
   type-forward : {i j : ℕ} {t : TypeUse} → DerivesType ts i j t → i < j
   type-forward (an-array d e₁ e₂) = omega arith
   type-forward (no-mark d) = omega arith
+  type-forward (a-fixed e) = omega arith
 
   -- a variable ends with its name
   variable-range : {i j : ℕ} {v : Variable} → DerivesVariable ts i j v → (i < v .name .row) × (v .name .row + 1 ≡ j)

@@ -13,7 +13,7 @@ use Rattle.parser.specs.Grammar.{Kind, Derives, Derives.operate, Derives.one-op
 use Rattle.parser.specs.Grammar.{Derives.make-array, Derives.no-array, Derives.index, Derives.take-length, Derives.invoke}
 use Rattle.parser.specs.Grammar.{Derives.no-suffix, Derives.a-literal, Derives.a-true, Derives.a-false, Derives.a-name}
 use Rattle.parser.specs.Grammar.{Derives.a-this, Derives.make-object, Derives.get-register, Derives.parentheses, Derives.none-given}
-use Rattle.parser.specs.Grammar.{Derives.some-given, Derives.one-argument, Derives.more-arguments}
+use Rattle.parser.specs.Grammar.{Derives.some-given, Derives.one-argument, Derives.more-arguments, Derives.a-fixed-literal}
 use Rattle.parser.specs.Grammar.{Derives.a-block, Derives.an-if, Derives.a-while, Derives.a-print, Derives.an-assignment}
 use Rattle.parser.specs.Grammar.{Derives.an-element-assignment, Derives.put-register, Derives.no-statement, Derives.more-statements}
 use Rattle.reader.specs.contracts.Spans.{Among, Spans}
@@ -143,6 +143,7 @@ module _ {ts : List Token} where
   )
   tree-spans (no-suffix d) = tree-spans d
   tree-spans (a-literal {i = i} _) = own i i (i + 1) (omega arith) (omega arith)
+  tree-spans (a-fixed-literal {i = i} _) = own i i (i + 1) (omega arith) (omega arith)
   tree-spans (a-true {i = i} _) = own i i (i + 1) (omega arith) (omega arith)
   tree-spans (a-false {i = i} _) = own i i (i + 1) (omega arith) (omega arith)
   tree-spans (a-name {i = i} _) = own i i (i + 1) (omega arith) (omega arith)

@@ -16,12 +16,12 @@ use Rattle.parser.specs.Grammar.{DerivesMethod, DerivesMethods, DerivesParent, 
 use Rattle.parser.specs.Grammar.{Derives.operate, Derives.one-operand, Derives.negate, Derives.no-negation, Derives.make-array}
 use Rattle.parser.specs.Grammar.{Derives.no-array, Derives.index, Derives.take-length, Derives.invoke, Derives.no-suffix}
 use Rattle.parser.specs.Grammar.{Derives.a-literal, Derives.a-true, Derives.a-false, Derives.a-name, Derives.a-this, Derives.make-object}
-use Rattle.parser.specs.Grammar.{Derives.get-register}
+use Rattle.parser.specs.Grammar.{Derives.get-register, Derives.a-fixed-literal}
 use Rattle.parser.specs.Grammar.{Derives.parentheses, Derives.none-given, Derives.some-given, Derives.one-argument, Derives.more-arguments}
 use Rattle.parser.specs.Grammar.{Derives.a-block, Derives.an-if, Derives.a-while, Derives.a-print, Derives.an-assignment}
 use Rattle.parser.specs.Grammar.{Derives.an-element-assignment, Derives.put-register, Derives.no-statement, Derives.more-statements}
 use Rattle.parser.specs.Grammar.{DerivesType.an-array, DerivesType.no-mark, DerivesVariable.a-variable, DerivesVariables.no-variable}
-use Rattle.parser.specs.Grammar.{DerivesVariables.more-variables}
+use Rattle.parser.specs.Grammar.{DerivesVariables.more-variables, DerivesType.a-fixed}
 use Rattle.parser.specs.Grammar.{DerivesParameters.one-parameter, DerivesParameters.more-parameters, DerivesFormals.no-formal}
 use Rattle.parser.specs.Grammar.{DerivesFormals.some-formals, DerivesMethod.a-method, DerivesMethods.no-method, DerivesMethods.more-methods}
 use Rattle.parser.specs.Grammar.{DerivesParent.no-parent, DerivesParent.a-parent, DerivesClass.a-class-declaration, DerivesClasses.no-class}
@@ -91,6 +91,7 @@ module _ {ts : List Token} where
       let x = lies d in let y = lies d′ in two-parts i (j + 1) (placeAt ts i m) _ _ (x .2) y (omega arith) (omega arith)
   lies (no-suffix d) = lies d
   lies (a-literal {i = i} _) = leaf i (i + 1) (placeAt ts i i) (omega arith)
+  lies (a-fixed-literal {i = i} _) = leaf i (i + 1) (placeAt ts i i) (omega arith)
   lies (a-true {i = i} _) = leaf i (i + 1) (placeAt ts i i) (omega arith)
   lies (a-false {i = i} _) = leaf i (i + 1) (placeAt ts i i) (omega arith)
   lies (a-name {i = i} _) = leaf i (i + 1) (placeAt ts i i) (omega arith)
@@ -131,6 +132,7 @@ module _ {ts : List Token} where
   type-order : {i j : ℕ} {t : TypeUse} → DerivesType ts i j t → i ≤ j
   type-order (an-array _ _ _) = omega arith
   type-order (no-mark _) = omega arith
+  type-order (a-fixed _) = omega arith
 
   pub variable-lies : {i j : ℕ} {v : Variable} → DerivesVariable ts i j v
       → Own i j (v .name .row) (λ tab. storeVariable v tab) (λ tab. col tab 3 (v .name .row) ≡ v .type .row)

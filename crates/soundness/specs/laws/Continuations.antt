@@ -10,11 +10,11 @@ use lib.ListN.{length, getElem?, length-set}
 use lib.Dec.{ltb}
 use Rattle.base.specs.Choice.{if_then_else_}
 use Rattle.base.specs.Codes.{nullReference}
-use Rattle.parser.specs.Tree.{Element, Place, Class}
+use Rattle.parser.specs.Tree.{Element, Place, Operator, Class}
 use Rattle.typesystem.specs.ClassTable.{Context, Meaning, Meaning.ofRow, Meaning.ofObject, meaning, meaningType}
 use Rattle.typing.specs.laws.Choices.{by-test}
-use Rattle.semantics.specs.Machine.{Value, Value.number, Value.flag, Value.null, Value.arrayAt, Value.objectAt, Cell, Cell.object, Cell.array, Cell.slot, Call, Call.frame, Core, Request, Request.fault, Request.stuck}
-use Rattle.semantics.specs.Machine.{need, require, pop, popMany, asNumber, asFlag, asArray, asObject, asSlot, asObjectCell, asArrayCell, innermost, cellAt, arrayCell, underBound, readMeaning, readName, ofKind, writeMeaning, writeName}
+use Rattle.semantics.specs.Machine.{Value, Value.number, Value.thousandths, Value.flag, Value.null, Value.arrayAt, Value.objectAt, Cell, Cell.object, Cell.array, Cell.slot, Call, Call.frame, Core, Request, Request.fault, Request.stuck}
+use Rattle.semantics.specs.Machine.{need, require, pop, popMany, asNumber, asThousandths, asPrinted, asFlag, asArray, asObject, asSlot, asObjectCell, asArrayCell, innermost, cellAt, arrayCell, underBound, readMeaning, readName, ofKind, writeMeaning, writeName, apply, applyFixed, operated}
 use Rattle.semantics.specs.Limits.{Meters, Ending, Progress, next, stop, Report, sizeOf, report, after}
 
 pub record Closed (Q : Request Core → Type 0) : Type 0 where
@@ -41,13 +41,39 @@ module _ {Q : Request Core → Type 0} (q : Closed Q) where
 
   pub number-by : (v : Value) (k : ℕ → Request Core) → ((n : ℕ) → Q (k n)) → Q (asNumber v k)
   number-by (number n) k f = f n
+  number-by (thousandths n) k f = q .at-stuck
   number-by (flag b) k f = q .at-stuck
   number-by null k f = q .at-stuck
   number-by (arrayAt a) k f = q .at-stuck
   number-by (objectAt a) k f = q .at-stuck
 
+  thousandths-by : (v : Value) (k : ℕ → Request Core) → ((n : ℕ) → Q (k n)) → Q (asThousandths v k)
+  thousandths-by (number n) k f = q .at-stuck
+  thousandths-by (thousandths n) k f = f n
+  thousandths-by (flag b) k f = q .at-stuck
+  thousandths-by null k f = q .at-stuck
+  thousandths-by (arrayAt a) k f = q .at-stuck
+  thousandths-by (objectAt a) k f = q .at-stuck
+
+  pub printed-by : (v : Value) (k : ℕ → Request Core) → ((n : ℕ) → Q (k n)) → Q (asPrinted v k)
+  printed-by (number n) k f = f n
+  printed-by (thousandths n) k f = f n
+  printed-by (flag b) k f = q .at-stuck
+  printed-by null k f = q .at-stuck
+  printed-by (arrayAt a) k f = q .at-stuck
+  printed-by (objectAt a) k f = q .at-stuck
+
+  pub operated-by : (o : Operator) (x y : Value) (k : Value → Request Core) → ((v : Value) → Q (k v)) → Q (operated o x y k)
+  operated-by o (number a) y k f = number-by y _ (λ b. need-by (apply o a b) k (λ v _. f v))
+  operated-by o (thousandths a) y k f = thousandths-by y _ (λ b. need-by (applyFixed o a b) k (λ v _. f v))
+  operated-by o (flag a) y k f = q .at-stuck
+  operated-by o null y k f = q .at-stuck
+  operated-by o (arrayAt a) y k f = q .at-stuck
+  operated-by o (objectAt a) y k f = q .at-stuck
+
   pub flag-by : (v : Value) (k : Bool → Request Core) → ((b : Bool) → Q (k b)) → Q (asFlag v k)
   flag-by (number n) k f = q .at-stuck
+  flag-by (thousandths n) k f = q .at-stuck
   flag-by (flag b) k f = f b
   flag-by null k f = q .at-stuck
   flag-by (arrayAt a) k f = q .at-stuck
@@ -55,6 +81,7 @@ module _ {Q : Request Core → Type 0} (q : Closed Q) where
 
   pub array-by : (p : Place) (v : Value) (k : ℕ → Request Core) → ((a : ℕ) → Q (k a)) → Q (asArray p v k)
   array-by p (number n) k f = q .at-stuck
+  array-by p (thousandths n) k f = q .at-stuck
   array-by p (flag b) k f = q .at-stuck
   array-by p null k f = q .at-fault nullReference (p .start)
   array-by p (arrayAt a) k f = f a
@@ -62,6 +89,7 @@ module _ {Q : Request Core → Type 0} (q : Closed Q) where
 
   pub object-by : (p : Place) (v : Value) (k : ℕ → Request Core) → ((a : ℕ) → Q (k a)) → Q (asObject p v k)
   object-by p (number n) k f = q .at-stuck
+  object-by p (thousandths n) k f = q .at-stuck
   object-by p (flag b) k f = q .at-stuck
   object-by p null k f = q .at-fault nullReference (p .start)
   object-by p (arrayAt a) k f = q .at-stuck

@@ -15,18 +15,18 @@ use Rattle.typesystem.specs.ClassTable.{classNamed, chain}
 use Rattle.typing.specs.laws.Choices.{by-test}
 use Rattle.semantics.specs.Machine.{Value, Cell, Call, Core, Core.core, Request, Request.charge, Request.allocate, Request.enter, Request.output, Request.receive, Request.send, Request.move, Request.fault, Request.done, Request.stuck}
 use Rattle.semantics.specs.Machine.{Task, Task.evaluate, Task.execute, Task.operand, Task.operate, Task.confirm, Task.negate, Task.index, Task.fetch, Task.measure, Task.makeArray, Task.makeObject, Task.invoke, Task.branch, Task.decide, Task.again, Task.show, Task.store, Task.newElement, Task.storeElement, Task.readRegister, Task.newByte, Task.writeRegister, Task.continue, Task.perform, Task.leave}
-use Rattle.semantics.specs.Machine.{search, ofKind, ofKinds, isAnd, apply, begin, beginStatement, second, callMethod, nextArgument, nextStatement, nextOfBody, newArrayOf, newObjectOf, go, plan, start}
+use Rattle.semantics.specs.Machine.{search, ofKind, ofKinds, isAnd, begin, beginStatement, second, callMethod, nextArgument, nextStatement, nextOfBody, newArrayOf, newObjectOf, go, plan, start}
 use Rattle.semantics.specs.Limits.{Limits, Meters, begun, Progress, next, stop, guard, sizeOf, runWith, run}
 use Rattle.soundness.specs.laws.Search.{search-few}
 use Rattle.soundness.specs.laws.ResultLaws.{Over}
-use Rattle.soundness.specs.laws.Continuations.{Closed, need-by, require-by, pop-by, popMany-by, number-by, flag-by, array-by, object-by, object-cell-by, choice-by, innermost-by, cell-by, array-at-by, under-bound-by, read-by, write-by, after-by}
+use Rattle.soundness.specs.laws.Continuations.{Closed, need-by, require-by, pop-by, popMany-by, number-by, printed-by, operated-by, flag-by, array-by, object-by, object-cell-by, choice-by, innermost-by, cell-by, array-at-by, under-bound-by, read-by, write-by, after-by}
 
 -- a call waits for its parts until it is opened
 abbrev pub waits : Task → ℕ
 waits (evaluate e) = 0
 waits (execute s) = 0
-waits (operand o r) = 0
-waits (operate o) = 0
+waits (operand o l r) = 0
+waits (operate o l) = 0
 waits confirm = 0
 waits negate = 0
 waits (index p i) = 0
@@ -119,12 +119,12 @@ module _ (G : List Class) (w v : ℕ) where
   unfolding go second callMethod nextArgument nextStatement nextOfBody newArrayOf newObjectOf
   task-pays (evaluate e) ts vs cs h l j = begin-pays e ts vs cs h (omega arith) (omega arith)
   task-pays (execute s) ts vs cs h l j = begin-statement-pays s ts vs cs h (omega arith) (omega arith)
-  task-pays (operand o r) ts vs cs h l j =
+  task-pays (operand o a r) ts vs cs h l j =
       choice-by closed (isAnd o) _ _
       (pop-by closed vs _ (λ x vs. flag-by closed x _ (λ b. choice-by closed b _ _ (begin-pays r (confirm ∷ ts) vs cs h l j) (omega arith, omega arith))))
-      (begin-pays r (operate o ∷ ts) vs cs h l j)
-  task-pays (operate o) ts vs cs h l j =
-      pop-by closed vs _ (λ y vs. pop-by closed vs _ (λ x vs. number-by closed x _ (λ a. number-by closed y _ (λ b. need-by closed (apply o a b) _ (λ v _. (omega arith, omega arith))))))
+      (begin-pays r (operate o a ∷ ts) vs cs h l j)
+  task-pays (operate o a) ts vs cs h l j =
+      pop-by closed vs _ (λ y vs. pop-by closed vs _ (λ x vs. operated-by closed o x y _ (λ v. (omega arith, omega arith))))
   task-pays confirm ts vs cs h l j = pop-by closed vs _ (λ x vs. flag-by closed x _ (λ b. (omega arith, omega arith)))
   task-pays negate ts vs cs h l j = pop-by closed vs _ (λ x vs. flag-by closed x _ (λ b. (omega arith, omega arith)))
   task-pays (index p i) ts vs cs h l j = begin-pays i (fetch p ∷ ts) vs cs h l j
@@ -147,7 +147,7 @@ module _ (G : List Class) (w v : ℕ) where
   task-pays (decide e s) ts vs cs h l j =
       pop-by closed vs _ (λ x vs. flag-by closed x _ (λ b. choice-by closed b _ _ (begin-statement-pays s (again e s ∷ ts) vs cs h (omega arith) (omega arith)) (omega arith, omega arith)))
   task-pays (again e s) ts vs cs h l j = begin-pays e (decide e s ∷ ts) vs cs h l j
-  task-pays (show p) ts vs cs h l j = pop-by closed vs _ (λ x vs. number-by closed x _ (λ n. (omega arith, omega arith)))
+  task-pays (show p) ts vs cs h l j = pop-by closed vs _ (λ x vs. printed-by closed x _ (λ n. (omega arith, omega arith)))
   task-pays (store x) ts vs cs h l j = pop-by closed vs _ (λ v vs. write-by closed G cs h x v _ (λ ds g _ _. (omega arith, omega arith)))
   task-pays (newElement p e) ts vs cs h l j = begin-pays e (storeElement p ∷ ts) vs cs h l j
   task-pays (storeElement p) ts vs cs h l j =

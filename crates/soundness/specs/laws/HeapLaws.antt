@@ -7,12 +7,12 @@ use mathlib.Core.Option.{some, Option·some-injective}
 use mathlib.Core.Path.{_≡_, refl, sym, ap, _∙_, subst}
 use lib.ListN.{length, getElem?, set, replicate, length-replicate, getD-replicate}
 use Rattle.base.specs.laws.Lists.{get-getD, all-at, all-replicate, All2, all2-cons, all2-append, all2-length, all2-map, all2-replicate, all2-set, all2-weaken, Side, left, right, side, get-append, get-append-right, get-map, map-get}
-use Rattle.parser.specs.Tree.{Element, Element.int, Element.boolean, Element.class, Ty, Ty.plain, Ty.arrayOf, Variable, Class}
+use Rattle.parser.specs.Tree.{Element, Element.int, Element.boolean, Element.fixed, Element.class, Ty, Ty.plain, Ty.arrayOf, Variable, Class}
 use Rattle.typesystem.specs.ClassTable.{Context, classNamed, fieldsOf}
 use Rattle.typesystem.specs.TypingRules.{Sub, sub-same, sub-extends, sub-trans, typeOf}
 use Rattle.typing.specs.laws.Members.{up-here, up-more, up-trans}
 use Rattle.semantics.specs.Machine.{Value, Cell, Cell.object, Cell.array, Cell.slot, Call, initial}
-use Rattle.soundness.specs.laws.StateTyping.{CellType, objectType, arrayType, slotType, ValueTyped, v-number, v-flag, v-no-array, v-no-object, v-array, v-object}
+use Rattle.soundness.specs.laws.StateTyping.{CellType, objectType, arrayType, slotType, ValueTyped, v-number, v-thousandths, v-flag, v-no-array, v-no-object, v-array, v-object}
 use Rattle.soundness.specs.laws.StateTyping.{CellTyped, c-object, c-array, c-slot, Laid, HeapTyped, CallTyped, c-frame}
 
 -- a value of a type is one of every type that it fits
@@ -25,6 +25,7 @@ value-sub (sub-trans p q) h = value-sub q (value-sub p h)
 pub initial-typed : {G : List Class} {σ : List CellType} (t : Ty) → ValueTyped G σ (initial t) t
 initial-typed (plain int) = v-number {n = 0} (omega arith)
 initial-typed (plain boolean) = v-flag
+initial-typed (plain fixed) = v-thousandths {n = 0} (omega arith)
 initial-typed (plain (class c)) = v-no-object
 initial-typed (arrayOf t) = v-no-array
 
@@ -40,6 +41,7 @@ kept-append σ ρ = record { keep = λ a e. get-append σ ρ a e }
 module _ {G : List Class} {σ ρ : List CellType} (K : CellsKept σ ρ) where
   value-kept : {v : Value} {t : Ty} → ValueTyped G σ v t → ValueTyped G ρ v t
   value-kept (v-number l) = v-number l
+  value-kept (v-thousandths l) = v-thousandths l
   value-kept v-flag = v-flag
   value-kept v-no-array = v-no-array
   value-kept v-no-object = v-no-object

@@ -28,13 +28,13 @@ use Rattle.semantics.specs.Machine.{Task, Task.evaluate, Task.execute, Task.ope
 use Rattle.semantics.specs.Machine.{Task.fetch, Task.measure, Task.makeArray, Task.makeObject, Task.invoke, Task.branch, Task.decide}
 use Rattle.semantics.specs.Machine.{Task.again, Task.show, Task.store, Task.newElement, Task.storeElement, Task.readRegister, Task.newByte}
 use Rattle.semantics.specs.Machine.{Task.writeRegister, Task.continue, Task.perform, Task.leave}
-use Rattle.semantics.specs.Machine.{search, ofKind, ofKinds, isAnd, apply, begin, beginStatement, second, callMethod, nextArgument}
+use Rattle.semantics.specs.Machine.{search, ofKind, ofKinds, isAnd, begin, beginStatement, second, callMethod, nextArgument}
 use Rattle.semantics.specs.Machine.{nextStatement, nextOfBody, newArrayOf, newObjectOf, go, plan, start}
 use Rattle.semantics.specs.Limits.{Limits, Meters, charged, called, shown, Progress, next, stop, within, guard, report, sizeOf, after, runWith}
 use Rattle.semantics.specs.Limits.{run}
 use Rattle.soundness.specs.Portless.{NoPort, MethodWithout, Portless, SameButRegisters}
-use Rattle.soundness.specs.laws.Continuations.{Closed, need-by, require-by, pop-by, popMany-by, number-by, flag-by, array-by, object-by}
-use Rattle.soundness.specs.laws.Continuations.{object-cell-by, choice-by, innermost-by, cell-by, array-at-by, under-bound-by, read-by}
+use Rattle.soundness.specs.laws.Continuations.{Closed, need-by, require-by, pop-by, popMany-by, number-by, printed-by, operated-by, flag-by}
+use Rattle.soundness.specs.laws.Continuations.{array-by, object-by, object-cell-by, choice-by, innermost-by, cell-by, array-at-by, under-bound-by, read-by}
 use Rattle.soundness.specs.laws.Continuations.{write-by}
 
 -- ---- what a search finds
@@ -79,8 +79,8 @@ module _ (Q : Method → Type 0) where
 abbrev TaskWithout : Task → Type 0
 TaskWithout (evaluate e) = NoPort e
 TaskWithout (execute s) = NoPort s
-TaskWithout (operand o r) = NoPort r
-TaskWithout (operate o) = Unit {0}
+TaskWithout (operand o l r) = NoPort r
+TaskWithout (operate o l) = Unit {0}
 TaskWithout confirm = Unit {0}
 TaskWithout negate = Unit {0}
 TaskWithout (index p i) = NoPort i
@@ -158,13 +158,12 @@ module _ (G : List Class) (M : All (λ (k : Class). All MethodWithout (k .method
   unfolding go second callMethod nextArgument nextStatement nextOfBody newArrayOf newObjectOf chain
   task-without (evaluate e) ts vs cs h l f = begin-without e ts vs cs h l f
   task-without (execute s) ts vs cs h l f = begin-statement-without s ts vs cs h l f
-  task-without (operand o r) ts vs cs h l f =
+  task-without (operand o a r) ts vs cs h l f =
       choice-by closed (isAnd o) _ _
       (pop-by closed vs _ (λ x vs. flag-by closed x _ (λ b. choice-by closed b _ _ (begin-without r (confirm ∷ ts) vs cs h l (tt, f)) f)))
-      (begin-without r (operate o ∷ ts) vs cs h l (tt, f))
-  task-without (operate o) ts vs cs h l f =
-      pop-by closed vs _ (λ y vs. pop-by closed vs _ (λ x vs. number-by closed x _ (λ a. number-by closed y _ (λ b.
-      need-by closed (apply o a b) _ (λ v _. f)))))
+      (begin-without r (operate o a ∷ ts) vs cs h l (tt, f))
+  task-without (operate o a) ts vs cs h l f =
+      pop-by closed vs _ (λ y vs. pop-by closed vs _ (λ x vs. operated-by closed o x y _ (λ v. f)))
   task-without confirm ts vs cs h l f = pop-by closed vs _ (λ x vs. flag-by closed x _ (λ b. f))
   task-without negate ts vs cs h l f = pop-by closed vs _ (λ x vs. flag-by closed x _ (λ b. f))
   task-without (index p i) ts vs cs h l f = begin-without i (fetch p ∷ ts) vs cs h l (tt, f)
@@ -189,7 +188,7 @@ module _ (G : List Class) (M : All (λ (k : Class). All MethodWithout (k .method
       pop-by closed vs _ (λ x vs. flag-by closed x _ (λ b.
       choice-by closed b _ _ (begin-statement-without s (again e s ∷ ts) vs cs h (l .1) (l, f)) f))
   task-without (again e s) ts vs cs h l f = begin-without e (decide e s ∷ ts) vs cs h (l .0) (l, f)
-  task-without (show p) ts vs cs h l f = pop-by closed vs _ (λ x vs. number-by closed x _ (λ n. f))
+  task-without (show p) ts vs cs h l f = pop-by closed vs _ (λ x vs. printed-by closed x _ (λ n. f))
   task-without (store x) ts vs cs h l f = pop-by closed vs _ (λ v vs. write-by closed G cs h x v _ (λ ds g _ _. f))
   task-without (newElement p e) ts vs cs h l f = begin-without e (storeElement p ∷ ts) vs cs h l (tt, f)
   task-without (storeElement p) ts vs cs h l f =

@@ -15,10 +15,10 @@ use Rattle.device.specs.Device.{IsByte}
 use Rattle.device.specs.laws.ByteLaws.{HoldsBytes, got-byte, reset-bytes, step-bytes, get-bytes, put-bytes}
 use Rattle.base.specs.All.{All}
 use Rattle.base.specs.laws.Lists.{All2, all2-nil, all2-cons, all2-append, all2-map, all2-at, all2-set, RelatedAt, get-map}
-use Rattle.base.specs.laws.WordLaws.{add-below, sub-below, mul-below}
-use Rattle.parser.specs.Tree.{Place, Operator, Operator.and, Part, Expression, Statement, Element, Element.int, Element.boolean, Element.class, Ty, Ty.plain, Ty.arrayOf, Variable, Method, Class, Program}
+use Rattle.base.specs.laws.WordLaws.{add-below, sub-below, mul-below, scale-below}
+use Rattle.parser.specs.Tree.{Place, Operator, Operator.and, Numeral, Numeral.intLiteral, Numeral.fixedLiteral, Part, Expression, Statement, Element, Element.int, Element.boolean, Element.class, Ty, Ty.plain, Ty.arrayOf, Variable, Method, Class, Program}
 use Rattle.parser.specs.Tree.{Sort.arguments}
-use Rattle.typesystem.specs.ClassTable.{Slot, Found, Context, meaning, meaningType, classNamed, variableNamed, fieldsOf}
+use Rattle.typesystem.specs.ClassTable.{Slot, Found, Context, numeralType, meaning, meaningType, classNamed, variableNamed, fieldsOf}
 use Rattle.typesystem.specs.Judge.{arity}
 use Rattle.typesystem.specs.TypingRules.{Sub, sub-same, sub-trans, HasMethod, HasName, of-variable, of-field, typeOf, ClassTyped, Redeclares, ProgramTyped}
 use Rattle.typesystem.specs.TypingRules.{HasType, t-literal, t-truth, t-variable, t-this, t-new-array, t-new-object, t-negation, t-binary, t-element, t-length, t-call, t-port-get, HaveTypes, t-none, t-more}
@@ -28,10 +28,10 @@ use Rattle.typing.specs.laws.Chains.{known-found}
 use Rattle.typing.specs.laws.Members.{Up, up-here, has-methodOf, StandsAt, NameAt, in-row, in-object, name-at}
 use Rattle.typing.specs.laws.Programs.{table-acyclic}
 use Rattle.typing.specs.laws.ClassTableLaws.{stands-up, every-method, method-up, method-declares}
-use Rattle.typing.specs.laws.Operations.{Operates, conjoins, compares, adds, subtracts, multiplies, operates}
-use Rattle.semantics.specs.Machine.{Value, Value.objectAt, Cell, Cell.slot, Call, Call.frame, Core, initial}
+use Rattle.typing.specs.laws.Operations.{Numeric, numeric-int, numeric-fixed, Operates, conjoins, compares, adds, subtracts, multiplies, operates, printable-numeric}
+use Rattle.semantics.specs.Machine.{Value, Value.number, Value.thousandths, Value.objectAt, Cell, Cell.slot, Call, Call.frame, Core, numeralValue, initial}
 use Rattle.semantics.specs.Machine.{Request, Request.charge, Request.allocate, Request.enter, Request.output, Request.receive, Request.send, Request.move, Request.fault, Request.done, Request.stuck}
-use Rattle.semantics.specs.Machine.{Task, Task.operate, Task.fetch, Task.measure, Task.makeArray, Task.makeObject, Task.storeElement, Task.leave}
+use Rattle.semantics.specs.Machine.{Task, Task.operate, Task.fetch, Task.measure, Task.makeArray, Task.makeObject, Task.show, Task.storeElement, Task.leave}
 use Rattle.semantics.specs.Machine.{need, require, ofKind, ofKinds, pop, popMany, innermost, asSlot, asObjectCell, asArrayCell, arrayCell, inBounds, readMeaning, readName, writeMeaning, writeName, isAnd, begin, beginStatement, second, callMethod, nextArgument, nextStatement, nextOfBody, newArrayOf, newObjectOf, opened, go, plan, start}
 use Rattle.semantics.specs.Limits.{Limits, Meters, begun, Ending, ended, wentWrong, unfinished, Progress, next, stop, guard, sizeOf, runWith, run}
 use Rattle.soundness.specs.Results.{by-null, by-index, by-size, by-register, by-byte, Finish, by-success, by-fault, ByLimit, by-budget, by-heap, by-calls, by-output, EndsWell}
@@ -39,7 +39,7 @@ use Rattle.soundness.specs.laws.Search.{search-finds}
 use Rattle.soundness.specs.laws.ResultLaws.{Over}
 use Rattle.soundness.specs.laws.Continuations.{after-by}
 use Rattle.soundness.specs.laws.Ending.{run-ends}
-use Rattle.soundness.specs.laws.StateTyping.{WordLiterals, MethodFits, LiteralsFit, CellType, objectType, arrayType, slotType, ValueTyped, v-number, v-flag, v-no-array, v-no-object, v-array, v-object}
+use Rattle.soundness.specs.laws.StateTyping.{WordNumeral, WordLiterals, MethodFits, LiteralsFit, CellType, objectType, arrayType, slotType, ValueTyped, v-number, v-thousandths, v-flag, v-no-array, v-no-object, v-array, v-object}
 use Rattle.soundness.specs.laws.StateTyping.{CellTyped, c-object, c-array, c-slot, HeapTyped, FrameTyped, CallTyped, c-frame, now, StateTyped, typed, Asks}
 use Rattle.soundness.specs.laws.StateTyping.{TasksTyped, r-end, r-evaluate, r-execute, r-operand, r-operate, r-confirm, r-negate, r-index, r-fetch, r-measure, r-make-array, r-make-object, r-invoke, r-branch, r-decide, r-again, r-show, r-store, r-new-element, r-store-element, r-read-register, r-new-byte, r-write-register, r-continue, r-perform, r-leave}
 use Rattle.soundness.specs.laws.HeapLaws.{value-sub, initial-typed, CellsKept, kept-append, values-kept, calls-kept, new-place, fieldTypes, elementTypes, object-grown, array-grown, stored}
@@ -47,6 +47,7 @@ use Rattle.soundness.specs.laws.HeapLaws.{value-sub, initial-typed, Cell
 -- a value of a type is of its kind, and so are values for a list of parameters
 kind-typed : {G : List Class} {σ : List CellType} {v : Value} {t : Ty} → ValueTyped G σ v t → ofKind t v ≡ true
 kind-typed (v-number l) = refl
+kind-typed (v-thousandths l) = refl
 kind-typed v-flag = refl
 kind-typed v-no-array = refl
 kind-typed v-no-object = refl
@@ -57,6 +58,12 @@ kinds-typed : {G : List Class} {σ : List CellType} {given : List Value} (ps : L
     → All2 (ValueTyped G σ) given (map typeOf ps) → ofKinds ps given ≡ true
 kinds-typed [] all2-nil = refl
 kinds-typed (p ∷ ps) (all2-cons v W) = rw (kind-typed v) (kinds-typed ps W)
+
+-- what a literal says is of its type
+numeral-typed : {G : List Class} {σ : List CellType} {t : Ty} (n : Numeral) → numeralType n ≡ t → WordNumeral n
+    → ValueTyped G σ (numeralValue n) t
+numeral-typed {G} {σ} (intLiteral n) q l = subst (ValueTyped G σ (number n)) q (v-number l)
+numeral-typed {G} {σ} (fixedLiteral n) q l = subst (ValueTyped G σ (thousandths n)) q (v-thousandths l)
 
 -- main sees no names
 no-name : {G : List Class} {x : List ℕ} {t : Ty} → HasName G (now []) x t → ⊥
@@ -192,7 +199,7 @@ module _ {G : List Class} (T : All (ClassTyped G) G) (L : All (λ k. All MethodF
         → All2 (ValueTyped G σ) vs us → HasType G (now Γs) e s → WordLiterals e → Sub G s t → TasksTyped G Γs (t ∷ us) ts
         → Asks G (begin G e ts vs cs h)
     unfolding begin
-    begins W t-literal l b R = typed H C (all2-cons (value-sub b (v-number l)) W) R
+    begins W (t-literal {n = n} q) l b R = typed H C (all2-cons (value-sub b (numeral-typed n q l)) W) R
     begins W t-truth l b R = typed H C (all2-cons (value-sub b v-flag) W) R
     begins W (t-variable n) l b R = read-ok _ H C n (λ v x. typed H C (all2-cons (value-sub b x) W) R)
     begins W (t-this o) l b R = this-ok _ C o (λ a x. typed H C (all2-cons (value-sub b x) W) R)
@@ -201,7 +208,7 @@ module _ {G : List Class} (T : All (ClassTyped G) G) (L : All (λ k. All MethodF
     begins {t = t} W (t-new-object {c = c} q x) l b R =
         typed H C W (r-make-object (ap (classNamed G) q ∙ known-found G c x .1) (subst (λ (d : List ℕ). Sub G (plain (class d)) t) (sym q) b) R)
     begins W (t-negation x) l b R = typed H C W (r-evaluate x l sub-same (r-negate b R))
-    begins W (t-binary {o = o} {s = s} x q y) l b R = typed H C W (r-evaluate x (l .0) sub-same (r-operand (operates o s q) y (l .1) b R))
+    begins W (t-binary {o = o} {s = s} x q y) l b R = typed H C W (r-evaluate x (l .0) sub-same (r-operand (operates o s q) x y (l .1) b R))
     begins W (t-element x y) l b R = typed H C W (r-evaluate x (l .0) sub-same (r-index y (l .1) b R))
     begins W (t-length x) l b R = typed H C W (r-evaluate x l sub-same (r-measure b R))
     begins {t = t} W (t-call {es = es} x f q r) l b R =
@@ -215,7 +222,7 @@ module _ {G : List Class} (T : All (ClassTyped G) G) (L : All (λ k. All MethodF
     begins-statement W (t-block q) l R = typed H C W (r-continue q l R)
     begins-statement W (t-if x y z) l R = typed H C W (r-evaluate x (l .0) sub-same (r-branch y (l .1) z (l .2) R))
     begins-statement W (t-while x y) l R = typed H C W (r-evaluate x (l .0) sub-same (r-decide x (l .0) y (l .1) R))
-    begins-statement W (t-print x) l R = typed H C W (r-evaluate x l sub-same (r-show R))
+    begins-statement W (t-print {t = t} x q) l R = typed H C W (r-evaluate x l sub-same (r-show (printable-numeric t q) R))
     begins-statement W (t-assign n x b) l R = typed H C W (r-evaluate x l b (r-store n R))
     begins-statement W (t-assign-element n x y b) l R =
         read-ok _ H C n (λ v q. typed H C (all2-cons q W) (r-evaluate x (l .0) sub-same (r-new-element y (l .1) b R)))
@@ -223,37 +230,51 @@ module _ {G : List Class} (T : All (ClassTyped G) G) (L : All (λ k. All MethodF
 
     -- ---- going on with a node
 
-    and-ok : {us : List Ty} {ts : List Task} {vs : List Value} {r : Expression} {t : Ty}
+    and-ok : {us : List Ty} {ts : List Task} {vs : List Value} (a : Expression) {r : Expression} {t : Ty}
         → All2 (ValueTyped G σ) vs (plain boolean ∷ us) → HasType G (now Γs) r (plain boolean) → WordLiterals r → Sub G (plain boolean) t
-        → TasksTyped G Γs (t ∷ us) ts → Asks G (second G and r ts vs cs h)
+        → TasksTyped G Γs (t ∷ us) ts → Asks G (second G and a r ts vs cs h)
     unfolding second
-    and-ok (all2-cons (v-flag {b = true}) W) x l b R = begins W x l sub-same (r-confirm b R)
-    and-ok (all2-cons (v-flag {b = false}) W) x l b R = typed H C (all2-cons (value-sub b v-flag) W) R
+    and-ok a (all2-cons (v-flag {b = true}) W) x l b R = begins W x l sub-same (r-confirm b R)
+    and-ok a (all2-cons (v-flag {b = false}) W) x l b R = typed H C (all2-cons (value-sub b v-flag) W) R
 
-    second-ok : {us : List Ty} {ts : List Task} {vs : List Value} {o : Operator} {r : Expression} {s u t : Ty}
-        → Operates o s u → All2 (ValueTyped G σ) vs (s ∷ us) → HasType G (now Γs) r s → WordLiterals r → Sub G u t
+    second-ok : {us : List Ty} {ts : List Task} {vs : List Value} {o : Operator} {a r : Expression} {s u t : Ty}
+        → Operates o s u → All2 (ValueTyped G σ) vs (s ∷ us) → HasType G (now Γs) a s → HasType G (now Γs) r s → WordLiterals r → Sub G u t
         → TasksTyped G Γs (t ∷ us) ts
-        → Asks G (second G o r ts vs cs h)
+        → Asks G (second G o a r ts vs cs h)
     unfolding second
-    second-ok conjoins W x l b R = and-ok W x l b R
-    second-ok compares W x l b R = begins W x l sub-same (r-operate compares refl b R)
-    second-ok adds W x l b R = begins W x l sub-same (r-operate adds refl b R)
-    second-ok subtracts W x l b R = begins W x l sub-same (r-operate subtracts refl b R)
-    second-ok multiplies W x l b R = begins W x l sub-same (r-operate multiplies refl b R)
+    second-ok {a = a} conjoins W y x l b R = and-ok a W x l b R
+    second-ok (compares n) W y x l b R = begins W x l sub-same (r-operate (compares n) y refl b R)
+    second-ok (adds n) W y x l b R = begins W x l sub-same (r-operate (adds n) y refl b R)
+    second-ok (subtracts n) W y x l b R = begins W x l sub-same (r-operate (subtracts n) y refl b R)
+    second-ok (multiplies n) W y x l b R = begins W x l sub-same (r-operate (multiplies n) y refl b R)
 
-    operate-ok : {us : List Ty} {ts : List Task} {vs : List Value} {o : Operator} {s u t : Ty}
+    operate-ok : {us : List Ty} {ts : List Task} {vs : List Value} {o : Operator} (a : Expression) {s u t : Ty}
         → Operates o s u → isAnd o ≡ false → All2 (ValueTyped G σ) vs (s ∷ s ∷ us) → Sub G u t → TasksTyped G Γs (t ∷ us) ts
-        → Asks G (go G (operate o) ts vs cs h)
+        → Asks G (go G (operate o a) ts vs cs h)
     unfolding go
-    operate-ok conjoins n W b R = absurd (true≢false n)
-    operate-ok compares n (all2-cons (v-number {n = y} _) (all2-cons (v-number {n = x} _) W)) b R =
+    operate-ok a conjoins n W b R = absurd (true≢false n)
+    operate-ok a (compares numeric-int) n (all2-cons (v-number {n = y} _) (all2-cons (v-number {n = x} _) W)) b R =
         typed H C (all2-cons (value-sub b v-flag) W) R
-    operate-ok adds n (all2-cons (v-number {n = y} _) (all2-cons (v-number {n = x} _) W)) b R =
+    operate-ok a (compares numeric-fixed) n (all2-cons (v-thousandths {n = y} _) (all2-cons (v-thousandths {n = x} _) W)) b R =
+        typed H C (all2-cons (value-sub b v-flag) W) R
+    operate-ok a (adds numeric-int) n (all2-cons (v-number {n = y} _) (all2-cons (v-number {n = x} _) W)) b R =
         typed H C (all2-cons (value-sub b (v-number (add-below x y))) W) R
-    operate-ok subtracts n (all2-cons (v-number {n = y} _) (all2-cons (v-number {n = x} _) W)) b R =
+    operate-ok a (adds numeric-fixed) n (all2-cons (v-thousandths {n = y} _) (all2-cons (v-thousandths {n = x} _) W)) b R =
+        typed H C (all2-cons (value-sub b (v-thousandths (add-below x y))) W) R
+    operate-ok a (subtracts numeric-int) n (all2-cons (v-number {n = y} _) (all2-cons (v-number {n = x} _) W)) b R =
         typed H C (all2-cons (value-sub b (v-number (sub-below x y))) W) R
-    operate-ok multiplies n (all2-cons (v-number {n = y} _) (all2-cons (v-number {n = x} _) W)) b R =
+    operate-ok a (subtracts numeric-fixed) n (all2-cons (v-thousandths {n = y} _) (all2-cons (v-thousandths {n = x} _) W)) b R =
+        typed H C (all2-cons (value-sub b (v-thousandths (sub-below x y))) W) R
+    operate-ok a (multiplies numeric-int) n (all2-cons (v-number {n = y} _) (all2-cons (v-number {n = x} _) W)) b R =
         typed H C (all2-cons (value-sub b (v-number (mul-below x y))) W) R
+    operate-ok a (multiplies numeric-fixed) n (all2-cons (v-thousandths {n = y} _) (all2-cons (v-thousandths {n = x} _) W)) b R =
+        typed H C (all2-cons (value-sub b (v-thousandths (scale-below x y))) W) R
+
+    show-ok : {us : List Ty} {ts : List Task} {vs : List Value} {s : Ty} (p : Place)
+        → All2 (ValueTyped G σ) vs (s ∷ us) → Numeric s → TasksTyped G Γs us ts → Asks G (go G (show p) ts vs cs h)
+    unfolding go
+    show-ok p (all2-cons (v-number _) W) numeric-int R = typed H C W R
+    show-ok p (all2-cons (v-thousandths _) W) numeric-fixed R = typed H C W R
 
     fetch-ok : {us : List Ty} {ts : List Task} {vs : List Value} {s : Element} {t : Ty} (p : Place)
         → All2 (ValueTyped G σ) vs (plain int ∷ arrayOf s ∷ us) → Sub G (plain s) t → TasksTyped G Γs (t ∷ us) ts
@@ -368,8 +389,8 @@ module _ {G : List Class} (T : All (ClassTyped G) G) (L : All (λ k. All MethodF
   unfolding go nextStatement nextOfBody
   goes H C W (r-evaluate x l b R) = begins H C W x l b R
   goes H C W (r-execute x l R) = begins-statement H C W x l R
-  goes H C W (r-operand q x l b R) = second-ok H C q W x l b R
-  goes H C W (r-operate q n b R) = operate-ok H C q n W b R
+  goes H C W (r-operand q y x l b R) = second-ok H C q W y x l b R
+  goes H C W (r-operate {l = l} q y n b R) = operate-ok H C l q n W b R
   goes H C (all2-cons v-flag W) (r-confirm b R) = typed H C (all2-cons (value-sub b v-flag) W) R
   goes H C (all2-cons v-flag W) (r-negate b R) = typed H C (all2-cons (value-sub b v-flag) W) R
   goes H C W (r-index x l b R) = begins H C W x l sub-same (r-fetch b R)
@@ -383,7 +404,7 @@ module _ {G : List Class} (T : All (ClassTyped G) G) (L : All (λ k. All MethodF
   goes H C (all2-cons (v-flag {b = true}) W) (r-decide x l y m R) = begins-statement H C W y m (r-again x l y m R)
   goes H C (all2-cons (v-flag {b = false}) W) (r-decide x l y m R) = typed H C W R
   goes H C W (r-again x l y m R) = begins H C W x l sub-same (r-decide x l y m R)
-  goes H C (all2-cons (v-number _) W) (r-show R) = typed H C W R
+  goes H C W (r-show {p = p} q R) = show-ok H C p W q R
   goes H C (all2-cons v W) (r-store n R) = write-ok _ H C n v (λ ds g I D. typed I D W R)
   goes H C W (r-new-element x l b R) = begins H C W x l b (r-store-element R)
   goes H C W (r-store-element {p = p} R) = store-element-ok H C p W R

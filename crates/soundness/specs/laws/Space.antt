@@ -27,10 +27,10 @@ use Rattle.typing.specs.laws.Programs.{table-acyclic}
 use Rattle.typing.specs.laws.ClassTableLaws.{every-method, method-declares}
 use Rattle.semantics.specs.Machine.{Value, Cell, Call, Core, Core.core, Request, Request.charge, Request.allocate, Request.enter, Request.output, Request.receive, Request.send, Request.move, Request.fault, Request.done, Request.stuck}
 use Rattle.semantics.specs.Machine.{Task, Task.evaluate, Task.execute, Task.operand, Task.operate, Task.confirm, Task.negate, Task.index, Task.fetch, Task.measure, Task.makeArray, Task.makeObject, Task.invoke, Task.branch, Task.decide, Task.again, Task.show, Task.store, Task.newElement, Task.storeElement, Task.readRegister, Task.newByte, Task.writeRegister, Task.continue, Task.perform, Task.leave}
-use Rattle.semantics.specs.Machine.{search, ofKind, ofKinds, isAnd, apply, begin, beginStatement, second, callMethod, nextArgument, nextStatement, nextOfBody, newArrayOf, newObjectOf, go, plan}
+use Rattle.semantics.specs.Machine.{search, ofKind, ofKinds, isAnd, begin, beginStatement, second, callMethod, nextArgument, nextStatement, nextOfBody, newArrayOf, newObjectOf, go, plan}
 use Rattle.semantics.specs.Limits.{Limits, Meters, Progress, next, stop, guard, heapOf}
 use Rattle.soundness.specs.laws.Search.{search-found}
-use Rattle.soundness.specs.laws.Continuations.{Closed, need-by, require-by, pop-by, popMany-by, number-by, flag-by, array-by, object-by, object-cell-by, choice-by, innermost-by, cell-by, array-at-by, under-bound-by, read-by, write-by}
+use Rattle.soundness.specs.laws.Continuations.{Closed, need-by, require-by, pop-by, popMany-by, number-by, printed-by, operated-by, flag-by, array-by, object-by, object-cell-by, choice-by, innermost-by, cell-by, array-at-by, under-bound-by, read-by, write-by}
 use Rattle.soundness.specs.laws.StateTyping.{LiteralsFit, StateTyped, typed}
 use Rattle.soundness.specs.laws.StateTyping.{TasksTyped, r-end, r-evaluate, r-execute, r-operand, r-operate, r-confirm, r-negate, r-index, r-fetch, r-measure, r-make-array, r-make-object, r-invoke, r-branch, r-decide, r-again, r-show, r-store, r-new-element, r-store-element, r-read-register, r-new-byte, r-write-register, r-continue, r-perform, r-leave}
 use Rattle.soundness.specs.laws.Reachable.{Reach, reach-start, reach-next, reach-typed}
@@ -156,8 +156,8 @@ classes-shallow (k ∷ ks) e =
 abbrev extra : Task → ℕ
 extra (evaluate e) = below e
 extra (execute s) = below s
-extra (operand o r) = 1 + below r
-extra (operate o) = 0
+extra (operand o l r) = 1 + below r
+extra (operate o l) = 0
 extra confirm = 0
 extra negate = 0
 extra (index p i) = 1 + below i
@@ -184,8 +184,8 @@ extra (leave t) = 0
 abbrev pub calls : Task → ℕ → ℕ
 calls (evaluate e) n = n
 calls (execute s) n = n
-calls (operand o r) n = n
-calls (operate o) n = n
+calls (operand o l r) n = n
+calls (operate o l) n = n
 calls confirm n = n
 calls negate n = n
 calls (index p i) n = n
@@ -268,12 +268,12 @@ module _ (n w : ℕ) (G : List Class) where
   unfolding go second callMethod nextArgument nextStatement nextOfBody newArrayOf newObjectOf
   task-fits B (evaluate e) ts vs cs h l c d f = begin-fits e ts vs cs h l c d f
   task-fits B (execute s) ts vs cs h l c d f = begin-statement-fits s ts vs cs h l c d f
-  task-fits B (operand o r) ts vs cs h l c d f =
+  task-fits B (operand o a r) ts vs cs h l c d f =
       choice-by closed (isAnd o) _ _
       (pop-by closed vs _ (λ x vs. flag-by closed x _ (λ b. choice-by closed b _ _ (begin-fits r (confirm ∷ ts) vs cs h (omega arith) c d (omega arith, f)) (c, d, f))))
-      (begin-fits r (operate o ∷ ts) vs cs h (omega arith) c d (omega arith, f))
-  task-fits B (operate o) ts vs cs h l c d f =
-      pop-by closed vs _ (λ y vs. pop-by closed vs _ (λ x vs. number-by closed x _ (λ a. number-by closed y _ (λ b. need-by closed (apply o a b) _ (λ v _. (c, d, f))))))
+      (begin-fits r (operate o a ∷ ts) vs cs h (omega arith) c d (omega arith, f))
+  task-fits B (operate o a) ts vs cs h l c d f =
+      pop-by closed vs _ (λ y vs. pop-by closed vs _ (λ x vs. operated-by closed o x y _ (λ v. (c, d, f))))
   task-fits B confirm ts vs cs h l c d f = pop-by closed vs _ (λ x vs. flag-by closed x _ (λ b. (c, d, f)))
   task-fits B negate ts vs cs h l c d f = pop-by closed vs _ (λ x vs. flag-by closed x _ (λ b. (c, d, f)))
   task-fits B (index p i) ts vs cs h l c d f = begin-fits i (fetch p ∷ ts) vs cs h (omega arith) c d (omega arith, f)
@@ -299,7 +299,7 @@ module _ (n w : ℕ) (G : List Class) where
       pop-by closed vs _ (λ x vs. flag-by closed x _ (λ b.
       choice-by closed b _ _ (begin-statement-fits s (again e s ∷ ts) vs cs h (omega arith) c d (omega arith, f)) (c, d, f)))
   task-fits B (again e s) ts vs cs h l c d f = begin-fits e (decide e s ∷ ts) vs cs h (omega arith) c d (omega arith, f)
-  task-fits B (show p) ts vs cs h l c d f = pop-by closed vs _ (λ x vs. number-by closed x _ (λ k. (c, d, f)))
+  task-fits B (show p) ts vs cs h l c d f = pop-by closed vs _ (λ x vs. printed-by closed x _ (λ k. (c, d, f)))
   task-fits B (store x) ts vs cs h l c d f =
       pop-by closed vs _ (λ v vs. write-by closed G cs h x v _ (λ ds g i j. (omega arith, omega arith, subst (λ (k : ℕ). Fits k ts) (sym i) f)))
   task-fits B (newElement p e) ts vs cs h l c d f = begin-fits e (storeElement p ∷ ts) vs cs h (omega arith) c d (omega arith, f)
@@ -341,8 +341,8 @@ values-fit : {G : List Class} {Γs : List Context} {us : List Ty} {ts : List Tas
 values-fit T r-end = omega arith
 values-fit T (r-evaluate x l b R) = omega (arith, values-fit T R)
 values-fit T (r-execute x l R) = omega (arith, values-fit T R)
-values-fit T (r-operand q x l b R) = omega (arith, values-fit T R)
-values-fit T (r-operate q n b R) = omega (arith, values-fit T R)
+values-fit T (r-operand q y x l b R) = omega (arith, values-fit T R)
+values-fit T (r-operate q y n b R) = omega (arith, values-fit T R)
 values-fit T (r-confirm b R) = omega (arith, values-fit T R)
 values-fit T (r-negate b R) = omega (arith, values-fit T R)
 values-fit T (r-index x l b R) = omega (arith, values-fit T R)
@@ -361,7 +361,7 @@ values-fit T (r-invoke {us = us} {c = c} {F = F} {vs = vs} qs f q l e i b R) =
 values-fit T (r-branch x l y m R) = omega (arith, values-fit T R)
 values-fit T (r-decide x l y m R) = omega (arith, values-fit T R)
 values-fit T (r-again x l y m R) = omega (arith, values-fit T R)
-values-fit T (r-show R) = omega (arith, values-fit T R)
+values-fit T (r-show q R) = omega (arith, values-fit T R)
 values-fit T (r-store n R) = omega (arith, values-fit T R)
 values-fit T (r-new-element x l b R) = omega (arith, values-fit T R)
 values-fit T (r-store-element R) = omega (arith, values-fit T R)

@@ -10,7 +10,7 @@ use Rattle.base.specs.All.{All}
 use Rattle.base.specs.laws.Lists.{All2}
 use Rattle.base.specs.Word.{modulus}
 use Rattle.base.specs.Codes.{byteValues}
-use Rattle.parser.specs.Tree.{Place, Operator, Sort, Part, Expression, Statement, Element, Element.int, Element.boolean, Element.class, Ty, Ty.plain, Ty.arrayOf, Variable, Method, Class, Program}
+use Rattle.parser.specs.Tree.{Place, Operator, Numeral, Numeral.intLiteral, Numeral.fixedLiteral, Sort, Part, Expression, Statement, Element, Element.int, Element.boolean, Element.fixed, Element.class, Ty, Ty.plain, Ty.arrayOf, Variable, Method, Class, Program}
 use Rattle.parser.specs.Tree.{Sort.arguments, Sort.statement, Sort.statements}
 use Rattle.parser.specs.Tree.{Part.literal, Part.truth, Part.variable, Part.this, Part.newArray, Part.newObject, Part.negation, Part.binary, Part.element, Part.arrayLength, Part.call, Part.portGet, Part.noArguments, Part.argument}
 use Rattle.parser.specs.Tree.{Part.block, Part.conditional, Part.loop, Part.print, Part.assign, Part.assignElement, Part.portPut, Part.noStatements, Part.sequence}
@@ -18,16 +18,20 @@ use Rattle.typesystem.specs.ClassTable.{Found, Context, mainContext, contextOf,
 use Rattle.typesystem.specs.Judge.{arity}
 use Rattle.typesystem.specs.TypingRules.{Sub, HasMethod, HasName, HasType, HaveTypes, IsTyped, AreTyped, typeOf}
 use Rattle.typing.specs.laws.Members.{Up}
-use Rattle.typing.specs.laws.Operations.{Operates}
-use Rattle.semantics.specs.Machine.{Value, Value.number, Value.flag, Value.null, Value.arrayAt, Value.objectAt, Cell, Cell.object, Cell.array, Cell.slot, Call, Call.frame, Core, Core.core, isAnd}
+use Rattle.typing.specs.laws.Operations.{Numeric, Operates}
+use Rattle.semantics.specs.Machine.{Value, Value.number, Value.thousandths, Value.flag, Value.null, Value.arrayAt, Value.objectAt, Cell, Cell.object, Cell.array, Cell.slot, Call, Call.frame, Core, Core.core, isAnd}
 use Rattle.semantics.specs.Machine.{Request, Request.charge, Request.allocate, Request.enter, Request.output, Request.receive, Request.send, Request.move, Request.fault, Request.done, Request.stuck}
 use Rattle.semantics.specs.Machine.{Task, Task.evaluate, Task.execute, Task.operand, Task.operate, Task.confirm, Task.negate, Task.index, Task.fetch, Task.measure, Task.makeArray, Task.makeObject, Task.invoke, Task.branch, Task.decide, Task.again, Task.show, Task.store, Task.newElement, Task.storeElement, Task.readRegister, Task.newByte, Task.writeRegister, Task.continue, Task.perform, Task.leave}
 use Rattle.soundness.specs.Results.{Fault}
 
 -- ---- literals are words
 
+abbrev pub WordNumeral : Numeral → Type 0
+WordNumeral (intLiteral n) = n < modulus
+WordNumeral (fixedLiteral n) = n < modulus
+
 abbrev pub WordLiterals : {s : Sort} → Part s → Type 0
-WordLiterals (literal p n) = n < modulus
+WordLiterals (literal p n) = WordNumeral n
 WordLiterals (truth p b) = Unit {0}
 WordLiterals (variable p x) = Unit {0}
 WordLiterals (this p) = Unit {0}
@@ -55,7 +59,7 @@ pub record MethodFits (m : Method) : Type 0 where
   pub body : WordLiterals (m .body)
   pub value : WordLiterals (m .value)
 
--- every literal of the program is below 2 ^ 32 (the reader's are at most 2147483647)
+-- every literal of the program, of int or of fixed, is below 2 ^ 32 (the reader's are at most 2147483647)
 pub record LiteralsFit (p : Program) : Type 0 where
   pub main : WordLiterals (p .statement)
   pub classes : All (λ k. All MethodFits (k .methods)) (p .classes)
@@ -70,6 +74,7 @@ pub data CellType : Type 0 where
 -- σ has the types of the heap's cells
 pub data ValueTyped (G : List Class) (σ : List CellType) : Value → Ty → Type 0 where
   v-number : {n : ℕ} → n < modulus → ValueTyped G σ (number n) (plain int)
+  v-thousandths : {n : ℕ} → n < modulus → ValueTyped G σ (thousandths n) (plain fixed)
   v-flag : {b : Bool} → ValueTyped G σ (flag b) (plain boolean)
   v-no-array : {t : Element} → ValueTyped G σ null (arrayOf t)
   v-no-object : {c : List ℕ} → ValueTyped G σ null (plain (class c))
@@ -121,11 +126,12 @@ pub data TasksTyped (G : List Class) : List Context → List Ty → List Task �
       → HasType G (now Γs) e s → WordLiterals e → Sub G s t → TasksTyped G Γs (t ∷ us) ts → TasksTyped G Γs us (evaluate e ∷ ts)
   r-execute : {Γs : List Context} {us : List Ty} {ts : List Task} {s : Statement}
       → IsTyped G (now Γs) s → WordLiterals s → TasksTyped G Γs us ts → TasksTyped G Γs us (execute s ∷ ts)
-  r-operand : {Γs : List Context} {us : List Ty} {ts : List Task} {o : Operator} {r : Expression} {s u t : Ty}
-      → Operates o s u → HasType G (now Γs) r s → WordLiterals r → Sub G u t → TasksTyped G Γs (t ∷ us) ts
-      → TasksTyped G Γs (s ∷ us) (operand o r ∷ ts)
-  r-operate : {Γs : List Context} {us : List Ty} {ts : List Task} {o : Operator} {s u t : Ty}
-      → Operates o s u → isAnd o ≡ false → Sub G u t → TasksTyped G Γs (t ∷ us) ts → TasksTyped G Γs (s ∷ s ∷ us) (operate o ∷ ts)
+  r-operand : {Γs : List Context} {us : List Ty} {ts : List Task} {o : Operator} {l r : Expression} {s u t : Ty}
+      → Operates o s u → HasType G (now Γs) l s → HasType G (now Γs) r s → WordLiterals r → Sub G u t → TasksTyped G Γs (t ∷ us) ts
+      → TasksTyped G Γs (s ∷ us) (operand o l r ∷ ts)
+  r-operate : {Γs : List Context} {us : List Ty} {ts : List Task} {o : Operator} {l : Expression} {s u t : Ty}
+      → Operates o s u → HasType G (now Γs) l s → isAnd o ≡ false → Sub G u t → TasksTyped G Γs (t ∷ us) ts
+      → TasksTyped G Γs (s ∷ s ∷ us) (operate o l ∷ ts)
   r-confirm : {Γs : List Context} {us : List Ty} {ts : List Task} {t : Ty}
       → Sub G (plain boolean) t → TasksTyped G Γs (t ∷ us) ts → TasksTyped G Γs (plain boolean ∷ us) (confirm ∷ ts)
   r-negate : {Γs : List Context} {us : List Ty} {ts : List Task} {t : Ty}
@@ -155,8 +161,8 @@ pub data TasksTyped (G : List Class) : List Context → List Ty → List Task �
   r-again : {Γs : List Context} {us : List Ty} {ts : List Task} {e : Expression} {s : Statement}
       → HasType G (now Γs) e (plain boolean) → WordLiterals e → IsTyped G (now Γs) s → WordLiterals s → TasksTyped G Γs us ts
       → TasksTyped G Γs us (again e s ∷ ts)
-  r-show : {Γs : List Context} {us : List Ty} {ts : List Task} {p : Place} → TasksTyped G Γs us ts
-      → TasksTyped G Γs (plain int ∷ us) (show p ∷ ts)
+  r-show : {Γs : List Context} {us : List Ty} {ts : List Task} {p : Place} {s : Ty} → Numeric s → TasksTyped G Γs us ts
+      → TasksTyped G Γs (s ∷ us) (show p ∷ ts)
   r-store : {Γs : List Context} {us : List Ty} {ts : List Task} {x : List ℕ} {t : Ty}
       → HasName G (now Γs) x t → TasksTyped G Γs us ts → TasksTyped G Γs (t ∷ us) (store x ∷ ts)
   r-new-element : {Γs : List Context} {us : List Ty} {ts : List Task} {p : Place} {e : Expression} {s : Ty} {t : Element}

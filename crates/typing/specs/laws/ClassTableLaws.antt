@@ -8,11 +8,11 @@ use mathlib.Core.Bool.{true}
 use mathlib.Core.Option.{Option, none, some}
 use Rattle.base.specs.All.{All, all-nil}
 use Rattle.base.specs.laws.Lists.{all-at, all-append}
-use Rattle.parser.specs.Tree.{Operator, Expression, Element.class, Ty, Ty.plain, Variable, Method, Class}
-use Rattle.typesystem.specs.ClassTable.{Slot, Found, Context, contextOf, classNamed, methodNamed, chain, underlying, known, layout, fieldsOf}
+use Rattle.parser.specs.Tree.{Operator, Numeral, Numeral.intLiteral, Numeral.fixedLiteral, Expression, Element.class, Ty, Ty.plain, Variable, Method, Class}
+use Rattle.typesystem.specs.ClassTable.{Slot, Found, Context, contextOf, classNamed, methodNamed, chain, numeralType, underlying, known, layout, fieldsOf}
 use Rattle.typesystem.specs.TypingRules.{Extends, extends, sub-same, sub-trans, HasMethod, own-method, inherited-method, HasField, own-field, inherited-field, HasName, of-variable, of-field, HasType, Known, Redeclares, MethodTyped, ClassTyped, methodName, className}
 use Rattle.typesystem.specs.TypingRules.{t-literal, t-truth, t-variable, t-this, t-new-array, t-new-object, t-negation, t-binary, t-element, t-length, t-call, t-port-get}
-use Rattle.typing.specs.laws.Operations.{Operates, conjoins, compares, adds, subtracts, multiplies, operates}
+use Rattle.typing.specs.laws.Operations.{Numeric, numeric-int, numeric-fixed, Operates, conjoins, compares, adds, subtracts, multiplies, operates}
 use Rattle.typing.specs.laws.Choices.{first-name, first-among, none-some}
 use Rattle.typing.specs.laws.Chains.{known-found, found-known, ends-known, ends-up, extends-none, class-name, all-classes, Acyclic, Chain, chain-none, chain-top, chain-more, chain-is, chain-tail}
 use Rattle.typing.specs.laws.Members.{Up, up-here, up-more, StandsAt, stands-before, variable-stands}
@@ -144,13 +144,23 @@ pub record ContextKnown (G : List Class) (Γ : Context) : Type 0 where
 stands-known : (G : List Class) {vs : List Variable} {s : Slot} → All (Known G) vs → StandsAt vs s → known G (underlying (s .type)) ≡ true
 stands-known G {s = s} h w = rw (← w .has) (all-at (s .place) h (w .at))
 
+numeral-known : (G : List Class) (n : Numeral) → known G (underlying (numeralType n)) ≡ true
+unfolding known
+numeral-known G (intLiteral n) = refl
+numeral-known G (fixedLiteral n) = refl
+
+numeric-known : (G : List Class) {s : Ty} → Numeric s → known G (underlying s) ≡ true
+unfolding known
+numeric-known G numeric-int = refl
+numeric-known G numeric-fixed = refl
+
 result-known : (G : List Class) {o : Operator} {s t : Ty} → Operates o s t → known G (underlying t) ≡ true
 unfolding known
 result-known G conjoins = refl
-result-known G compares = refl
-result-known G adds = refl
-result-known G subtracts = refl
-result-known G multiplies = refl
+result-known G (compares n) = refl
+result-known G (adds n) = numeric-known G n
+result-known G (subtracts n) = numeric-known G n
+result-known G (multiplies n) = numeric-known G n
 
 module _ {G : List Class} (T : All (ClassTyped G) G) where
   layout-known : {c : List ℕ} {ks : List Class} → Chain G c ks → All (Known G) (layout ks)
@@ -174,7 +184,7 @@ module _ {G : List Class} (T : All (ClassTyped G) G) where
   -- an expression's type is known
   pub type-known : {Γ : Context} {e : Expression} {t : Ty} → ContextKnown G Γ → HasType G Γ e t → known G (underlying t) ≡ true
   unfolding known
-  type-known C t-literal = refl
+  type-known C (t-literal {n = n} q) = rw (← q) (numeral-known G n)
   type-known C t-truth = refl
   type-known C (t-variable h) = name-known C h
   type-known C (t-this {c = c} o) = C .owner c o

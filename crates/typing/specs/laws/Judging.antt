@@ -9,34 +9,39 @@ use lib.ListN.{length}
 use lib.Dec.{eqb}
 use Rattle.base.specs.Outcome.{Outcome, accepted, _>>=_}
 use Rattle.parser.specs.Tree.{Place, Name, Operator, Sort, Part, Expression, Statement, Variable, Class}
-use Rattle.parser.specs.Tree.{Element, Element.int, Element.boolean, Element.class, Ty, Ty.plain, Ty.arrayOf}
+use Rattle.parser.specs.Tree.{Element, Element.int, Element.boolean, Element.fixed, Element.class, Ty, Ty.plain, Ty.arrayOf}
 use Rattle.parser.specs.Tree.{Sort.expression, Sort.arguments, Sort.statement, Sort.statements}
 use Rattle.parser.specs.Tree.{Part.literal, Part.truth, Part.variable, Part.this, Part.newArray, Part.newObject, Part.negation, Part.binary, Part.element, Part.arrayLength, Part.call, Part.portGet, Part.noArguments, Part.argument}
 use Rattle.parser.specs.Tree.{Part.block, Part.conditional, Part.loop, Part.print, Part.assign, Part.assignElement, Part.portPut, Part.noStatements, Part.sequence}
 use Rattle.typesystem.specs.ClassTable.{Found, Context, known, fits, methodOf, meaning, meaningType}
 use Rattle.typesystem.specs.Judge.{arity, must, receiver, ofArray, invocation, lookUp, judge}
-use Rattle.typesystem.specs.Operators.{operation}
+use Rattle.typesystem.specs.Operators.{operation, printable}
 use Rattle.typesystem.specs.TypingRules.{Sub, HasName, HasType, HaveTypes, IsTyped, AreTyped}
 use Rattle.typesystem.specs.TypingRules.{t-literal, t-truth, t-variable, t-this, t-new-array, t-new-object, t-negation, t-binary, t-element, t-length, t-call, t-port-get, t-none, t-more}
 use Rattle.typesystem.specs.TypingRules.{t-block, t-if, t-while, t-print, t-assign, t-assign-element, t-port-put, t-end, t-sequence}
 use Rattle.typing.specs.laws.Choices.{refused-accepted, bound, passed, present, tested}
-use Rattle.typing.specs.laws.Operations.{Operates, conjoins, compares, adds, subtracts, multiplies, operates}
+use Rattle.typing.specs.laws.Operations.{Numeric, numeric-int, numeric-fixed, Operates, conjoins, compares, adds, subtracts, multiplies, operates}
 use Rattle.typing.specs.laws.Chains.{Acyclic}
 use Rattle.typing.specs.laws.Members.{Exact, sub-exact, fits-sub, sub-fits, fits-refl, methodOf-has, has-methodOf, meaning-has, has-meaning}
+
+numeric-exact : {s : Ty} → Numeric s → Exact s
+numeric-exact numeric-int = tt
+numeric-exact numeric-fixed = tt
 
 -- no operator takes classes
 operand-exact : {o : Operator} {s t : Ty} → Operates o s t → Exact s
 operand-exact conjoins = tt
-operand-exact compares = tt
-operand-exact adds = tt
-operand-exact subtracts = tt
-operand-exact multiplies = tt
+operand-exact (compares n) = numeric-exact n
+operand-exact (adds n) = numeric-exact n
+operand-exact (subtracts n) = numeric-exact n
+operand-exact (multiplies n) = numeric-exact n
 
 -- an accepted receiver is of a class
 receiver-class : (e : Expression) (s : Ty) (k : List ℕ → Outcome Ty) {t : Ty} → receiver e s k ≡ accepted t
     → (c : List ℕ) × (s ≡ plain (class c)) × (k c ≡ accepted t)
 receiver-class e (plain int) k h = absurd (refused-accepted h)
 receiver-class e (plain boolean) k h = absurd (refused-accepted h)
+receiver-class e (plain fixed) k h = absurd (refused-accepted h)
 receiver-class e (plain (class c)) k h = (c, refl, h)
 receiver-class e (arrayOf t) k h = absurd (refused-accepted h)
 
@@ -132,7 +137,7 @@ module _ {G : List Class} (A : Acyclic G) where
 
     pub sound : {s : Sort} (x : Part s) → Sound s x
     unfolding judge arity
-    sound (literal p n) = λ t h. typed t-literal h
+    sound (literal p n) = λ t h. typed (t-literal refl) h
     sound (truth p b) = λ t h. typed t-truth h
     sound (variable p x) = λ t h. t-variable (named p x h)
     sound (this p) = λ t h. let w = present (Γ .owner) _ _ _ h in typed (t-this (w .1)) (w .2)
@@ -165,7 +170,9 @@ module _ {G : List Class} (A : Acyclic G) where
         let v = bound (judge G Γ s) (λ _. judge G Γ t) (w .1) in
         t-if (w .0) (sound s (v .1)) (sound t (v .2))
     sound (loop p e s) = λ h. let w = part e (plain boolean) tt (sound e) _ h in t-while (w .0) (sound s (w .1))
-    sound (print p e) = λ h. t-print (last e (plain int) tt (sound e) h)
+    sound (print p e) = λ h.
+        let w = bound (judge G Γ e) _ h in
+        t-print {t = w .0} (sound e (w .0) (w .1)) (passed (printable (w .0)) _ _ _ (w .2) .0)
     sound (assign p x e) = λ h.
         let u = bound (lookUp G Γ p x) _ h in
         let w = fitted (judge G Γ e) e (u .2) in
@@ -196,7 +203,7 @@ module _ {G : List Class} (A : Acyclic G) where
       unfolding judge
 
       pub complete : {e : Expression} {t : Ty} → HasType G Γ e t → judge G Γ e ≡ accepted t
-      complete t-literal = refl
+      complete (t-literal q) = ap accepted q
       complete t-truth = refl
       complete (t-variable {p = p} h) = named-found p h
       complete (t-this o) = rw o
@@ -220,7 +227,7 @@ module _ {G : List Class} (A : Acyclic G) where
       complete-statement (t-block h) = complete-statements h
       complete-statement (t-if h s t) = rw (complete h, fits-refl, complete-statement s) (complete-statement t)
       complete-statement (t-while h s) = rw (complete h, fits-refl) (complete-statement s)
-      complete-statement (t-print h) = rw (complete h, fits-refl)
+      complete-statement (t-print h q) = rw (complete h, q)
       complete-statement (t-assign {p = p} n h s) = rw (named-found p n, complete h, sub-fits A s)
       complete-statement (t-assign-element {p = p} n h k s) = rw (named-found p n, complete h, fits-refl, complete k, sub-fits A s)
       complete-statement (t-port-put h k) = rw (complete h, fits-refl, complete k, fits-refl)

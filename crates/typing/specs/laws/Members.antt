@@ -10,7 +10,7 @@ use lib.ListN.{length, getElem?}
 use Rattle.base.specs.Choice.{option}
 use Rattle.base.specs.Bytes.{same}
 use Rattle.base.specs.laws.Lists.{get-append, get-append-right}
-use Rattle.parser.specs.Tree.{Element, Element.int, Element.boolean, Element.class, Ty, Ty.plain, Ty.arrayOf, Variable, Class}
+use Rattle.parser.specs.Tree.{Element, Element.int, Element.boolean, Element.fixed, Element.class, Ty, Ty.plain, Ty.arrayOf, Variable, Class}
 use Rattle.typesystem.specs.ClassTable.{Slot, Found, Context, Meaning, Meaning.ofRow, Meaning.ofObject, moved, classNamed, methodNamed, variableNamed, chain, sameElement, among, onChain, fits, layout, fieldsOf, nearestField, nearestMethod, methodOf, meaning, meaningType}
 use Rattle.typesystem.specs.TypingRules.{Extends, extends, Sub, sub-same, sub-extends, sub-trans, Ends, HasMethod, own-method, inherited-method, HasField, own-field, inherited-field, HasName, of-variable, of-field, typeOf, className}
 use Rattle.base.specs.laws.Tests.{or-either, same-equal, same-of}
@@ -52,6 +52,7 @@ up-sub (up-more x p) = sub-trans (sub-extends x) (up-sub p)
 abbrev pub Exact : Ty → Type 0
 Exact (plain int) = Unit {0}
 Exact (plain boolean) = Unit {0}
+Exact (plain fixed) = Unit {0}
 Exact (plain (class c)) = ⊥
 Exact (arrayOf t) = Unit {0}
 
@@ -87,8 +88,10 @@ along-sub : {G : List Class} → Acyclic G → (s t : Element) → onChain G s t
 unfolding onChain
 along-sub A int t h = absurd (false≢true h)
 along-sub A boolean t h = absurd (false≢true h)
+along-sub A fixed t h = absurd (false≢true h)
 along-sub A (class c) int h = absurd (false≢true h)
 along-sub A (class c) boolean h = absurd (false≢true h)
+along-sub A (class c) fixed h = absurd (false≢true h)
 along-sub A (class c) (class d) h = up-sub (among-up d (chain-is A c) h)
 
 pub fits-sub : {G : List Class} → Acyclic G → (s t : Ty) → fits G s t ≡ true → Sub G s t

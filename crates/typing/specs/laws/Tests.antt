@@ -2,25 +2,33 @@
 use mathlib.Core.Path.{_≡_, refl, sym, ap, _∙_}
 use mathlib.Core.Bool.{true, false, false≢true}
 use Rattle.base.specs.laws.Tests.{not-true, same-refl, same-equal}
-use Rattle.parser.specs.Tree.{Element, Element.int, Element.boolean, Element.class, Ty, Ty.plain, Ty.arrayOf}
+use Rattle.parser.specs.Tree.{Element, Element.int, Element.boolean, Element.fixed, Element.class, Ty, Ty.plain, Ty.arrayOf}
 use Rattle.typesystem.specs.ClassTable.{sameElement, sameType}
 
 pub sameElement-refl : (t : Element) → sameElement t t ≡ true
 unfolding sameElement
 sameElement-refl int = refl
 sameElement-refl boolean = refl
+sameElement-refl fixed = refl
 sameElement-refl (class c) = same-refl c
 
 pub sameElement-equal : (s t : Element) → sameElement s t ≡ true → s ≡ t
 unfolding sameElement
 sameElement-equal int int e = refl
 sameElement-equal int boolean e = absurd (false≢true e)
+sameElement-equal int fixed e = absurd (false≢true e)
 sameElement-equal int (class d) e = absurd (false≢true e)
 sameElement-equal boolean int e = absurd (false≢true e)
 sameElement-equal boolean boolean e = refl
+sameElement-equal boolean fixed e = absurd (false≢true e)
 sameElement-equal boolean (class d) e = absurd (false≢true e)
+sameElement-equal fixed int e = absurd (false≢true e)
+sameElement-equal fixed boolean e = absurd (false≢true e)
+sameElement-equal fixed fixed e = refl
+sameElement-equal fixed (class d) e = absurd (false≢true e)
 sameElement-equal (class c) int e = absurd (false≢true e)
 sameElement-equal (class c) boolean e = absurd (false≢true e)
+sameElement-equal (class c) fixed e = absurd (false≢true e)
 sameElement-equal (class c) (class d) e = ap class (same-equal c d e)
 
 pub sameType-refl : (t : Ty) → sameType t t ≡ true

@@ -2,6 +2,7 @@
 use Prim.Native.Nat.{ℕ, suc, _+_, _≤_, _<_}
 use mathlib.Core.Path.{_≡_}
 use mathlib.Core.List.{List, _∷_}
+use mathlib.Core.Bool.{Bool, true, false}
 use lib.ListN.{length}
 use lib.Dec.{eqb}
 use Rattle.base.specs.Choice.{if_then_else_}
@@ -10,23 +11,25 @@ use Rattle.base.specs.contracts.Table.{rows}
 use Rattle.lexer.specs.Kinds.{kIf}
 use Rattle.lexer.specs.Tokens.{Token}
 use Rattle.lexer.specs.contracts.Rows.{firstNamed}
-use Rattle.parser.specs.Tree.{Sort, Sort.expression, Sort.statement, Part, Expression, Statement, Class}
+use Rattle.parser.specs.Tree.{Operator, Sort, Sort.expression, Sort.statement, Part, Expression, Statement, Class}
 use Rattle.parser.specs.Tree.{Part.literal, Part.truth, Part.variable, Part.this, Part.newArray, Part.newObject, Part.negation, Part.binary}
 use Rattle.parser.specs.Tree.{Part.element, Part.arrayLength, Part.call, Part.portGet}
 use Rattle.parser.specs.Tree.{Part.block, Part.conditional, Part.loop, Part.print, Part.assign, Part.assignElement, Part.portPut}
 use Rattle.parser.specs.Measure.{nodes}
 use Rattle.parser.specs.contracts.Post.{kindInTable}
-use Rattle.reader.specs.contracts.WalkPost.{Walkable}
+use Rattle.reader.specs.contracts.Matches.{operatorKind}
+use Rattle.reader.specs.contracts.Spans.{Spans}
 use Rattle.typesystem.specs.ClassTable.{Context, meaning}
 use Rattle.typesystem.specs.Judge.{arity}
 use Rattle.lookup.specs.contracts.HeldClasses.{wordAt, NameNumber}
 use Rattle.lookup.specs.contracts.Shows.{PartAt, Form, aConditional, aLoop, formCompound, Shows, ShowsS}
-use Rattle.semantics.specs.Machine.{number, flag, isAnd}
-use Rattle.writer.specs.declared.scope.Scope.{Scope}
+use Rattle.semantics.specs.Machine.{numeralValue, flag, isAnd}
+use Rattle.bodies.specs.declared.scope.Scope.{Scope}
+use Rattle.bodies.specs.contracts.Scoping.{Judgeable, InScope, PartIn}
 use Rattle.codegen.specs.contracts.Code as Code
-use Rattle.codegen.specs.contracts.Code.{Instruction, push, load, save, self, negate, jump, unless, keep, fetch, measure}
+use Rattle.codegen.specs.contracts.Code.{Instruction, push, load, save, self, negate, scale, operate, jump, unless, keep, fetch, measure}
 use Rattle.codegen.specs.contracts.Code.{makeArray, makeObject, storeElement, readRegister, writeRegister}
-use Rattle.codegen.specs.contracts.Compile.{endBinary, emitBinary, end, emit, cellsOf}
+use Rattle.codegen.specs.contracts.Compile.{endBinary, operatorCode, emitBinary, end, emit, cellsOf}
 use Rattle.writer.specs.contracts.Words.{words, encode, putAt}
 use Rattle.writer.specs.contracts.Sizing.{namesLeast}
 use Rattle.writer.specs.contracts.Scoping.{Sees}
@@ -37,8 +40,8 @@ abbrev pub room : ℕ
 room = 8192
 
 -- what the functions on parts ask for
-pub record Writable (tab names : List ℕ) (n left row at : ℕ) : Type 0 where
-  pub walkable : Walkable tab n
+pub record Writable (tab names : List ℕ) (s : Scope) (left row at : ℕ) : Type 0 where
+  pub judgeable : Judgeable tab names s
   pub names-long : namesLeast ≤ length names
   pub few : left ≤ rows
   pub low : row < modulus
@@ -63,14 +66,14 @@ pub record Wrote (ν : List ℕ → ℕ) (f : List Instruction → List Instruct
 
 module _ (G : List Class) (Γ : Context) where
   abbrev pub innerE : Expression → ℕ → List Instruction → List Instruction
-  innerE (literal p n) i k = push (number n) ∷ k
+  innerE (literal p n) i k = push (numeralValue n) ∷ k
   innerE (truth p b) i k = push (flag b) ∷ k
   innerE (variable p x) i k = load (meaning G Γ x) ∷ k
   innerE (this p) i k = self ∷ k
   innerE (newArray p u e) i k = emit G Γ e i (makeArray p (u .element) ∷ k)
   innerE (newObject p c) i k = makeObject p (c .text) (cellsOf G (c .text)) ∷ k
   innerE (negation p e) i k = emit G Γ e i (negate ∷ k)
-  innerE (binary p o l r) i k = emit G Γ l i (emitBinary (isAnd o) o (end l i) (end r) (emit G Γ r) k)
+  innerE (binary p o l r) i k = emit G Γ l i (emitBinary (isAnd o) (operatorCode G Γ o l) (end l i) (end r) (emit G Γ r) k)
   innerE (element p a e) i k = emit G Γ a i (emit G Γ e (end a i) (fetch p ∷ k))
   innerE (arrayLength p a) i k = emit G Γ a i (measure p ∷ k)
   innerE (call p e m es) i k = emit G Γ e i (emit G Γ es (end e i) (Code.call p (m .text) (arity es) ∷ k))
@@ -115,9 +118,20 @@ endS (portPut p n e) i = suc (end e (end n i))
 
 -- PARTS AND FORMS
 
--- a part of at most so many nodes
-abbrev pub AtMost : ℕ → (s : Sort) → Part s → Type 0
-AtMost left s t = nodes t ≤ left
+-- a part of at most so many nodes, which lies among n tokens
+pub record Bounded (n left : ℕ) (q : Sort) (t : Part q) : Type 0 where
+  pub few : nodes t ≤ left
+  pub spans : Spans 0 n t
+
+-- the instruction of an operator other than `&&`, by whether it is the `*` of thousandths
+abbrev pub chosen : (thousandths : Bool) → Operator → Instruction
+chosen true o = scale
+chosen false o = operate o
+
+-- which it is of an operator of this kind, whose left operand lies in a row
+pub record ScalesPost (tab : List ℕ) (s : Scope) (kind row : ℕ) (r : Bool) : Type 0 where
+  pub says : (ts : List Token) (G : List Class) (Γ : Context) → InScope tab ts G Γ s → (o : Operator) → kind ≡ operatorKind o
+      → (l : Expression) → PartIn tab ts row 0 (s .tokens) l → operatorCode G Γ o l ≡ chosen r o
 
 -- of a statement that has a test, by the kind of its first token
 unfoldable pub formTested : ℕ → Form
@@ -135,12 +149,13 @@ module _ (tab names : List ℕ) (s : Scope) where
   -- a part
   pub record WritePost (q : Sort) (left row at : ℕ) (c c′ : List ℕ) (r : ℕ) : Type 0 where
     pub within : r ≤ room
-    pub says : Whatever λ ts G Γ. (t : Part q) → PartAt tab ts row (AtMost left q) t → Written ts (emit G Γ t at) (end t at) at c c′ r
+    pub says : Whatever λ ts G Γ. (t : Part q) → PartAt tab ts row (Bounded (s .tokens) left q) t
+        → Written ts (emit G Γ t at) (end t at) at c c′ r
 
   -- an expression, a statement, whose row shows this form
   abbrev pub Says : (F : Form) (left row at : ℕ) (c c′ : List ℕ) (r : ℕ) → Type 0
   Says F left row at c c′ r =
-      Whatever λ ts G Γ. (e : Expression) → Shows tab ts (s .tokens) row (AtMost left) (AtMost left) F e
+      Whatever λ ts G Γ. (e : Expression) → Shows tab ts (s .tokens) row (Bounded (s .tokens) left) (Bounded (s .tokens) left) F e
       → Written ts (innerE G Γ e at) (endE e at) at c c′ r
 
   pub record ExpressionPost (F : Form) (left row at : ℕ) (c c′ : List ℕ) (r : ℕ) : Type 0 where
@@ -154,7 +169,7 @@ module _ (tab names : List ℕ) (s : Scope) where
 
   abbrev pub SaysS : (F : Form) (left row at : ℕ) (c c′ : List ℕ) (r : ℕ) → Type 0
   SaysS F left row at c c′ r =
-      Whatever λ ts G Γ. (t : Statement) → ShowsS tab ts row (AtMost left) F t
+      Whatever λ ts G Γ. (t : Statement) → ShowsS tab ts row (Bounded (s .tokens) left) F t
       → Written ts (innerS G Γ t at) (endS t at) at c c′ r
 
   pub record StatementPost (F : Form) (left row at : ℕ) (c c′ : List ℕ) (r : ℕ) : Type 0 where
@@ -171,26 +186,27 @@ module _ (tab names : List ℕ) (s : Scope) where
   pub record FollowedPost (op arg left row at : ℕ) (c c′ : List ℕ) (r : ℕ) : Type 0 where
     pub within : r ≤ room
     pub says : Whatever λ ts G Γ. (x : Instruction) → words op arg 0 0 ≡ encode (firstNamed ts) x → (e : Expression)
-        → PartAt tab ts row (AtMost left expression) e → Written ts (λ k. emit G Γ e at (x ∷ k)) (suc (end e at)) at c c′ r
+        → PartAt tab ts row (Bounded (s .tokens) left expression) e → Written ts (λ k. emit G Γ e at (x ∷ k)) (suc (end e at)) at c c′ r
 
   pub record PairPost (op arg left row at : ℕ) (c c′ : List ℕ) (r : ℕ) : Type 0 where
     pub within : r ≤ room
     pub says : Whatever λ ts G Γ. (x : Instruction) → words op arg 0 0 ≡ encode (firstNamed ts) x → (a b : Expression)
-        → PartAt tab ts (wordAt tab 4 row) (AtMost left expression) a → PartAt tab ts (wordAt tab 5 row) (AtMost left expression) b
+        → PartAt tab ts (wordAt tab 4 row) (Bounded (s .tokens) left expression) a
+        → PartAt tab ts (wordAt tab 5 row) (Bounded (s .tokens) left expression) b
         → Written ts (λ k. emit G Γ a at (emit G Γ b (end a at) (x ∷ k))) (suc (end b (end a at))) at c c′ r
 
   -- the two parts of the node in a row, the second behind a jump over it
   pub record ConjunctionPost (left row at : ℕ) (c c′ : List ℕ) (r : ℕ) : Type 0 where
     pub within : r ≤ room
-    pub says : Whatever λ ts G Γ. (a b : Expression) → PartAt tab ts (wordAt tab 4 row) (AtMost left expression) a
-        → PartAt tab ts (wordAt tab 5 row) (AtMost left expression) b
+    pub says : Whatever λ ts G Γ. (a b : Expression) → PartAt tab ts (wordAt tab 4 row) (Bounded (s .tokens) left expression) a
+        → PartAt tab ts (wordAt tab 5 row) (Bounded (s .tokens) left expression) b
         → Written ts (λ k. emit G Γ a at (keep (end b (suc (end a at))) ∷ emit G Γ b (suc (end a at)) k)) (end b (suc (end a at))) at c c′ r
 
   -- the test's jump, the first branch, and the second
   pub record BranchesPost (left row at : ℕ) (c c′ : List ℕ) (r : ℕ) : Type 0 where
     pub within : r ≤ room
-    pub says : Whatever λ ts G Γ. (y z : Statement) → PartAt tab ts (wordAt tab 5 row) (AtMost left statement) y
-        → PartAt tab ts (wordAt tab 7 row) (AtMost left statement) z
+    pub says : Whatever λ ts G Γ. (y z : Statement) → PartAt tab ts (wordAt tab 5 row) (Bounded (s .tokens) left statement) y
+        → PartAt tab ts (wordAt tab 7 row) (Bounded (s .tokens) left statement) z
         → Written ts
         (λ k. unless (suc (end y (suc at))) ∷ emit G Γ y (suc at)
         (jump (end z (suc (end y (suc at)))) ∷ emit G Γ z (suc (end y (suc at))) k))
@@ -199,11 +215,11 @@ module _ (tab names : List ℕ) (s : Scope) where
   -- the jump over the second branch, and the branch
   pub record OtherwisePost (left row at : ℕ) (c c′ : List ℕ) (r : ℕ) : Type 0 where
     pub within : r ≤ room
-    pub says : Whatever λ ts G Γ. (z : Statement) → PartAt tab ts (wordAt tab 7 row) (AtMost left statement) z
+    pub says : Whatever λ ts G Γ. (z : Statement) → PartAt tab ts (wordAt tab 7 row) (Bounded (s .tokens) left statement) z
         → Written ts (λ k. jump (end z (suc at)) ∷ emit G Γ z (suc at) k) (end z (suc at)) at c c′ r
 
   -- the test's jump, the body, and the jump back
   pub record BodyPost (left row top at : ℕ) (c c′ : List ℕ) (r : ℕ) : Type 0 where
     pub within : r ≤ room
-    pub says : Whatever λ ts G Γ. (y : Statement) → PartAt tab ts (wordAt tab 5 row) (AtMost left statement) y
+    pub says : Whatever λ ts G Γ. (y : Statement) → PartAt tab ts (wordAt tab 5 row) (Bounded (s .tokens) left statement) y
         → Written ts (λ k. unless (suc (end y (suc at))) ∷ emit G Γ y (suc at) (jump top ∷ k)) (suc (end y (suc at))) at c c′ r

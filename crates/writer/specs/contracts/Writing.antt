@@ -2,16 +2,15 @@
 use Prim.Native.Nat.{ℕ, suc, _≤_}
 use mathlib.Core.Path.{_≡_}
 use mathlib.Core.List.{List, _∷_}
-use mathlib.Core.Option.{none}
 use lib.ListN.{length}
 use Rattle.lexer.specs.Tokens.{Token}
 use Rattle.lexer.specs.contracts.Rows.{firstNamed}
 use Rattle.parser.specs.Tree.{Class, Program}
-use Rattle.parser.specs.contracts.Layout.{rowClasses}
+use Rattle.parser.specs.contracts.Layout.{absent, rowClasses}
 use Rattle.parser.specs.Grammar.{DerivesProgram}
 use Rattle.typesystem.specs.ClassTable.{mainContext}
 use Rattle.lookup.specs.contracts.HeldClasses.{ClassTableHeld}
-use Rattle.lookup.specs.contracts.Fields.{FieldsOf}
+use Rattle.lookup.specs.contracts.Fields.{FieldsHeld}
 use Rattle.declarations.specs.contracts.Indexing.{Ready}
 use Rattle.codegen.specs.contracts.Code.{halt}
 use Rattle.codegen.specs.contracts.Compile.{end, emit, compile}
@@ -22,13 +21,13 @@ use Rattle.writer.specs.contracts.Classes.{enteredClasses}
 
 -- what main sees, where the classes begin in this row
 pub record BeginPost (tab : List ℕ) (n classes first : ℕ) (names : List ℕ) : Type 0 where
-  pub fields : (ts : List Token) (G : List Class) → ClassTableHeld tab n ts G → length G ≡ classes → FieldsOf ts G (length G) none names
+  pub fields : FieldsHeld tab n classes absent names
   pub sizes : (ts : List Token) (G : List Class) → ClassTableHeld tab n ts G → length G ≡ classes → rowClasses G ≡ first
       → SizesHeld ts G names
 
-pub record MainPost (tab names : List ℕ) (n : ℕ) (c c′ : List ℕ) (r : ℕ) : Type 0 where
+pub record MainPost (tab names : List ℕ) (n classes : ℕ) (c c′ : List ℕ) (r : ℕ) : Type 0 where
   pub within : r ≤ room
-  pub says : (ts : List Token) (p : Program) → Ready tab n ts p → FieldsOf ts (p .classes) (length (p .classes)) none names
+  pub says : (ts : List Token) (p : Program) → Ready tab n ts p → length (p .classes) ≡ classes
       → SizesHeld ts (p .classes) names → suc (end (p .statement) 0) ≤ room
       → Wrote (firstNamed ts) (λ k. emit (p .classes) mainContext (p .statement) 0 (halt ∷ k)) (suc (end (p .statement) 0)) 0 c c′ r
 

@@ -22,6 +22,7 @@ use Rattle.bodies.proofs.expr.operand.Reads as operand-reads
 use Rattle.bodies.proofs.stmt.assignment.Reads as assignment-reads
 use Rattle.bodies.proofs.stmt.element_store.Reads as element-store-reads
 use Rattle.bodies.proofs.stmt.index_and_value.Reads as index-and-value-reads
+use Rattle.bodies.proofs.stmt.printed.Reads as printed-reads
 use Rattle.lookup.proofs.rows.word.Reads as word-reads
 use Rattle.parser.proofs.table.kind.Reads as kind-reads
 use Rattle.bodies.proofs.stmt.+branches+conditional+list+repeated+single.{statement}
@@ -75,10 +76,10 @@ pub +branches+conditional+list+repeated+single-spec : {M : Type 1} → statement
     (λ c κs. search needs) (λ c. search needs) (λ c κs. search needs) (λ c. search needs) (λ c κs. search needs) (λ c. search needs)
     (λ c. search loop-body) (λ c. search loop-refused))
     (λ t. single-lts.spec
-    (kind-reads.Asked, kind-reads.Learnt, word-reads.Asked, word-reads.Learnt, list-below t, list.Post, and 2 conditional-kinds.ps (falls 2 conditional-kinds.ps _<_ μ-conditional t) conditional.Pre, conditional.Post, and 2 repeated-kinds.ps (falls 2 repeated-kinds.ps _<_ μ-repeated t) repeated.Pre, repeated.Post, operand-reads.Asked, operand-reads.Learnt, index-and-value-reads.Asked, index-and-value-reads.Learnt, element-store-reads.Asked, element-store-reads.Learnt, assignment-reads.Asked, assignment-reads.Learnt)
+    (kind-reads.Asked, kind-reads.Learnt, word-reads.Asked, word-reads.Learnt, list-below t, list.Post, and 2 conditional-kinds.ps (falls 2 conditional-kinds.ps _<_ μ-conditional t) conditional.Pre, conditional.Post, and 2 repeated-kinds.ps (falls 2 repeated-kinds.ps _<_ μ-repeated t) repeated.Pre, repeated.Post, printed-reads.Asked, printed-reads.Learnt, index-and-value-reads.Asked, index-and-value-reads.Learnt, element-store-reads.Asked, element-store-reads.Learnt, assignment-reads.Asked, assignment-reads.Learnt)
     (and 2 single-kinds.ps (is 2 single-kinds.ps μ-single t) single.Pre) single.Post (λ c. search statement-before)
     (λ c. search statement-behind) (λ c κs. search needs) (λ c κs. search needs) (λ c. search needs) (λ c κs. search needs)
     (λ c. search statement-block) (λ c κs. search needs) (λ c. search statement-if) (λ c κs. search needs) (λ c. search statement-while)
-    (λ c κs. search needs) (λ c. search needs) (λ c κs. search needs) (λ c. search statement-print) (λ c κs. search needs)
-    (λ c. search statement-put) (λ c. search needs) (λ c κs. search needs) (λ c κs. search needs) (λ c. search statement-element)
-    (λ c κs. search needs) (λ c. search statement-assignment))
+    (λ c κs. search needs) (λ c. search statement-print) (λ c κs. search needs) (λ c. search statement-put) (λ c. search needs)
+    (λ c κs. search needs) (λ c κs. search needs) (λ c. search statement-element) (λ c κs. search needs)
+    (λ c. search statement-assignment))

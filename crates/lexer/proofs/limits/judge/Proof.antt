@@ -2,7 +2,7 @@
 use borrow.Author.Needs.{needs}
 use mathlib.Core.Path.{_≡_, sym, ap, _∙_}
 use Rattle.lexer.specs.contracts.Verdicts.{verdictOf}
-use Rattle.lexer.proofs.Verdicts.{verdict-many, verdict-long, verdict-name, verdict-zero, verdict-literal, verdict-plain, onLiteral}
+use Rattle.lexer.proofs.Verdicts.{verdict-many, verdict-long, verdict-name, verdict-zero, verdict-literal, verdict-fixed, verdict-plain, onLiteral}
 use Rattle.lexer.proofs.limits.judge.Statement.{statement}
 use Rattle.lexer.proofs.limits.judge.Tie as tie
 
@@ -60,12 +60,22 @@ returns-6 c = ap onLiteral (sym (c .enum-told .given .1)) ∙ literal (c .before
 
 returns-7 : tie.Need-returns-7
 returns-7 c =
-    let n = c .before .before in
+    let f = c .before in
+    let n = f .before .before .before in
     let g = n .before .before .before in
     let a = g .args in
-    verdict-plain (a .count) (a .kind) (a .text .now) (n .before .if1 .left) (n .is-name .ensures) (c .before .if2 .left) (c .if4 .left)
+    verdict-fixed (a .count) (a .kind) (a .text .now) (n .before .if1 .left) (n .is-name .ensures)
+    (f .before .before .if2 .left) (f .if6 .taken) (c .judge-fixed .ensures)
+
+returns-8 : tie.Need-returns-8
+returns-8 c =
+    let n = c .before .before .before in
+    let g = n .before .before .before in
+    let a = g .args in
+    verdict-plain (a .count) (a .kind) (a .text .now) (n .before .if1 .left) (n .is-name .ensures)
+    (c .before .before .if2 .left) (c .before .if4 .left) (c .if6 .left)
 
 pub judge-spec : {M : Type 1} → statement M
 judge-spec =
     tie.close (tie.spec returns (λ c κs. search needs) returns-2 returns-3 (λ c κs. search needs) returns-4 (λ c κs. search needs) (λ c. c .match .keys1) enum-told
-    returns-5 returns-6 returns-7)
+    returns-5 returns-6 (λ c κs. search needs) returns-7 returns-8)

@@ -9,10 +9,10 @@ use Rattle.lexer.proofs.limits.value_of.Statement.{statement}
 use Rattle.lexer.proofs.limits.value_of.Tie as tie
 
 abbrev Inv-loop : tie.InvT-loop
-Inv-loop text high₀ i₀ high i = Summed text high i
+Inv-loop before text high₀ i₀ high i = Summed before text high i
 
 abbrev μ-loop : tie.MeasureT-loop
-μ-loop text high₀ i₀ high i = length text - i
+μ-loop before text high₀ i₀ high i = length text - i
 
 add-high : tie.Need-add-high Inv-loop μ-loop
 add-high c = omega (arith, c .before .shared-slice-known2 .given (c .before .before .before .loop .i))

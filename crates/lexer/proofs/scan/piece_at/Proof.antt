@@ -4,9 +4,8 @@ use Prim.Native.Nat.{ℕ, _≤_, _<_}
 use mathlib.Core.Path.{refl, sym, ap, _∙_, subst}
 use Rattle.lexer.specs.ByteKinds.{bDigit}
 use Rattle.lexer.specs.contracts.Scan.{pieceOf}
-use Rattle.lexer.specs.declared.scan.Piece.the-variants.{Token}
 use Rattle.lexer.proofs.ByteKinds.{kind-mark}
-use Rattle.lexer.proofs.Items.{at-blank, at-digit, at-other}
+use Rattle.lexer.proofs.Items.{at-blank, at-other}
 use Rattle.lexer.proofs.scan.piece_at.Statement.{statement}
 use Rattle.lexer.proofs.scan.piece_at.Tie as tie
 
@@ -37,13 +36,11 @@ word-requires c κs =
     let g = k .before .before .before in
     (g .pre .0, record { inside = g .pre .1; kind = sym (k .kind-of .ensures) ∙ c .if4 .taken })
 
-returns-5 : tie.Need-returns-5
-returns-5 c =
-    let k = c .before .before .before .before in
+number-requires : tie.Need-number-requires
+number-requires c κs =
+    let k = c .before .before .before in
     let g = k .before .before .before in
-    let i = g .args .at in
-    ap (Token 4) (c .run-end .ensures)
-    ∙ sym (ap (pieceOf i) (at-digit (g .args .source .now) i (g .pre .1) (sym (k .kind-of .ensures) ∙ c .before .if5 .taken)))
+    (g .pre .0, record { inside = g .pre .1; kind = sym (k .kind-of .ensures) ∙ c .if5 .taken })
 
 mark-requires : tie.Need-mark-requires
 mark-requires c κs =
@@ -60,4 +57,4 @@ mark-requires c κs =
 pub piece-at-spec : {M : Type 1} → statement M
 piece-at-spec =
     tie.close (tie.spec (λ c. search needs) (λ c κs. search needs) (λ c. search needs) returns (λ c κs. search needs) (λ c. search needs)
-    returns-3 word-requires (λ c. search needs) (λ c κs. search needs) returns-5 mark-requires (λ c. search needs))
+    returns-3 word-requires (λ c. search needs) number-requires (λ c. search needs) mark-requires (λ c. search needs))

@@ -42,13 +42,14 @@ use Rattle.writer.proofs.code.put.Reads as put-reads
 use Rattle.writer.proofs.expr.atom.Reads as atom-reads
 use Rattle.writer.proofs.expr.creation.Reads as creation-reads
 use Rattle.writer.proofs.expr.mark.Reads as mark-reads
+use Rattle.writer.proofs.expr.scales.Reads as scales-reads
 use Rattle.writer.proofs.expr.+arguments+binary+call+compound+conjunction+expression+followed+located+located_pair+pair.{statement}
 use Rattle.writer.proofs.expr.+arguments+binary+call+compound+conjunction+expression+followed+located+located_pair+pair.Tie.{close}
 use Rattle.writer.proofs.ExpressionLaws.{expression-none, expression-atom, expression-compound, compound-array, compound-object}
 use Rattle.writer.proofs.ExpressionLaws.{compound-length, compound-call, compound-not, compound-get, compound-element}
 use Rattle.writer.proofs.ExpressionLaws.{compound-binary}
-use Rattle.writer.proofs.ExpressionLaws.{binary-and, binary-operation, followed-wrote, located-wrote, pair-wrote, conjunction-wrote}
-use Rattle.writer.proofs.ExpressionLaws.{located-pair-wrote}
+use Rattle.writer.proofs.ExpressionLaws.{binary-and, binary-scale, binary-operation, followed-wrote, located-wrote, pair-wrote}
+use Rattle.writer.proofs.ExpressionLaws.{conjunction-wrote, located-pair-wrote}
 use Rattle.writer.proofs.ExpressionLaws.{call-wrote}
 use Rattle.writer.proofs.ListLaws.{of-arguments, list-none, list-end, list-more}
 use borrow.Author.Needs.{needs}
@@ -162,13 +163,13 @@ pub +arguments+binary+call+compound+conjunction+expression+followed+located+loca
     close μ-arguments μ-binary μ-call μ-compound μ-conjunction μ-expression μ-followed μ-located μ-located-pair μ-pair
     (λ t. arguments-lts.spec (expression-below t, expression.Post, word-reads.Asked, word-reads.Learnt, arguments-below t, arguments.Post)
     (and 3 arguments-kinds.ps (is 3 arguments-kinds.ps μ-arguments t) arguments.Pre) arguments.Post (λ c. search (list-none of-arguments))
-    (λ c. search (list-end of-arguments)) (λ c κs. search needs) (λ c κs. search needs) (λ c. search needs) (λ c κs. search needs)
-    (λ c. search needs) (λ c. search (list-more of-arguments)))
+    (λ c. search (list-end of-arguments)) (λ c κs. search needs) (λ c κs. search needs) (λ c. search needs)
+    (λ c κs. (search needs, search needs)) (λ c. search needs) (λ c. search (list-more of-arguments)))
     (λ t. binary-lts.spec
-    (kind-reads.Asked, kind-reads.Learnt, and 3 conjunction-kinds.ps (falls 3 conjunction-kinds.ps _<_ μ-conjunction t) conjunction.Pre, conjunction.Post, pair-below t, pair.Post)
+    (kind-reads.Asked, kind-reads.Learnt, and 3 conjunction-kinds.ps (falls 3 conjunction-kinds.ps _<_ μ-conjunction t) conjunction.Pre, conjunction.Post, word-reads.Asked, word-reads.Learnt, scales-reads.Asked, scales-reads.Learnt, pair-below t, pair.Post)
     (and 3 binary-kinds.ps (is 3 binary-kinds.ps μ-binary t) binary.Pre) binary.Post (λ c κs. search needs) (λ c κs. search needs)
-    (λ c. search needs) (λ c. search binary-and) (λ c. search needs) (λ c κs. search needs) (λ c. search needs)
-    (λ c. search binary-operation))
+    (λ c. search needs) (λ c. search binary-and) (λ c κs. search needs) (λ c κs. search needs) (λ c κs. search needs) (λ c. search needs)
+    (λ c. search binary-scale) (λ c. search needs) (λ c κs. search needs) (λ c. search needs) (λ c. search binary-operation))
     (λ t. call-lts.spec (call-calls t) (call-at t) call.Post (λ c κs. search needs) (λ c κs. search needs) (λ c κs. search needs)
     (λ c κs. search needs) (λ c κs. search needs) (λ c. search needs) (λ c κs. search needs) (λ c κs. search needs) (λ c κs. search needs)
     (λ c. search needs) (call-returns t))
@@ -188,7 +189,8 @@ pub +arguments+binary+call+compound+conjunction+expression+followed+located+loca
     (kind-reads.Asked, kind-reads.Learnt, mark-reads.Asked, mark-reads.Learnt, is-atom-reads.Asked, is-atom-reads.Learnt, atom-reads.Asked, atom-reads.Learnt, and 3 compound-kinds.ps (falls 3 compound-kinds.ps _<_ μ-compound t) compound.Pre, compound.Post)
     (and 3 expression-kinds.ps (is 3 expression-kinds.ps μ-expression t) expression.Pre) expression.Post (λ c. search expression-none)
     (λ c κs. search needs) (λ c κs. search needs) (λ c κs. search needs) (λ c. search needs) (λ c κs. search needs) (λ c. search needs)
-    (λ c. search expression-atom) (λ c. search needs) (λ c κs. search needs) (λ c. search needs) (λ c. search expression-compound))
+    (λ c. search expression-atom) (λ c. search needs) (λ c κs. (search needs, search needs)) (λ c. search needs)
+    (λ c. search expression-compound))
     (λ t. followed-lts.spec (expression-below t, expression.Post, put-reads.Asked, put-reads.Learnt)
     (and 3 followed-kinds.ps (is 3 followed-kinds.ps μ-followed t) followed.Pre) followed.Post (λ c κs. search needs)
     (λ c κs. search needs) (λ c. search needs) (λ c. search followed-wrote))

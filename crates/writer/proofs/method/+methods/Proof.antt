@@ -14,7 +14,7 @@ use Rattle.writer.proofs.method.+methods.Tie.{close}
 use borrow.Author.Needs.{needs}
 
 abbrev μ-methods : Measures 4 methods-kinds.ps ℕ
-μ-methods κs a = a .1 .1 .1 .1 .1 .0
+μ-methods κs a = a .1 .1 .1 .1 .1 .1 .1 .0
 
 abbrev methods-at : ℕ → In 4 methods-kinds.ps
 methods-at t = and 4 methods-kinds.ps (is 4 methods-kinds.ps μ-methods t) methods.Pre
@@ -46,5 +46,5 @@ pub +methods-spec : {M : Type 1} → statement M
 +methods-spec =
     close μ-methods
     (λ t. methods-lts.spec (methods-calls t) (methods-at t) methods.Post (λ c. search methods-none) (λ c. search methods-end)
-    (λ c κs. search needs) (λ c κs. search needs) (λ c κs. search needs) (λ c. search needs) (λ c κs. search needs) (λ c. search needs)
-    (λ c. search needs) (methods-returns-3 t))
+    (λ c κs. search needs) (λ c κs. search needs) (λ c κs. search needs) (λ c. search needs) (λ c κs. (search needs, search needs))
+    (λ c. search needs) (λ c. search needs) (methods-returns-3 t))

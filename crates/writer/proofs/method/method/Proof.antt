@@ -4,6 +4,15 @@ use borrow.Author.Needs.{needs}
 use Rattle.writer.proofs.method.method.Statement.{statement}
 use Rattle.writer.proofs.method.method.Tie as tie
 
+-- what is asked for before the body is written, and before the value is
+list-requires : tie.Need-list-requires
+list-requires c κs =
+    record { judgeable = search needs; names-long = search needs; few = search needs; low = search needs; within = search needs }
+
+expression-requires : tie.Need-expression-requires
+expression-requires c κs =
+    record { judgeable = search needs; names-long = search needs; few = search needs; low = search needs; within = search needs }
+
 returns : tie.Need-returns
 returns c =
     let d = c .before .before .before .before .before .before in
@@ -14,5 +23,5 @@ returns c =
 
 pub method-spec : {M : Type 1} → statement M
 method-spec =
-    tie.close (tie.spec (λ c κs. search needs) (λ c κs. search needs) (λ c. search needs) (λ c κs. search needs) (λ c κs. search needs)
-    (λ c. search needs) (λ c κs. search needs) (λ c κs. search needs) (λ c κs. search needs) (λ c. search needs) returns)
+    tie.close (tie.spec (λ c κs. search needs) (λ c κs. search needs) (λ c. search needs) (λ c κs. search needs)
+    list-requires (λ c. search needs) (λ c κs. search needs) expression-requires (λ c κs. search needs) (λ c. search needs) returns)
