@@ -14,6 +14,7 @@ use Rattle.base.specs.Codes.{argumentCount, methodUnknown, nameUnknown, thisInM
 use Rattle.base.specs.Choice.{option}
 use Rattle.base.specs.Outcome.{Outcome, accepted, refused, _>>=_}
 use Rattle.base.specs.contracts.Table.{col}
+use Rattle.base.specs.laws.Tests.{apart}
 use Rattle.lexer.specs.Kinds.{isName}
 use Rattle.lexer.specs.Tokens.{Token}
 use Rattle.parser.specs.Tree.{Name, Sort.arguments, Part, Expression, placeE}
@@ -45,12 +46,12 @@ use Rattle.bodies.specs.declared.scope.Scope.{Scope}
 use Rattle.bodies.specs.contracts.Scoping.{InScope, PartIn, NameTyped}
 use Rattle.bodies.specs.contracts.OperatorPost.{OperationPost}
 use Rattle.bodies.specs.contracts.ExpressionPost.{Invoked, NamePost, ThisPost, NodeJudged, NodePost, AtomPost, CreationPost}
-use Rattle.bodies.specs.contracts.ExpressionPost.{DottedPost, ExpressionPost, OperandPost, SinglePost, ArrayPost, NewArrayPost}
+use Rattle.bodies.specs.contracts.ExpressionPost.{DottedPost, ExpressionPost, OperandPost, TypedPost, typed-fine, typed-refused, ArrayPost, NewArrayPost}
 use Rattle.bodies.specs.contracts.ExpressionPost.{LengthPost, InvocationPost, ArgumentsPost}
 use Rattle.bodies.specs.contracts.ExpressionPost.{ObjectPost, SameCount}
 use Rattle.bodies.proofs.PartLaws.{judges-fine, judges-refused, judged-fine, judged-refused, goes, halts, plain-code, array-code}
 use Rattle.bodies.proofs.PartLaws.{array-fine, array-refused, few-tokens}
-use Rattle.bodies.proofs.PartLaws.{one-more, lies, seen-in, start-of}
+use Rattle.bodies.proofs.PartLaws.{one-more, seen-in, start-of}
 
 -- a form by another name
 formed : {tab : List ℕ} {s : Scope} {F H : Form} {first end row : ℕ} {r : Judged} → F ≡ H → NodePost tab s F first end row r
@@ -235,16 +236,22 @@ module _ {tab : List ℕ} {left a p : ℕ} where
 
 module _ {tab : List ℕ} {s : Scope} {first end row : ℕ} where
   pub expression-before : row < first → {n p : ℕ} → ExpressionPost tab s first end row (Refused n p)
-  expression-before low = record { says = λ ts G Γ i e h. absurd (omega (arith, inside e (h .within) .low, h .at)) }
+  expression-before low =
+      record { among = λ is. apart (cc); says = λ ts G Γ i e h. absurd (omega (arith, inside e (h .within) .low, h .at)) }
 
   pub expression-behind : end ≤ row → {n p : ℕ} → ExpressionPost tab s first end row (Refused n p)
-  expression-behind high = record { says = λ ts G Γ i e h. absurd (omega (arith, inside e (h .within) .high, h .at)) }
+  expression-behind high =
+      record { among = λ is. apart (cc); says = λ ts G Γ i e h. absurd (omega (arith, inside e (h .within) .high, h .at)) }
 
-  module _ {k : ℕ} (kind : k ≡ kindInTable tab (s .tokens) row) {r : Judged} where
+  module _ (low : first ≤ row) (high : row < end) {k : ℕ} (kind : k ≡ kindInTable tab (s .tokens) row) {r : Judged} where
     -- the kinds tell the form
     told : {F : Form} → formE k (kindInTable tab (s .tokens) (row + 1)) (kindInTable tab (s .tokens) (row + 2)) ≡ F
         → NodeJudged tab s F first end row r → ExpressionPost tab s first end row r
-    told f g = record { says = λ ts G Γ i e h. g ts G Γ i e (seen-in i first end (by kind ∙ f) e h) }
+    told f g =
+        record {
+          among = λ is. record { low = low; high = high };
+          says = λ ts G Γ i e h. g ts G Γ i e (seen-in i first end (by kind ∙ f) e h);
+        }
       where
         by : k ≡ kindInTable tab (s .tokens) row
             → formAt tab (s .tokens) row ≡ formE k (kindInTable tab (s .tokens) (row + 1)) (kindInTable tab (s .tokens) (row + 2))
@@ -278,23 +285,34 @@ module _ {tab : List ℕ} {s : Scope} {first end row : ℕ} where
     expression-binary ea other n₁ n₂ n₃ n₄ n₅ f =
         told (rw (sym ea ∙ other, ne-eqb k 14 n₁, ne-eqb k 31 n₂, ne-eqb k 29 n₃, ne-eqb k 40 n₄, ne-eqb k 36 n₅)) (f .says)
 
+-- a last part that must fit, of a node with a type of its own
+module _ {tab : List ℕ} {s : Scope} {first end row want answer : ℕ} {v : Judged} (f : OperandPost tab s first end row want v) where
+  last : {r : Judged} → TypedPost answer v r → (ts : List Token) (G : List Class) (Γ : Context) → InScope tab ts G Γ s → (e : Expression)
+      → PartIn tab ts row first end e → (t u : Ty) → Codes ts t want → Codes ts u answer
+      → Judges ts (judge G Γ e >>= λ v. must G e t v >>= λ _. accepted u) r
+  last (typed-fine is) ts G Γ i e h t u c d =
+      judged-fine (goes (judge G Γ e) (must G e t) (accepted u) (f .says ts G Γ i e h t c) is) d
+  last (typed-refused is) ts G Γ i e h t u c d =
+      judged-refused (halts (judge G Γ e) (must G e t) (accepted u) (f .says ts G Γ i e h t c) is)
+
 -- the kinds of a node with one part, which is of its own type, and the number of that type
 pub data Unary : (kind want : ℕ) → Type 0 where
   of-not : Unary 29 2049
   of-get : Unary 40 2048
 
-pub expression-unary : {k′ want : ℕ} → Unary k′ want → {tab : List ℕ} {s : Scope} {first end row k : ℕ}
-    → k ≡ kindInTable tab (s .tokens) row → k ≡ k′ → {part : ℕ} → part ≡ wordAt tab 4 row → {r : Judged}
-    → SinglePost tab s (row + 1) end part want want r → ExpressionPost tab s first end row r
+pub expression-unary : {k′ want : ℕ} → Unary k′ want → {tab : List ℕ} {s : Scope} {first end row k : ℕ} → first ≤ row → row < end
+    → k ≡ kindInTable tab (s .tokens) row → k ≡ k′ → {part : ℕ} → part ≡ wordAt tab 4 row → {after end′ : ℕ} → after ≡ row + 1 → end′ ≡ end
+    → {v r : Judged} → OperandPost tab s after end′ part want v → TypedPost want v r → ExpressionPost tab s first end row r
 unfolding formE formCompound isAtom isName judge
-expression-unary {k′} u {tab} {s} {first} {end} {row} kind is {part} e₄ {r} f = alone kind k′ is (go u f)
+expression-unary {k′} u {tab} {s} {first} {end} {row} from below kind is {part} e₄ {after} {end′} low high {v} {r} f g =
+    alone from below kind k′ is (go u f g)
   where
-    go : {k′ want : ℕ} → Unary k′ want → SinglePost tab s (row + 1) end part want want r
+    go : {k′ want : ℕ} → Unary k′ want → OperandPost tab s after end′ part want v → TypedPost want v r
         → NodeJudged tab s (formE k′ (kindInTable tab (s .tokens) (row + 1)) (kindInTable tab (s .tokens) (row + 2))) first end row r
-    go of-not g ts G Γ i t (shows-negation {e = e} st x) =
-        g .says ts G Γ i e (rw e₄ x) (plain boolean) (plain boolean) (code-plain (code-boolean refl)) (code-plain (code-boolean refl))
-    go of-get g ts G Γ i t (shows-port-get {e = e} st x) =
-        g .says ts G Γ i e (rw e₄ x) (plain int) (plain int) (code-plain (code-int refl)) (code-plain (code-int refl))
+    go of-not f g ts G Γ i t (shows-negation {e = e} st x) =
+        last f g ts G Γ i e (rw (e₄, low, high) x) (plain boolean) (plain boolean) (code-plain (code-boolean refl)) (code-plain (code-boolean refl))
+    go of-get f g ts G Γ i t (shows-port-get {e = e} st x) =
+        last f g ts G Γ i e (rw (e₄, low, high) x) (plain int) (plain int) (code-plain (code-int refl)) (code-plain (code-int refl))
 
 -- PARTS THAT MUST FIT
 
@@ -303,6 +321,7 @@ module _ {tab : List ℕ} {s : Scope} {first end row want : ℕ} {v : Judged} (f
     pub operand-fits : b ≡ true → OperandPost tab s first end row want (Fine 0)
     operand-fits yes′ =
         record {
+          among = λ _. f .among is;
           says = λ ts G Γ i e h u c.
               let w = judges-fine (f .says ts G Γ i e h) is in
               rw (w .1, sym (g .says ts G (i .world) (i .many) (w .0) u (w .2) c) ∙ yes′);
@@ -311,22 +330,23 @@ module _ {tab : List ℕ} {s : Scope} {first end row want : ℕ} {v : Judged} (f
     pub operand-wrong : b ≡ false → {at₃ : ℕ} → at₃ ≡ wordAt tab 3 row → OperandPost tab s first end row want (Refused wrongType at₃)
     operand-wrong no′ e₃ =
         record {
+          among = λ z. apart (cc);
           says = λ ts G Γ i e h u c.
               let w = judges-fine (f .says ts G Γ i e h) is in
               rw (w .1, sym (g .says ts G (i .world) (i .many) (w .0) u (w .2) c) ∙ no′, e₃, start-of i first end h);
         }
 
   pub operand-refused : {n p : ℕ} → v ≡ Refused n p → OperandPost tab s first end row want (Refused n p)
-  operand-refused is = record { says = λ ts G Γ i e h u c. rw (judges-refused (f .says ts G Γ i e h) is) }
+  operand-refused is = record { among = λ z. apart (cc); says = λ ts G Γ i e h u c. rw (judges-refused (f .says ts G Γ i e h) is) }
 
-module _ {tab : List ℕ} {s : Scope} {first end row want answer : ℕ} {v : Judged} (f : OperandPost tab s first end row want v) where
-  pub single-fine : {w : ℕ} → v ≡ Fine w → SinglePost tab s first end row want answer (Fine answer)
-  single-fine is =
-      record { says = λ ts G Γ i e h t u c d. judged-fine (goes (judge G Γ e) (must G e t) (accepted u) (f .says ts G Γ i e h t c) is) d }
+-- an expression that fits lies in the range
+module _ {tab : List ℕ} {s : Scope} {first end row want : ℕ} {v : Judged} (f : OperandPost tab s first end row want v) {w : ℕ}
+    (is : v ≡ Fine w) where
+  pub operand-low : first ≤ row
+  operand-low = f .among is .low
 
-  pub single-refused : {n p : ℕ} → v ≡ Refused n p → SinglePost tab s first end row want answer (Refused n p)
-  single-refused is =
-      record { says = λ ts G Γ i e h t u c d. judged-refused (halts (judge G Γ e) (must G e t) (accepted u) (f .says ts G Γ i e h t c) is) }
+  pub operand-high : row < end
+  operand-high = f .among is .high
 
 -- ARRAYS
 
@@ -355,57 +375,61 @@ module _ {tab : List ℕ} {s : Scope} {first end row : ℕ} {v : Judged} (f : Ex
 
 -- `a[i]` and `a.length`
 
-module _ {tab : List ℕ} {s : Scope} {first row left : ℕ} (e₄ : left ≡ wordAt tab 4 row) {v : Judged}
-    (f : ArrayPost tab s first row left v) where
+module _ {tab : List ℕ} {s : Scope} {first row left first′ until : ℕ} (e₄ : left ≡ wordAt tab 4 row) (low : first′ ≡ first)
+    (high : until ≡ row) {v : Judged} (f : ArrayPost tab s first′ until left v) where
   pub element-first : {n p : ℕ} → v ≡ Refused n p → {end : ℕ} → NodePost tab s anElement first end row (Refused n p)
   unfolding judge
   element-first {n} {p} is {end} = record { says = go }
     where
       go : NodeJudged tab s anElement first end row (Refused n p)
       go ts G Γ i e (shows-element {a = a} {i = j} st x y) =
-          judged-refused (array-refused (placeE a .start) _ (judge G Γ a) (f .says ts G Γ i a (rw e₄ x)) is)
+          judged-refused (array-refused (placeE a .start) _ (judge G Γ a) (f .says ts G Γ i a (rw (e₄, low, high) x)) is)
 
-  pub element-second : {w : ℕ} → v ≡ Fine w → {right : ℕ} → right ≡ wordAt tab 5 row → {end : ℕ} {r : Judged}
-      → SinglePost tab s (row + 1) end right 2048 w r → NodePost tab s anElement first end row r
+  pub element-second : {w : ℕ} → v ≡ Fine w → {right : ℕ} → right ≡ wordAt tab 5 row → {end after end′ : ℕ} → after ≡ row + 1 → end′ ≡ end
+      → {u r : Judged} → OperandPost tab s after end′ right 2048 u → TypedPost w u r → NodePost tab s anElement first end row r
   unfolding judge
-  element-second is e₅ {end} {r} g = record { says = go }
+  element-second is e₅ {end} low′ high′ {r = r} g d = record { says = go }
     where
       go : NodeJudged tab s anElement first end row r
       go ts G Γ i e (shows-element {a = a} {i = j} st x y) =
           let w = array-fine (placeE a .start) (λ s. judge G Γ j >>= λ u. must G j (plain int) u >>= λ _. accepted (plain s)) (judge G Γ a)
-          (f .says ts G Γ i a (rw e₄ x)) is in
-          rw (w .1) (g .says ts G Γ i j (rw e₅ y) (plain int) (plain (w .0)) (code-plain (code-int refl)) (w .2))
+          (f .says ts G Γ i a (rw (e₄, low, high) x)) is in
+          rw (w .1) (last g d ts G Γ i j (rw (e₅, low′, high′) y) (plain int) (plain (w .0)) (code-plain (code-int refl)) (w .2))
 
-  pub length-refused : {n p : ℕ} → v ≡ Refused n p → LengthPost tab s first row (Refused n p)
+  length-refused : {n p : ℕ} → v ≡ Refused n p → LengthPost tab s first row (Refused n p)
   unfolding judge
   length-refused {n} {p} is = record { says = λ end. go end }
     where
       go : (end : ℕ) → NodeJudged tab s aLength first end row (Refused n p)
       go end ts G Γ i t (shows-length {e = e} st x) =
-          judged-refused (array-refused (placeE e .start) _ (judge G Γ e) (f .says ts G Γ i e (rw e₄ x)) is)
+          judged-refused (array-refused (placeE e .start) _ (judge G Γ e) (f .says ts G Γ i e (rw (e₄, low, high) x)) is)
 
-  pub length-right : {w : ℕ} → v ≡ Fine w → LengthPost tab s first row (Fine 2048)
+  length-fine : {w : ℕ} → v ≡ Fine w → LengthPost tab s first row (Fine 2048)
   unfolding judge
-  length-right is = record { says = λ end. go end }
+  length-fine is = record { says = λ end. go end }
     where
       go : (end : ℕ) → NodeJudged tab s aLength first end row (Fine 2048)
       go end ts G Γ i t (shows-length {e = e} st x) =
-          let w = array-fine (placeE e .start) (λ _. accepted (plain int)) (judge G Γ e) (f .says ts G Γ i e (rw e₄ x)) is in
+          let w = array-fine (placeE e .start) (λ _. accepted (plain int)) (judge G Γ e) (f .says ts G Γ i e (rw (e₄, low, high) x)) is in
           judged-fine (w .1) (code-plain (code-int refl))
+
+  pub length-typed : {r : Judged} → TypedPost 2048 v r → LengthPost tab s first row r
+  length-typed (typed-fine is) = length-fine is
+  length-typed (typed-refused is) = length-refused is
 
 -- `new T[e]`
 
 module _ {tab : List ℕ} {s : Scope} {end row t : ℕ} (type : TypeOf tab (s .tokens) (row + 1) t) {b : Bool} (f : Knows tab (s .tokens) t b) where
-  pub new-array-known : b ≡ true → {part : ℕ} → part ≡ wordAt tab 4 row → {r : Judged} → SinglePost tab s (row + 1) end part 2048 t r
-      → NewArrayPost tab s end row r
+  pub new-array-known : b ≡ true → {part : ℕ} → part ≡ wordAt tab 4 row → {after end′ : ℕ} → after ≡ row + 1 → end′ ≡ end → {v r : Judged}
+      → OperandPost tab s after end′ part 2048 v → TypedPost t v r → NewArrayPost tab s end row r
   unfolding judge
-  new-array-known is e₄ {r} g = record { says = λ first. go first }
+  new-array-known is e₄ low high {r = r} g d = record { says = λ first. go first }
     where
       go : (first : ℕ) → NodeJudged tab s aNewArray first end row r
       go first ts G Γ i e (shows-new-array {u = u} {e = x} st m q y) =
           let c = type .says ts (i .world .tokens) (row + 1) refl (arrayOf (u .element)) m in
           rw (sym (f .says ts G (i .world) (arrayOf (u .element)) c) ∙ is)
-          (g .says ts G Γ i x (rw e₄ y) (plain int) (arrayOf (u .element)) (code-plain (code-int refl)) c)
+          (last g d ts G Γ i x (rw (e₄, low, high) y) (plain int) (arrayOf (u .element)) (code-plain (code-int refl)) c)
 
   pub new-array-unknown : b ≡ false → {at₁ : ℕ} → at₁ ≡ wordAt tab 1 (row + 1) → NewArrayPost tab s end row (Refused typeUnknown at₁)
   unfolding judge
@@ -423,41 +447,40 @@ pub data LeftFirst : Form → Type 0 where
   of-call : LeftFirst aCall
 
 pub left-refused : {F : Form} → LeftFirst F → {tab : List ℕ} {s : Scope} {first end row left : ℕ} → left ≡ wordAt tab 4 row
-    → {v : Judged} → ExpressionPost tab s first row left v → {n p : ℕ} → v ≡ Refused n p → NodePost tab s F first end row (Refused n p)
+    → {first′ until : ℕ} → first′ ≡ first → until ≡ row → {v : Judged} → ExpressionPost tab s first′ until left v → {n p : ℕ} → v ≡ Refused n p → NodePost tab s F first end row (Refused n p)
 unfolding judge
-left-refused l {tab} {s} {first} {end} {row} e₄ f {n} {p} is = record { says = go l }
+left-refused l {tab} {s} {first} {end} {row} e₄ low high f {n} {p} is = record { says = go l }
   where
     go : {F : Form} → LeftFirst F → NodeJudged tab s F first end row (Refused n p)
-    go of-binary ts G Γ i e (shows-binary {l = l} st k x y) = judged-refused (rw (judges-refused (f .says ts G Γ i l (rw e₄ x)) is))
-    go of-call ts G Γ i t (shows-call {e = e} st sp q x y) = judged-refused (rw (judges-refused (f .says ts G Γ i e (rw e₄ x)) is))
+    go of-binary ts G Γ i e (shows-binary {l = l} st k x y) = judged-refused (rw (judges-refused (f .says ts G Γ i l (rw (e₄, low, high) x)) is))
+    go of-call ts G Γ i t (shows-call {e = e} st sp q x y) = judged-refused (rw (judges-refused (f .says ts G Γ i e (rw (e₄, low, high) x)) is))
 
 -- OPERATIONS
 
-module _ {tab : List ℕ} {s : Scope} {first end row left : ℕ} (e₄ : left ≡ wordAt tab 4 row) {v : Judged}
-    (f : ExpressionPost tab s first row left v) where
+module _ {tab : List ℕ} {s : Scope} {first end row left first′ until : ℕ} (e₄ : left ≡ wordAt tab 4 row) (low : first′ ≡ first)
+    (high : until ≡ row) {v : Judged} (f : ExpressionPost tab s first′ until left v) where
   module _ {t : ℕ} (is : v ≡ Fine t) {k : ℕ} (kind : k ≡ kindInTable tab (s .tokens) row) {answer : ℕ} (g : OperationPost k t answer) where
     pub binary-wrong : noType ≤ answer → {at₃ : ℕ} → at₃ ≡ wordAt tab 3 left → NodePost tab s aBinary first end row (Refused wrongType at₃)
     unfolding judge
-    binary-wrong high {at₃} e₃ = record { says = go }
+    binary-wrong none′ {at₃} e₃ = record { says = go }
       where
         go : NodeJudged tab s aBinary first end row (Refused wrongType at₃)
         go ts G Γ i e (shows-binary {o = o} {l = l} st is′ x y) =
-            let h : PartIn tab ts left first row l = rw e₄ x in
+            let h : PartIn tab ts left first′ until l = rw (e₄, low, high) x in
             let w = judges-fine (f .says ts G Γ i l h) is in
-            let z = typed-none (few-tokens i) high (g .says tab (s .tokens) ts (i .world .tokens) o (kind ∙ is′) (w .0) (w .2)) in
-            rw (w .1, z, e₃, start-of i first row h) ill
+            let z = typed-none (few-tokens i) none′ (g .says tab (s .tokens) ts (i .world .tokens) o (kind ∙ is′) (w .0) (w .2)) in
+            rw (w .1, z, e₃, start-of i first′ until h) ill
 
-    pub binary-right : answer < noType → {right : ℕ} → right ≡ wordAt tab 5 row → {r : Judged}
-        → SinglePost tab s (row + 1) end right t answer r
-        → NodePost tab s aBinary first end row r
+    pub binary-right : answer < noType → {right : ℕ} → right ≡ wordAt tab 5 row → {after end′ : ℕ} → after ≡ row + 1 → end′ ≡ end
+        → {u r : Judged} → OperandPost tab s after end′ right t u → TypedPost answer u r → NodePost tab s aBinary first end row r
     unfolding judge
-    binary-right low e₅ {r} h = record { says = go }
+    binary-right fine e₅ low′ high′ {r = r} h d = record { says = go }
       where
         go : NodeJudged tab s aBinary first end row r
         go ts G Γ i e (shows-binary {o = o} {l = l} {r = m} st is′ x y) =
-            let w = judges-fine (f .says ts G Γ i l (rw e₄ x)) is in
-            let u = typed-some low (g .says tab (s .tokens) ts (i .world .tokens) o (kind ∙ is′) (w .0) (w .2)) in
-            rw (w .1, u .1) (h .says ts G Γ i m (rw e₅ y) (w .0) (u .0) (w .2) (u .2))
+            let w = judges-fine (f .says ts G Γ i l (rw (e₄, low, high) x)) is in
+            let u = typed-some fine (g .says tab (s .tokens) ts (i .world .tokens) o (kind ∙ is′) (w .0) (w .2)) in
+            rw (w .1, u .1) (last h d ts G Γ i m (rw (e₅, low′, high′) y) (w .0) (u .0) (w .2) (u .2))
 
 -- `new` AND `.`
 
@@ -495,12 +518,12 @@ module _ {tab : List ℕ} {s : Scope} {first end row k : ℕ} {r : Judged} where
 
 -- CALLS
 
-module _ {tab : List ℕ} {s : Scope} {first end row left : ℕ} (e₄ : left ≡ wordAt tab 4 row) {v : Judged}
-    (f : ExpressionPost tab s first row left v) where
+module _ {tab : List ℕ} {s : Scope} {first end row left first′ until : ℕ} (e₄ : left ≡ wordAt tab 4 row) (low : first′ ≡ first)
+    (high : until ≡ row) {v : Judged} (f : ExpressionPost tab s first′ until left v) where
   module _ {t : ℕ} (is : v ≡ Fine t) where
     pub call-plain : 2048 ≤ t → {at₃ : ℕ} → at₃ ≡ wordAt tab 3 left → NodePost tab s aCall first end row (Refused wrongType at₃)
     unfolding judge
-    call-plain high {at₃} e₃ = record { says = go }
+    call-plain other {at₃} e₃ = record { says = go }
       where
         pick : (ts : List Token) → length ts ≤ 2048 → (e : Expression) → placeE e .start ≡ at₃ → (u : Ty) → Codes ts u t
             → (k : List ℕ → Outcome Ty)
@@ -513,13 +536,14 @@ module _ {tab : List ℕ} {s : Scope} {first end row left : ℕ} (e₄ : left �
 
         go : NodeJudged tab s aCall first end row (Refused wrongType at₃)
         go ts G Γ i t (shows-call {e = e} st sp q x y) =
-            let h : PartIn tab ts left first row e = rw e₄ x in
+            let h : PartIn tab ts left first′ until e = rw (e₄, low, high) x in
             let w = judges-fine (f .says ts G Γ i e h) is in
-            rw (w .1) (pick ts (few-tokens i) e (sym (start-of i first row h) ∙ sym e₃) (w .0) (w .2) _)
+            rw (w .1) (pick ts (few-tokens i) e (sym (start-of i first′ until h) ∙ sym e₃) (w .0) (w .2) _)
 
-    pub call-object : t < 2048 → {r : Judged} → InvocationPost tab s end row t r → NodePost tab s aCall first end row r
+    pub call-object : t < 2048 → {after end′ : ℕ} → after ≡ row + 1 → end′ ≡ end → {r : Judged} → InvocationPost tab s after end′ row t r
+        → NodePost tab s aCall first end row r
     unfolding judge
-    call-object low {r} g = record { says = go }
+    call-object near low′ high′ {r} g = record { says = go }
       where
         pick : (ts : List Token) (e : Expression) (u : Ty) → Codes ts u t → (k : List ℕ → Outcome Ty)
             → ((c : List ℕ) → NameNumber ts c t → Judges ts (k c) r) → Judges ts (receiver e u k) r
@@ -531,9 +555,9 @@ module _ {tab : List ℕ} {s : Scope} {first end row left : ℕ} (e₄ : left �
 
         go : NodeJudged tab s aCall first end row r
         go ts G Γ i t (shows-call {e = e} {m = m} {es = es} st sp q x y) =
-            let w = judges-fine (f .says ts G Γ i e (rw e₄ x)) is in
+            let w = judges-fine (f .says ts G Γ i e (rw (e₄, low, high) x)) is in
             rw (w .1)
-            (pick ts e (w .0) (w .2) _ (λ c n. g .says ts G Γ i m es (record { number = sp; start = q; given = y }) c n))
+            (pick ts e (w .0) (w .2) _ (λ c n. g .says ts G Γ i m es (record { number = sp; start = q; given = rw (low′, high′) y }) c n))
 
 -- arguments are no more than the tokens among which they lie
 few-arguments : (es : Part arguments) (first end : ℕ) → Spans first end es → arity es ≤ end - first
@@ -543,9 +567,9 @@ few-arguments (argument e es) first end h =
     omega (arith, inside e (h .0) .low, inside e (h .0) .high, few-arguments es (rowOf e + 1) end (h .1))
 
 -- what is known of the method that is looked for, and of its parameters
-module _ (tab : List ℕ) (s : Scope) (end row c x f : ℕ) {ts : List Token} {G : List Class} {Γ : Context} (i : InScope tab ts G Γ s) where
+module _ (tab : List ℕ) (s : Scope) (first end row c x f : ℕ) {ts : List Token} {G : List Class} {Γ : Context} (i : InScope tab ts G Γ s) where
   looked : x ≡ wordAt tab 2 (row + 1) → FindsMethod tab (s .tokens) (s .classes) c x f → (m : Name) (es : Part arguments)
-      → Invoked tab ts end row m es → (name : List ℕ) → NameNumber ts name c → f ≡ rowFound (methodOf G name (m .text))
+      → Invoked tab ts first end row m es → (name : List ℕ) → NameNumber ts name c → f ≡ rowFound (methodOf G name (m .text))
   unfolding methodOf chain
   looked e₂ finds m es h name sp = rw (i .many) (finds .says ts G (i .world) (some name) (a-name sp) (m .text) (rw e₂ (h .number)))
 
@@ -563,10 +587,10 @@ module _ (tab : List ℕ) (s : Scope) (end row c x f : ℕ) {ts : List Token} {G
     taken-at = record { at = column 4 (st .first) e₄; stand = st .parameters; few = st .few-parameters }
 
     counts : (given : ℕ) → given ≡ wordAt tab 5 row → end ≤ s .tokens → {b : Bool} → SameCount tab (s .tokens) given taken b → (m : Name)
-        (es : Part arguments) → Invoked tab ts end row m es → b ≡ eqb (arity es) (length (F .method .parameters))
+        (es : Part arguments) → Invoked tab ts first end row m es → b ≡ eqb (arity es) (length (F .method .parameters))
     counts given e₅ most same m es h =
         let a = h .given in
-        let few = few-arguments es (row + 1) end (a .within) in
+        let few = few-arguments es first end (a .within) in
         same .says ts (few-tokens i) es (record { at = a .at ∙ sym e₅; holds = a .holds; matches = a .matches; within = omega arith })
         (F .method .parameters) taken-at
 
@@ -574,15 +598,15 @@ module _ (tab : List ℕ) (s : Scope) (end row c x f : ℕ) {ts : List Token} {G
     result-code e₃ type =
         type .says ts (i .world .tokens) (F .method .result .row) (column 3 (st .result) e₃) (F .method .result .type) (st .head .type)
 
-module _ {tab : List ℕ} {s : Scope} {end row c x f : ℕ} (e₂ : x ≡ wordAt tab 2 (row + 1))
+module _ {tab : List ℕ} {s : Scope} {first end row c x f : ℕ} (e₂ : x ≡ wordAt tab 2 (row + 1))
     (finds : FindsMethod tab (s .tokens) (s .classes) c x f) where
   pub invocation-unknown : absent ≤ f → {at₁ : ℕ} → at₁ ≡ wordAt tab 1 (row + 1)
-      → InvocationPost tab s end row c (Refused methodUnknown at₁)
+      → InvocationPost tab s first end row c (Refused methodUnknown at₁)
   invocation-unknown far {at₁} e₁ =
       record {
         says = λ ts G Γ i m es h name sp.
-            go i m _ _ (methodOf G name (m .text)) (λ F z. stands tab s end row c x f i name (m .text) z)
-            (looked tab s end row c x f i e₂ finds m es h name sp) (sym (h .start) ∙ sym e₁);
+            go i m _ _ (methodOf G name (m .text)) (λ F z. stands tab s first end row c x f i name (m .text) z)
+            (looked tab s first end row c x f i e₂ finds m es h name sp) (sym (h .start) ∙ sym e₁);
       }
     where
       go : {ts : List Token} {G : List Class} {Γ : Context} → InScope tab ts G Γ s → (m : Name) (count : ℕ)
@@ -596,56 +620,61 @@ module _ {tab : List ℕ} {s : Scope} {end row c x f : ℕ} (e₂ : x ≡ wordAt
   -- an invocation is answered where the method is there
   found : (near : f < absent) (r : Judged)
       → ((ts : List Token) (G : List Class) (Γ : Context) (i : InScope tab ts G Γ s) (m : Name) (es : Part arguments)
-      → Invoked tab ts end row m es → (F : Found) → f ≡ F .method .name .row → MethodHeld tab (s .tokens) ts (F .method)
+      → Invoked tab ts first end row m es → (F : Found) → f ≡ F .method .name .row → MethodHeld tab (s .tokens) ts (F .method)
       → Judges ts (invocation m (arity es) (judge G Γ es) (some F)) r)
-      → InvocationPost tab s end row c r
+      → InvocationPost tab s first end row c r
   found near r g =
       record {
         says = λ ts G Γ i m es h name sp.
-            go ts G Γ i m es h (methodOf G name (m .text)) (λ F z. stands tab s end row c x f i name (m .text) z)
-            (looked tab s end row c x f i e₂ finds m es h name sp);
+            go ts G Γ i m es h (methodOf G name (m .text)) (λ F z. stands tab s first end row c x f i name (m .text) z)
+            (looked tab s first end row c x f i e₂ finds m es h name sp);
       }
     where
       go : (ts : List Token) (G : List Class) (Γ : Context) → InScope tab ts G Γ s → (m : Name) (es : Part arguments)
-          → Invoked tab ts end row m es → (o : Option Found) → ((F : Found) → o ≡ some F → MethodHeld tab (s .tokens) ts (F .method))
+          → Invoked tab ts first end row m es → (o : Option Found) → ((F : Found) → o ≡ some F → MethodHeld tab (s .tokens) ts (F .method))
           → f ≡ rowFound o → Judges ts (invocation m (arity es) (judge G Γ es) o) r
       go ts G Γ i m es h none st z = absurd (omega (arith, z))
       go ts G Γ i m es h (some F) st z = g ts G Γ i m es h F z (st F refl)
 
   module _ (near : f < absent) {given taken : ℕ} (e₅ : given ≡ wordAt tab 5 row) (e₄ : taken ≡ wordAt tab 4 f) {b : Bool}
       (same : SameCount tab (s .tokens) given taken b) (most : end ≤ s .tokens) where
-    pub invocation-count : b ≡ false → {at₁ : ℕ} → at₁ ≡ wordAt tab 1 (row + 1) → InvocationPost tab s end row c (Refused argumentCount at₁)
+    pub invocation-count : b ≡ false → {at₁ : ℕ} → at₁ ≡ wordAt tab 1 (row + 1) → InvocationPost tab s first end row c (Refused argumentCount at₁)
     invocation-count no′ {at₁} e₁ =
         found near (Refused argumentCount at₁) λ ts G Γ i m es h F z st.
-        let q = sym (counts tab s end row c x f i taken near e₄ F z st given e₅ most same m es h) ∙ no′ in
+        let q = sym (counts tab s first end row c x f i taken near e₄ F z st given e₅ most same m es h) ∙ no′ in
         rw (q, sym (h .start) ∙ sym e₁) ill
 
-    module _ (yes′ : b ≡ true) {v : Judged} (args : ArgumentsPost tab s (row + 1) end given taken v) where
+    module _ (yes′ : b ≡ true) {v : Judged} (args : ArgumentsPost tab s first end given taken v) where
       -- there are as many arguments as parameters, and this is the answer for them
       answered : {ts : List Token} {G : List Class} {Γ : Context} → InScope tab ts G Γ s → (m : Name) (es : Part arguments)
-          → Invoked tab ts end row m es → (F : Found) → f ≡ F .method .name .row → MethodHeld tab (s .tokens) ts (F .method)
+          → Invoked tab ts first end row m es → (F : Found) → f ≡ F .method .name .row → MethodHeld tab (s .tokens) ts (F .method)
           → (eqb (arity es) (length (F .method .parameters)) ≡ true) × (v ≡ asJudged (judge G Γ es (F .method .parameters)))
       answered {ts} {G} {Γ} i m es h F z st =
-          let q = sym (counts tab s end row c x f i taken near e₄ F z st given e₅ most same m es h) ∙ yes′ in (
+          let q = sym (counts tab s first end row c x f i taken near e₄ F z st given e₅ most same m es h) ∙ yes′ in (
             q,
             args .says ts G Γ i es (rw e₅ (h .given)) (s .tokens) (F .method .parameters)
-                (taken-at tab s end row c x f i taken near e₄ F z st)
+                (taken-at tab s first end row c x f i taken near e₄ F z st)
                 (eqb-true (arity es) (length (F .method .parameters)) q),
           )
 
-      pub invocation-fine : {w : ℕ} → v ≡ Fine w → {t r : ℕ} → t ≡ wordAt tab 3 f → TypeOf tab (s .tokens) t r
-          → InvocationPost tab s end row c (Fine r)
+      invocation-fine : {w : ℕ} → v ≡ Fine w → {t r : ℕ} → t ≡ wordAt tab 3 f → TypeOf tab (s .tokens) t r
+          → InvocationPost tab s first end row c (Fine r)
       invocation-fine is {r = r} e₃ type =
           found near (Fine r) λ ts G Γ i m es h F z st.
           let q = answered i m es h F z st in
           rw (q .0, asJudged-fine (judge G Γ es (F .method .parameters)) (q .1) is)
-          (well (result-code tab s end row c x f i taken near e₄ F z st e₃ type))
+          (well (result-code tab s first end row c x f i taken near e₄ F z st e₃ type))
 
-      pub invocation-refused : {n p : ℕ} → v ≡ Refused n p → InvocationPost tab s end row c (Refused n p)
+      invocation-refused : {n p : ℕ} → v ≡ Refused n p → InvocationPost tab s first end row c (Refused n p)
       invocation-refused {n} {p} is =
           found near (Refused n p) λ ts G Γ i m es h F z st.
           let q = answered i m es h F z st in
           rw (q .0, asJudged-refused (judge G Γ es (F .method .parameters)) (q .1) is) ill
+
+      pub invocation-typed : {t u : ℕ} → t ≡ wordAt tab 3 f → TypeOf tab (s .tokens) t u → {r : Judged} → TypedPost u v r
+          → InvocationPost tab s first end row c r
+      invocation-typed e₃ type (typed-fine is) = invocation-fine is e₃ type
+      invocation-typed e₃ type (typed-refused is) = invocation-refused is
 
 -- ARGUMENTS
 
@@ -659,12 +688,6 @@ module _ {tab : List ℕ} {s : Scope} {first end row parameter : ℕ} where
       }
 
   module _ (near : row < absent) where
-    pub arguments-before : row < first → {n p : ℕ} → ArgumentsPost tab s first end row parameter (Refused n p)
-    arguments-before low = record { says = λ ts G Γ i es h n vs l a. absurd (omega (arith, lies first end row near es h .low)) }
-
-    pub arguments-behind : end ≤ row → {n p : ℕ} → ArgumentsPost tab s first end row parameter (Refused n p)
-    arguments-behind high = record { says = λ ts G Γ i es h n vs l a. absurd (omega (arith, lies first end row near es h .high)) }
-
     module _ {t want : ℕ} (e₃ : t ≡ wordAt tab 3 parameter) (type : TypeOf tab (s .tokens) t want) {v : Judged}
         (f : OperandPost tab s first end row want v) where
       -- the first argument and its parameter
@@ -689,10 +712,11 @@ module _ {tab : List ℕ} {s : Scope} {first end row parameter : ℕ} where
           go ts G Γ i es (one-more-argument {e = e} {es = xs} x y) (w ∷ vs) d st a =
               rw (halts (judge G Γ e) (must G e (w .type .type)) (judge G Γ xs vs) (one i e x w vs d st) is)
 
-      pub arguments-next : {w : ℕ} → v ≡ Fine w → {next p : ℕ} {r : Judged} → next ≡ wordAt tab 6 row → p ≡ wordAt tab 6 parameter
-          → ArgumentsPost tab s (row + 1) end next p r → ArgumentsPost tab s first end row parameter r
+      pub arguments-next : {w : ℕ} → v ≡ Fine w → {next p : ℕ} → next ≡ wordAt tab 6 row → p ≡ wordAt tab 6 parameter → {after end′ : ℕ}
+          → after ≡ row + 1 → end′ ≡ end → {r : Judged} → ArgumentsPost tab s after end′ next p r
+          → ArgumentsPost tab s first end row parameter r
       unfolding judge arity
-      arguments-next is {r = r} e₆ e₆′ g =
+      arguments-next is e₆ e₆′ low high {r} g =
           record { says = λ ts G Γ i es h k vs l a. go ts G Γ i es (one-more first end row near es h) k vs (l .at) (l .stand) (l .few) a }
         where
           go : (ts : List Token) (G : List Class) (Γ : Context) → InScope tab ts G Γ s → (es : Part arguments)
@@ -701,4 +725,4 @@ module _ {tab : List ℕ} {s : Scope} {first end row parameter : ℕ} where
           go ts G Γ i es (one-more-argument x y) k [] d st l a = absurd (omega arith)
           go ts G Γ i es (one-more-argument {e = e} {es = xs} x y) k (w ∷ vs) d st l a =
               rw (goes (judge G Γ e) (must G e (w .type .type)) (judge G Γ xs vs) (one i e x w vs d st) is)
-              (g .says ts G Γ i xs (rw e₆ y) (k - 1) vs (next-variable w vs st (few-tokens i) d l e₆′) (omega arith))
+              (g .says ts G Γ i xs (rw (e₆, low, high) y) (k - 1) vs (next-variable w vs st (few-tokens i) d l e₆′) (omega arith))

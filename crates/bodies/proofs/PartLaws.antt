@@ -8,12 +8,11 @@ use lib.ListN.{length}
 use Rattle.base.specs.Outcome.{Outcome, accepted, refused, _>>=_}
 use Rattle.base.specs.laws.Tests.{apart}
 use Rattle.lexer.specs.Tokens.{Token}
-use Rattle.parser.specs.Tree.{Sort, Sort.expression, Sort.arguments, Sort.statement, Sort.statements, Part, Expression, Statement, placeE}
-use Rattle.parser.specs.Tree.{Part.noArguments, Part.argument, Part.noStatements, Part.sequence, Element, Ty, Ty.plain, Ty.arrayOf, Class}
-use Rattle.parser.specs.contracts.Layout.{absent, rowOf}
+use Rattle.parser.specs.Tree.{Sort, Sort.arguments, Sort.statements, Part, Expression, Statement, placeE}
+use Rattle.parser.specs.Tree.{Element, Ty, Ty.plain, Ty.arrayOf, Class}
+use Rattle.parser.specs.contracts.Layout.{absent}
 use Rattle.parser.specs.contracts.Post.{kindInTable}
-use Rattle.reader.specs.contracts.Spans.{Among, Spans}
-use Rattle.reader.specs.laws.SpanLaws.{inside, inside-statement}
+use Rattle.reader.specs.contracts.Spans.{Spans}
 use Rattle.typing.specs.laws.Choices.{bind-assoc, refused-accepted}
 use Rattle.typesystem.specs.ClassTable.{Context}
 use Rattle.typesystem.specs.Judge.{ofArray}
@@ -127,21 +126,8 @@ module _ (first end row : ℕ) where
         of-port-put = λ {p} {n} {e} at h. (behind end n at (h .1), behind end e at (h .2));
       }
 
-  -- the row of a part of any sort is among those of its range, unless the part is an empty list
-  stands : (q : Sort) (t : Part q) → rowOf t < absent → Spans first end t → Among first end (rowOf t)
-  unfolding Spans
-  stands expression t here h = inside t h
-  stands arguments noArguments here h = absurd (omega arith)
-  stands arguments (argument e es) here h = inside e (h .0)
-  stands statement t here h = inside-statement t h
-  stands statements noStatements here h = absurd (omega arith)
-  stands statements (sequence t ss) here h = inside-statement t (h .0)
-
-  -- what stands in a row; of a list, one member and the rest, in their ranges
+  -- what stands in the row of a list: one member and the rest, in their ranges
   module _ {tab : List ℕ} {ts : List Token} (near : row < absent) where
-    pub lies : {q : Sort} (t : Part q) → PartIn tab ts row first end t → Among first end row
-    lies {q} t h = subst (Among first end) (h .at) (stands q t (omega (arith, h .at)) (h .within))
-
     pub one-more : (es : Part arguments) → PartIn tab ts row first end es → GoesOn tab ts row (Spans first end) (Spans (row + 1) end) es
     unfolding Spans
     one-more es h = goes-on (λ e xs at w. (w .0, behind end xs at (w .1))) near es h
@@ -162,7 +148,7 @@ module _ {tab : List ℕ} {ts : List Token} {G : List Class} {Γ : Context} {s :
   seen-in f e h = shown (i .world .tokens) row _ _ _ (ranges first end row) f e h
 
   pub seen-inS : {F : Form} → formS (kindInTable tab (s .tokens) row) (kindInTable tab (s .tokens) (row + 1)) ≡ F → (t : Statement)
-      → PartIn tab ts row first end t → ShowsStatement tab ts end row F t
+      → PartIn tab ts row first end t → ShowsStatement tab ts (row + 1) end row F t
   seen-inS f t h = shownS (i .world .tokens) row _ _ (rangesS first end row) f t h
 
   -- where an expression that lies in a row begins

@@ -8,6 +8,7 @@ use mathlib.Core.Bool.{true, false}
 use borrow.Author.Tests.{ne-eqb}
 use Rattle.base.specs.Codes.{wrongType}
 use Rattle.base.specs.Outcome.{_>>=_}
+use Rattle.base.specs.laws.Tests.{apart}
 use Rattle.lexer.specs.Tokens.{Token}
 use Rattle.parser.specs.Tree.{Sort.statements, Part, Element.int, Element.boolean, Ty, Ty.plain, Class}
 use Rattle.parser.specs.contracts.Layout.{absent}
@@ -33,13 +34,13 @@ use Rattle.bodies.specs.contracts.ExpressionPost.{NamePost, ExpressionPo
 use Rattle.bodies.specs.contracts.StatementPost.{StatementPost, ListPost, StatementJudged, StatementNodePost, BranchesPost}
 use Rattle.bodies.specs.contracts.StatementPost.{ValuePost}
 use Rattle.bodies.proofs.PartLaws.{judges-fine, judges-refused, goes, halts, plain-code, array-code, few-tokens}
-use Rattle.bodies.proofs.PartLaws.{one-moreS, lies, seen-inS, start-of}
+use Rattle.bodies.proofs.PartLaws.{one-moreS, seen-inS, start-of}
 
 -- ASSIGNMENTS
 
-module _ {tab : List ℕ} {s : Scope} {end row first want : ℕ} (e₄ : first ≡ wordAt tab 4 row) {v : Judged}
-    (f : OperandPost tab s (row + 1) end first 2048 v) where
-  pub value-first : {n p : ℕ} → v ≡ Refused n p → ValuePost tab s end row want (Refused n p)
+module _ {tab : List ℕ} {s : Scope} {first end row index want : ℕ} (e₄ : index ≡ wordAt tab 4 row) {v : Judged}
+    (f : OperandPost tab s first end index 2048 v) where
+  pub value-first : {n p : ℕ} → v ≡ Refused n p → ValuePost tab s first end row want (Refused n p)
   value-first is =
       record {
         says = λ ts G Γ sc i e x y t c.
@@ -48,7 +49,7 @@ module _ {tab : List ℕ} {s : Scope} {end row first want : ℕ} (e₄ : first �
       }
 
   pub value-second : {w : ℕ} → v ≡ Fine w → {second : ℕ} → second ≡ wordAt tab 5 row → {r : Judged}
-      → OperandPost tab s (row + 1) end second want r → ValuePost tab s end row want r
+      → OperandPost tab s first end second want r → ValuePost tab s first end row want r
   value-second is e₅ g =
       record {
         says = λ ts G Γ sc i e x y t c.
@@ -57,49 +58,49 @@ module _ {tab : List ℕ} {s : Scope} {end row first want : ℕ} (e₄ : first �
             (g .says ts G Γ sc e (rw e₅ y) t c);
       }
 
-module _ {tab : List ℕ} {s : Scope} {end row : ℕ} {v : Judged} (f : NamePost tab s row v) where
-  pub assignment-refused : {n p : ℕ} → v ≡ Refused n p → StatementNodePost tab s anAssignment end row (Refused n p)
+module _ {tab : List ℕ} {s : Scope} {first end row : ℕ} {v : Judged} (f : NamePost tab s row v) where
+  pub assignment-refused : {n p : ℕ} → v ≡ Refused n p → StatementNodePost tab s anAssignment first end row (Refused n p)
   unfolding judge
   assignment-refused {n} {p} is = record { says = go }
     where
-      go : StatementJudged tab s anAssignment end row (Refused n p)
+      go : StatementJudged tab s anAssignment first end row (Refused n p)
       go ts G Γ sc t (shows-assignment {p = q} {x = x} st sp y) = rw (judges-refused (f .says ts G Γ sc q x st sp) is)
 
-  pub element-refused : {n p : ℕ} → v ≡ Refused n p → StatementNodePost tab s anElementStore end row (Refused n p)
+  pub element-refused : {n p : ℕ} → v ≡ Refused n p → StatementNodePost tab s anElementStore first end row (Refused n p)
   unfolding judge
   element-refused {n} {p} is = record { says = go }
     where
-      go : StatementJudged tab s anElementStore end row (Refused n p)
+      go : StatementJudged tab s anElementStore first end row (Refused n p)
       go ts G Γ sc t (shows-element-store {p = q} {x = x} st sp y z) = rw (judges-refused (f .says ts G Γ sc q x st sp) is)
 
   module _ {target : ℕ} (is : v ≡ Fine target) where
-    pub assignment-value : {value : ℕ} → value ≡ wordAt tab 4 row → {r : Judged} → OperandPost tab s (row + 1) end value target r
-        → StatementNodePost tab s anAssignment end row r
+    pub assignment-value : {value : ℕ} → value ≡ wordAt tab 4 row → {r : Judged} → OperandPost tab s first end value target r
+        → StatementNodePost tab s anAssignment first end row r
     unfolding judge
     assignment-value e₄ {r} g = record { says = go }
       where
-        go : StatementJudged tab s anAssignment end row r
+        go : StatementJudged tab s anAssignment first end row r
         go ts G Γ sc t (shows-assignment {p = q} {x = x} {e = e} st sp y) =
             let d = judges-fine (f .says ts G Γ sc q x st sp) is in
             rw (d .1) (g .says ts G Γ sc e (rw e₄ y) (d .0) (d .2))
 
-    pub element-value : 4096 ≤ target → {r : Judged} → ValuePost tab s end row (target - 4096) r
-        → StatementNodePost tab s anElementStore end row r
+    pub element-value : 4096 ≤ target → {r : Judged} → ValuePost tab s first end row (target - 4096) r
+        → StatementNodePost tab s anElementStore first end row r
     unfolding judge
     element-value high {r} g = record { says = go }
       where
-        go : StatementJudged tab s anElementStore end row r
+        go : StatementJudged tab s anElementStore first end row r
         go ts G Γ sc t (shows-element-store {p = q} {x = x} {i = i} {e = e} st sp y z) =
             let d = judges-fine (f .says ts G Γ sc q x st sp) is in
             let u = array-code (few-tokens sc) (d .2) high in
             rw (d .1, u .1) (g .says ts G Γ sc i e y z (plain (u .0)) (u .2))
 
     pub element-wrong : target < 4096 → {at₃ : ℕ} → at₃ ≡ wordAt tab 3 row
-        → StatementNodePost tab s anElementStore end row (Refused wrongType at₃)
+        → StatementNodePost tab s anElementStore first end row (Refused wrongType at₃)
     unfolding judge
     element-wrong low {at₃} e₃ = record { says = go }
       where
-        go : StatementJudged tab s anElementStore end row (Refused wrongType at₃)
+        go : StatementJudged tab s anElementStore first end row (Refused wrongType at₃)
         go ts G Γ sc t (shows-element-store {p = q} {x = x} st sp y z) =
             let d = judges-fine (f .says ts G Γ sc q x st sp) is in
             let u = plain-code (d .2) low in
@@ -125,96 +126,96 @@ module _ {tab : List ℕ} {n : ℕ} {ts : List Token} (lx : Lexemes tab n ts) {t
     unfolding printable
     not-printed f = rw (not-int, other-codes lx (code-plain (code-fixed refl)) c (λ z. f (sym z)))
 
-module _ {tab : List ℕ} {s : Scope} {end row part : ℕ} (e₄ : part ≡ wordAt tab 4 row) {v : Judged}
-    (f : ExpressionPost tab s (row + 1) end part v) where
-  pub print-refused : {n p : ℕ} → v ≡ Refused n p → StatementNodePost tab s aPrint end row (Refused n p)
+module _ {tab : List ℕ} {s : Scope} {first end row part : ℕ} (e₄ : part ≡ wordAt tab 4 row) {v : Judged}
+    (f : ExpressionPost tab s first end part v) where
+  pub print-refused : {n p : ℕ} → v ≡ Refused n p → StatementNodePost tab s aPrint first end row (Refused n p)
   unfolding judge
   print-refused {n} {p} is = record { says = go }
     where
-      go : StatementJudged tab s aPrint end row (Refused n p)
+      go : StatementJudged tab s aPrint first end row (Refused n p)
       go ts G Γ sc t (shows-print {e = e} st x) = rw (judges-refused (f .says ts G Γ sc e (rw e₄ x)) is)
 
   module _ {w : ℕ} (is : v ≡ Fine w) where
     -- what is printed, by its number
     fine : ((ts : List Token) (n : ℕ) → Lexemes tab n ts → (u : Ty) → Codes ts u w → printable u ≡ true)
-        → StatementNodePost tab s aPrint end row (Fine 0)
+        → StatementNodePost tab s aPrint first end row (Fine 0)
     unfolding judge
     fine by = record { says = go }
       where
-        go : StatementJudged tab s aPrint end row (Fine 0)
+        go : StatementJudged tab s aPrint first end row (Fine 0)
         go ts G Γ sc t (shows-print {e = e} st x) =
             let d = judges-fine (f .says ts G Γ sc e (rw e₄ x)) is in
             rw (d .1, by ts (s .tokens) (sc .world .tokens) (d .0) (d .2))
 
-    pub print-int : w ≡ 2048 → StatementNodePost tab s aPrint end row (Fine 0)
+    pub print-int : w ≡ 2048 → StatementNodePost tab s aPrint first end row (Fine 0)
     print-int e = fine (λ ts n lx u c. int-printed lx c e)
 
     module _ (other : w ≡ 2048 → ⊥) where
-      pub print-fixed : w ≡ 2050 → StatementNodePost tab s aPrint end row (Fine 0)
+      pub print-fixed : w ≡ 2050 → StatementNodePost tab s aPrint first end row (Fine 0)
       print-fixed e = fine (λ ts n lx u c. fixed-printed lx c other e)
 
       pub print-wrong : (w ≡ 2050 → ⊥) → {at₃ : ℕ} → at₃ ≡ wordAt tab 3 part
-          → StatementNodePost tab s aPrint end row (Refused wrongType at₃)
+          → StatementNodePost tab s aPrint first end row (Refused wrongType at₃)
       unfolding judge
       print-wrong rest {at₃} e₃ = record { says = go }
         where
-          go : StatementJudged tab s aPrint end row (Refused wrongType at₃)
+          go : StatementJudged tab s aPrint first end row (Refused wrongType at₃)
           go ts G Γ sc t (shows-print {e = e} st x) =
-              let h : PartIn tab ts part (row + 1) end e = rw e₄ x in
+              let h : PartIn tab ts part first end e = rw e₄ x in
               let d = judges-fine (f .says ts G Γ sc e h) is in
-              rw (d .1, not-printed (sc .world .tokens) (d .2) other rest, e₃, start-of sc (row + 1) end h)
+              rw (d .1, not-printed (sc .world .tokens) (d .2) other rest, e₃, start-of sc first end h)
 
 -- BRANCHES AND LOOPS
 
-module _ {tab : List ℕ} {s : Scope} {end row second : ℕ} (e₅ : second ≡ wordAt tab 5 row) {v : Judged}
-    (f : StatementPost tab s (row + 1) end second v) where
-  pub branches-first : {n p : ℕ} → v ≡ Refused n p → BranchesPost tab s end row (Refused n p)
+module _ {tab : List ℕ} {s : Scope} {first end row second : ℕ} (e₅ : second ≡ wordAt tab 5 row) {v : Judged}
+    (f : StatementPost tab s first end second v) where
+  pub branches-first : {n p : ℕ} → v ≡ Refused n p → BranchesPost tab s first end row (Refused n p)
   branches-first is = record { says = λ ts G Γ sc a b x y. rw (stops (judge G Γ a) (λ _. judge G Γ b) (f .says ts G Γ sc a (rw e₅ x)) is) }
 
   pub branches-second : {w : ℕ} → v ≡ Fine w → {third : ℕ} → third ≡ wordAt tab 7 row → {r : Judged}
-      → StatementPost tab s (row + 1) end third r
-      → BranchesPost tab s end row r
+      → StatementPost tab s first end third r
+      → BranchesPost tab s first end row r
   branches-second is e₇ g =
       record {
         says = λ ts G Γ sc a b x y.
             rw (goes-on (judge G Γ a) (λ _. judge G Γ b) (f .says ts G Γ sc a (rw e₅ x)) is) (g .says ts G Γ sc b (rw e₇ y));
       }
 
-module _ {tab : List ℕ} {s : Scope} {end row test : ℕ} (e₄ : test ≡ wordAt tab 4 row) {v : Judged}
-    (f : OperandPost tab s (row + 1) end test 2049 v) where
-  pub conditional-refused : {n p : ℕ} → v ≡ Refused n p → StatementNodePost tab s aConditional end row (Refused n p)
+module _ {tab : List ℕ} {s : Scope} {first end row test : ℕ} (e₄ : test ≡ wordAt tab 4 row) {v : Judged}
+    (f : OperandPost tab s first end test 2049 v) where
+  pub conditional-refused : {n p : ℕ} → v ≡ Refused n p → StatementNodePost tab s aConditional first end row (Refused n p)
   unfolding judge
   conditional-refused {n} {p} is = record { says = go }
     where
-      go : StatementJudged tab s aConditional end row (Refused n p)
+      go : StatementJudged tab s aConditional first end row (Refused n p)
       go ts G Γ sc t (shows-conditional {e = e} {s = a} {t = b} st x y z) =
           rw (halts (judge G Γ e) (must G e (plain boolean)) (judge G Γ a >>= λ _. judge G Γ b)
           (f .says ts G Γ sc e (rw e₄ x) (plain boolean) (code-plain (code-boolean refl))) is)
 
-  pub conditional-branches : {w : ℕ} → v ≡ Fine w → {r : Judged} → BranchesPost tab s end row r
-      → StatementNodePost tab s aConditional end row r
+  pub conditional-branches : {w : ℕ} → v ≡ Fine w → {r : Judged} → BranchesPost tab s first end row r
+      → StatementNodePost tab s aConditional first end row r
   unfolding judge
   conditional-branches is {r} g = record { says = go }
     where
-      go : StatementJudged tab s aConditional end row r
+      go : StatementJudged tab s aConditional first end row r
       go ts G Γ sc t (shows-conditional {e = e} {s = a} {t = b} st x y z) =
           rw (goes (judge G Γ e) (must G e (plain boolean)) (judge G Γ a >>= λ _. judge G Γ b)
           (f .says ts G Γ sc e (rw e₄ x) (plain boolean) (code-plain (code-boolean refl))) is) (g .says ts G Γ sc a b y z)
 
-  pub loop-refused : {n p : ℕ} → v ≡ Refused n p → StatementNodePost tab s aLoop end row (Refused n p)
+  pub loop-refused : {n p : ℕ} → v ≡ Refused n p → StatementNodePost tab s aLoop first end row (Refused n p)
   unfolding judge
   loop-refused {n} {p} is = record { says = go }
     where
-      go : StatementJudged tab s aLoop end row (Refused n p)
+      go : StatementJudged tab s aLoop first end row (Refused n p)
       go ts G Γ sc t (shows-loop {e = e} {s = a} st x y) =
           rw (halts (judge G Γ e) (must G e (plain boolean)) (judge G Γ a) (f .says ts G Γ sc e (rw e₄ x) (plain boolean) (code-plain (code-boolean refl))) is)
 
-  pub loop-body : {w : ℕ} → v ≡ Fine w → {body : ℕ} → body ≡ wordAt tab 5 row → {r : Judged} → StatementPost tab s (row + 1) end body r
-      → StatementNodePost tab s aLoop end row r
+  pub loop-body : {w : ℕ} → v ≡ Fine w → {body : ℕ} → body ≡ wordAt tab 5 row → {r : Judged} → StatementPost tab s first end body r
+      → StatementNodePost tab s aLoop first end row r
   unfolding judge
   loop-body is e₅ {r} g = record { says = go }
     where
-      go : StatementJudged tab s aLoop end row r
+      go : StatementJudged tab s aLoop first end row r
       go ts G Γ sc t (shows-loop {e = e} {s = a} st x y) =
           rw (goes (judge G Γ e) (must G e (plain boolean)) (judge G Γ a) (f .says ts G Γ sc e (rw e₄ x) (plain boolean) (code-plain (code-boolean refl))) is)
           (g .says ts G Γ sc a (rw e₅ y))
@@ -223,67 +224,81 @@ module _ {tab : List ℕ} {s : Scope} {end row test : ℕ} (e₄ : test ≡ word
 
 module _ {tab : List ℕ} {s : Scope} {first end row : ℕ} where
   pub statement-before : row < first → {n p : ℕ} → StatementPost tab s first end row (Refused n p)
-  statement-before low = record { says = λ ts G Γ sc t h. absurd (omega (arith, inside-statement t (h .within) .low, h .at)) }
+  statement-before low =
+      record { among = λ is. apart (cc); says = λ ts G Γ sc t h. absurd (omega (arith, inside-statement t (h .within) .low, h .at)) }
 
   pub statement-behind : end ≤ row → {n p : ℕ} → StatementPost tab s first end row (Refused n p)
-  statement-behind high = record { says = λ ts G Γ sc t h. absurd (omega (arith, inside-statement t (h .within) .high, h .at)) }
+  statement-behind high =
+      record { among = λ is. apart (cc); says = λ ts G Γ sc t h. absurd (omega (arith, inside-statement t (h .within) .high, h .at)) }
 
-  module _ {k : ℕ} (kind : k ≡ kindInTable tab (s .tokens) row) {r : Judged} where
+  -- the kind of its token, and the range of its parts
+  module _ (from : first ≤ row) (below : row < end) {k after end′ : ℕ} (kind : k ≡ kindInTable tab (s .tokens) row) (low : after ≡ row + 1) (high : end′ ≡ end) {r : Judged} where
     -- the kinds tell the form
-    told : {F : Form} → formS k (kindInTable tab (s .tokens) (row + 1)) ≡ F → StatementJudged tab s F end row r
+    told : {F : Form} → formS k (kindInTable tab (s .tokens) (row + 1)) ≡ F → StatementJudged tab s F after end′ row r
         → StatementPost tab s first end row r
     told f g =
         record {
+          among = λ is. record { low = from; high = below };
           says = λ ts G Γ sc t h.
-              g ts G Γ sc t (seen-inS sc first end (ap (λ (j : ℕ). formS j (kindInTable tab (s .tokens) (row + 1))) (sym kind) ∙ f) t h);
+              g ts G Γ sc t
+              (rw (low, high) (seen-inS sc first end (ap (λ (j : ℕ). formS j (kindInTable tab (s .tokens) (row + 1))) (sym kind) ∙ f) t h));
         }
 
     -- this kind alone tells it
-    alone : (k′ : ℕ) → k ≡ k′ → StatementJudged tab s (formS k′ (kindInTable tab (s .tokens) (row + 1))) end row r
+    alone : (k′ : ℕ) → k ≡ k′ → StatementJudged tab s (formS k′ (kindInTable tab (s .tokens) (row + 1))) after end′ row r
         → StatementPost tab s first end row r
     alone k′ is g = told (ap (λ (j : ℕ). formS j (kindInTable tab (s .tokens) (row + 1))) is) g
 
-    pub statement-block : k ≡ 38 → {part : ℕ} → part ≡ wordAt tab 4 row → ListPost tab s (row + 1) end part r
+    pub statement-block : k ≡ 38 → {part : ℕ} → part ≡ wordAt tab 4 row → ListPost tab s after end′ part r
         → StatementPost tab s first end row r
     unfolding formS judge
     statement-block is e₄ f = alone 38 is go
       where
-        go : StatementJudged tab s aBlock end row r
+        go : StatementJudged tab s aBlock after end′ row r
         go ts G Γ sc t (shows-block {ss = ss} st x) = f .says ts G Γ sc ss (rw e₄ x)
 
-    pub statement-if : k ≡ 10 → StatementNodePost tab s aConditional end row r → StatementPost tab s first end row r
+    pub statement-if : k ≡ 10 → StatementNodePost tab s aConditional after end′ row r → StatementPost tab s first end row r
     unfolding formS
     statement-if is f = alone 10 is (f .says)
 
-    pub statement-while : k ≡ 23 → StatementNodePost tab s aLoop end row r → StatementPost tab s first end row r
+    pub statement-while : k ≡ 23 → StatementNodePost tab s aLoop after end′ row r → StatementPost tab s first end row r
     unfolding formS
     statement-while is f = alone 23 is (f .says)
 
-    pub statement-print : k ≡ 19 → StatementNodePost tab s aPrint end row r → StatementPost tab s first end row r
+    pub statement-print : k ≡ 19 → StatementNodePost tab s aPrint after end′ row r → StatementPost tab s first end row r
     unfolding formS
     statement-print is f = alone 19 is (f .says)
 
-    pub statement-put : k ≡ 40 → ValuePost tab s end row 2048 r → StatementPost tab s first end row r
+    pub statement-put : k ≡ 40 → ValuePost tab s after end′ row 2048 r → StatementPost tab s first end row r
     unfolding formS judge
     statement-put is f = alone 40 is go
       where
-        go : StatementJudged tab s aPortPut end row r
+        go : StatementJudged tab s aPortPut after end′ row r
         go ts G Γ sc t (shows-port-put {n = n} {e = e} st x y) = f .says ts G Γ sc n e x y (plain int) (code-plain (code-int refl))
 
     module _ (n₁ : k ≡ 38 → ⊥) (n₂ : k ≡ 10 → ⊥) (n₃ : k ≡ 23 → ⊥) (n₄ : k ≡ 19 → ⊥) (n₅ : k ≡ 40 → ⊥) {k′ : ℕ}
-        (after : k′ ≡ kindInTable tab (s .tokens) (row + 1)) where
-      pub statement-element : k′ ≡ 36 → StatementNodePost tab s anElementStore end row r → StatementPost tab s first end row r
+        (next : k′ ≡ kindInTable tab (s .tokens) (row + 1)) where
+      pub statement-element : k′ ≡ 36 → StatementNodePost tab s anElementStore after end′ row r → StatementPost tab s first end row r
       unfolding formS
       statement-element is f =
-          told (rw (ne-eqb k 38 n₁, ne-eqb k 10 n₂, ne-eqb k 23 n₃, ne-eqb k 19 n₄, ne-eqb k 40 n₅, sym after ∙ is)) (f .says)
+          told (rw (ne-eqb k 38 n₁, ne-eqb k 10 n₂, ne-eqb k 23 n₃, ne-eqb k 19 n₄, ne-eqb k 40 n₅, sym next ∙ is)) (f .says)
 
-      pub statement-assignment : (k′ ≡ 36 → ⊥) → StatementNodePost tab s anAssignment end row r → StatementPost tab s first end row r
+      pub statement-assignment : (k′ ≡ 36 → ⊥) → StatementNodePost tab s anAssignment after end′ row r → StatementPost tab s first end row r
       unfolding formS
       statement-assignment other f =
-          told (rw (ne-eqb k 38 n₁, ne-eqb k 10 n₂, ne-eqb k 23 n₃, ne-eqb k 19 n₄, ne-eqb k 40 n₅, sym after, ne-eqb k′ 36 other))
+          told (rw (ne-eqb k 38 n₁, ne-eqb k 10 n₂, ne-eqb k 23 n₃, ne-eqb k 19 n₄, ne-eqb k 40 n₅, sym next, ne-eqb k′ 36 other))
           (f .says)
 
 -- LISTS
+
+-- a statement that is fine lies in the range
+module _ {tab : List ℕ} {s : Scope} {first end row : ℕ} {v : Judged} (f : StatementPost tab s first end row v) {w : ℕ} (is : v ≡ Fine w)
+  where
+    pub statement-low : first ≤ row
+    statement-low = f .among is .low
+
+    pub statement-high : row < end
+    statement-high = f .among is .high
 
 module _ {tab : List ℕ} {s : Scope} {first end row : ℕ} where
   pub list-end : absent ≤ row → ListPost tab s first end row (Fine 0)
@@ -295,12 +310,6 @@ module _ {tab : List ℕ} {s : Scope} {first end row : ℕ} where
       }
 
   module _ (near : row < absent) where
-    pub list-before : row < first → {n p : ℕ} → ListPost tab s first end row (Refused n p)
-    list-before low = record { says = λ ts G Γ sc ss h. absurd (omega (arith, lies first end row near ss h .low)) }
-
-    pub list-behind : end ≤ row → {n p : ℕ} → ListPost tab s first end row (Refused n p)
-    list-behind high = record { says = λ ts G Γ sc ss h. absurd (omega (arith, lies first end row near ss h .high)) }
-
     module _ {v : Judged} (f : StatementPost tab s first end row v) where
       pub list-refused : {n p : ℕ} → v ≡ Refused n p → ListPost tab s first end row (Refused n p)
       unfolding judge
@@ -311,12 +320,12 @@ module _ {tab : List ℕ} {s : Scope} {first end row : ℕ} where
           go ts G Γ sc ss (one-more-statement {t = t} {ss = xs} x y) =
               rw (stops (judge G Γ t) (λ _. judge G Γ xs) (f .says ts G Γ sc t x) is)
 
-      pub list-next : {w : ℕ} → v ≡ Fine w → {next : ℕ} → next ≡ wordAt tab 6 row → {r : Judged} → ListPost tab s (row + 1) end next r
-          → ListPost tab s first end row r
+      pub list-next : {w : ℕ} → v ≡ Fine w → {next : ℕ} → next ≡ wordAt tab 6 row → {after end′ : ℕ} → after ≡ row + 1 → end′ ≡ end
+          → {r : Judged} → ListPost tab s after end′ next r → ListPost tab s first end row r
       unfolding judge
-      list-next is e₆ {r} g = record { says = λ ts G Γ sc ss h. go ts G Γ sc ss (one-moreS first end row near ss h) }
+      list-next is e₆ low high {r} g = record { says = λ ts G Γ sc ss h. go ts G Γ sc ss (one-moreS first end row near ss h) }
         where
           go : (ts : List Token) (G : List Class) (Γ : Context) → InScope tab ts G Γ s → (ss : Part statements)
               → GoesOnS tab ts row (Spans first end) (Spans (row + 1) end) ss → r ≡ asJudged (judge G Γ ss)
           go ts G Γ sc ss (one-more-statement {t = t} {ss = xs} x y) =
-              rw (goes-on (judge G Γ t) (λ _. judge G Γ xs) (f .says ts G Γ sc t x) is) (g .says ts G Γ sc xs (rw e₆ y))
+              rw (goes-on (judge G Γ t) (λ _. judge G Γ xs) (f .says ts G Γ sc t x) is) (g .says ts G Γ sc xs (rw (e₆, low, high) y))

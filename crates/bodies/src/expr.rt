@@ -1,6 +1,8 @@
-// Expressions are judged in a cycle: an expression, its parts, the arguments of a call. Each has the range of tokens in which it lies, from
-// `first` up to `end`: a part lies in a smaller one than its whole, before the token of its whole or behind it.
+// Expressions are judged in a cycle: an expression, its parts, the arguments of a call. Each has the range of tokens in which it lies.
 use crate::operators::operation;
+use crate::range::Range;
+use crate::range::before;
+use crate::range::behind;
 use crate::scope::Scope;
 use crate::scope::name_type;
 use base::codes;
@@ -31,7 +33,7 @@ ghost use Rattle.reader.specs.contracts.WalkPost.{Walkable};
 ghost use Rattle.lookup.specs.contracts.Shows.{aBinary, anElement, aCall};
 ghost use Rattle.bodies.specs.contracts.Scoping.{Judgeable};
 ghost use Rattle.bodies.specs.contracts.ExpressionPost.{NamePost, ThisPost, AtomPost, NodePost, ExpressionPost, OperandPost};
-ghost use Rattle.bodies.specs.contracts.ExpressionPost.{CreationPost, DottedPost, SinglePost, ArrayPost, NewArrayPost, LengthPost};
+ghost use Rattle.bodies.specs.contracts.ExpressionPost.{CreationPost, DottedPost, TypedPost, ArrayPost, NewArrayPost, LengthPost};
 ghost use Rattle.bodies.specs.contracts.ExpressionPost.{InvocationPost, ArgumentsPost, ObjectPost, SameCount};
 
 // `this`, which main has not: 34.
@@ -114,22 +116,25 @@ fn same_count(table: &[u32], left: usize, a: usize, p: usize) -> bool
     )
 }
 
-// An expression.
-pub fn expression(
-    table: &[u32],
-    fields: &[u32],
-    s: Scope,
-    first: usize,
-    end: usize,
-    row: usize,
-) -> Judged
-    requires { ⌜ Judgeable (now table) (now fields) s × (end ≤ s .tokens) ⌝ }
-    ensures { λ r. ⌜ ExpressionPost (now (table .entry)) s first end row r ⌝ }
+// The answer for a node by that for its last part: its type is t, unless the part is refused.
+fn typed(part: Judged, t: usize) -> Judged
+    ensures { λ r. ⌜ TypedPost t part r ⌝ }
 {
-    if row < first {
+    match part {
+        Judged::Fine(_) => Judged::Fine(t),
+        Judged::Refused(number, at) => Judged::Refused(number, at),
+    }
+}
+
+// An expression.
+pub fn expression(table: &[u32], fields: &[u32], s: Scope, r: Range, row: usize) -> Judged
+    requires { ⌜ Judgeable (now table) (now fields) s × (r .end ≤ s .tokens) ⌝ }
+    ensures { λ q. ⌜ ExpressionPost (now (table .entry)) s (r .first) (r .end) row q ⌝ }
+{
+    if row < r.first {
         return Judged::Refused(BROKEN, 0);
     }
-    if end <= row {
+    if r.end <= row {
         return Judged::Refused(BROKEN, 0);
     }
     let k = kind(table, s.tokens, row);
@@ -137,39 +142,33 @@ pub fn expression(
         return atom(table, fields, s, k, row);
     }
     if k == kinds::NEW {
-        return creation(table, fields, s, first, end, row);
+        return creation(table, fields, s, r, row);
     }
     if k == kinds::DOT {
-        return dotted(table, fields, s, first, end, row);
+        return dotted(table, fields, s, r, row);
     }
     if k == kinds::NOT {
         let part = word(table, columns::FIRST, row);
-        return single(table, fields, s, row + 1, end, part, BOOLEAN, BOOLEAN);
+        let a = operand(table, fields, s, behind(r, row), part, BOOLEAN);
+        return typed(a, BOOLEAN);
     }
     if k == kinds::PORT {
         let part = word(table, columns::FIRST, row);
-        return single(table, fields, s, row + 1, end, part, INT, INT);
+        let a = operand(table, fields, s, behind(r, row), part, INT);
+        return typed(a, INT);
     }
     if k == kinds::OPEN_BRACKET {
-        return element(table, fields, s, first, end, row);
+        return element(table, fields, s, r, row);
     }
-    binary(table, fields, s, first, end, row, k)
+    binary(table, fields, s, r, row, k)
 }
 
 // An expression that must fit a type: 31.
-pub fn operand(
-    table: &[u32],
-    fields: &[u32],
-    s: Scope,
-    first: usize,
-    end: usize,
-    row: usize,
-    want: usize,
-) -> Judged
-    requires { ⌜ Judgeable (now table) (now fields) s × (end ≤ s .tokens) ⌝ }
-    ensures { λ r. ⌜ OperandPost (now (table .entry)) s first end row want r ⌝ }
+pub fn operand(table: &[u32], fields: &[u32], s: Scope, r: Range, row: usize, want: usize) -> Judged
+    requires { ⌜ Judgeable (now table) (now fields) s × (r .end ≤ s .tokens) ⌝ }
+    ensures { λ q. ⌜ OperandPost (now (table .entry)) s (r .first) (r .end) row want q ⌝ }
 {
-    let e = expression(table, fields, s, first, end, row);
+    let e = expression(table, fields, s, r, row);
     match e {
         Judged::Fine(t) => {
             if fits(table, s.tokens, s.classes, t, want) {
@@ -181,33 +180,12 @@ pub fn operand(
     }
 }
 
-// The last part of a node, which must fit a type; the type of the node is then `answer`.
-fn single(
-    table: &[u32],
-    fields: &[u32],
-    s: Scope,
-    first: usize,
-    end: usize,
-    row: usize,
-    want: usize,
-    answer: usize,
-) -> Judged
-    requires { ⌜ Judgeable (now table) (now fields) s × (end ≤ s .tokens) ⌝ }
-    ensures { λ r. ⌜ SinglePost (now (table .entry)) s first end row want answer r ⌝ }
-{
-    let a = operand(table, fields, s, first, end, row, want);
-    match a {
-        Judged::Fine(_) => Judged::Fine(answer),
-        Judged::Refused(number, at) => Judged::Refused(number, at),
-    }
-}
-
 // A part that must be an array, 31; the answer is the type of what it holds.
-fn array(table: &[u32], fields: &[u32], s: Scope, first: usize, end: usize, row: usize) -> Judged
-    requires { ⌜ Judgeable (now table) (now fields) s × (end ≤ s .tokens) ⌝ }
-    ensures { λ r. ⌜ ArrayPost (now (table .entry)) s first end row r ⌝ }
+fn array(table: &[u32], fields: &[u32], s: Scope, r: Range, row: usize) -> Judged
+    requires { ⌜ Judgeable (now table) (now fields) s × (r .end ≤ s .tokens) ⌝ }
+    ensures { λ q. ⌜ ArrayPost (now (table .entry)) s (r .first) (r .end) row q ⌝ }
 {
-    let e = expression(table, fields, s, first, end, row);
+    let e = expression(table, fields, s, r, row);
     match e {
         Judged::Fine(t) => {
             if t < ARRAY {
@@ -220,37 +198,29 @@ fn array(table: &[u32], fields: &[u32], s: Scope, first: usize, end: usize, row:
 }
 
 // `a[i]`.
-fn element(table: &[u32], fields: &[u32], s: Scope, first: usize, end: usize, row: usize) -> Judged
-    requires { ⌜ Judgeable (now table) (now fields) s × (first ≤ row) × (row < end) × (end ≤ s .tokens) ⌝ }
-    ensures { λ r. ⌜ NodePost (now (table .entry)) s anElement first end row r ⌝ }
+fn element(table: &[u32], fields: &[u32], s: Scope, r: Range, row: usize) -> Judged
+    requires { ⌜ Judgeable (now table) (now fields) s × (r .first ≤ row) × (row < r .end) × (r .end ≤ s .tokens) ⌝ }
+    ensures { λ q. ⌜ NodePost (now (table .entry)) s anElement (r .first) (r .end) row q ⌝ }
 {
     let left = word(table, columns::FIRST, row);
-    let a = array(table, fields, s, first, row, left);
+    let a = array(table, fields, s, before(r, row), left);
     match a {
         Judged::Fine(t) => {
             let right = word(table, columns::SECOND, row);
-            single(table, fields, s, row + 1, end, right, INT, t)
+            typed(operand(table, fields, s, behind(r, row), right, INT), t)
         }
         Judged::Refused(number, at) => Judged::Refused(number, at),
     }
 }
 
 // An operation of kind k: the left part must have a type that the operator takes, the right part must fit that type: 31.
-fn binary(
-    table: &[u32],
-    fields: &[u32],
-    s: Scope,
-    first: usize,
-    end: usize,
-    row: usize,
-    k: u32,
-) -> Judged
-    requires { ⌜ Judgeable (now table) (now fields) s × (first ≤ row) × (row < end) × (end ≤ s .tokens) ⌝ }
+fn binary(table: &[u32], fields: &[u32], s: Scope, r: Range, row: usize, k: u32) -> Judged
+    requires { ⌜ Judgeable (now table) (now fields) s × (r .first ≤ row) × (row < r .end) × (r .end ≤ s .tokens) ⌝ }
     requires { ⌜ k ≡ kindInTable (now table) (s .tokens) row ⌝ }
-    ensures { λ r. ⌜ NodePost (now (table .entry)) s aBinary first end row r ⌝ }
+    ensures { λ q. ⌜ NodePost (now (table .entry)) s aBinary (r .first) (r .end) row q ⌝ }
 {
     let left = word(table, columns::FIRST, row);
-    let a = expression(table, fields, s, first, row, left);
+    let a = expression(table, fields, s, before(r, row), left);
     match a {
         Judged::Fine(t) => {
             let answer = operation(k, t);
@@ -258,82 +228,79 @@ fn binary(
                 return Judged::Refused(codes::WRONG_TYPE, word(table, columns::BEGIN, left));
             }
             let right = word(table, columns::SECOND, row);
-            single(table, fields, s, row + 1, end, right, t, answer)
+            typed(operand(table, fields, s, behind(r, row), right, t), answer)
         }
         Judged::Refused(number, at) => Judged::Refused(number, at),
     }
 }
 
 // `new T[e]`: 24 before e.
-fn new_array(table: &[u32], fields: &[u32], s: Scope, end: usize, row: usize) -> Judged
-    requires { ⌜ Judgeable (now table) (now fields) s × (row < end) × (end ≤ s .tokens) ⌝ }
-    ensures { λ r. ⌜ NewArrayPost (now (table .entry)) s end row r ⌝ }
+fn new_array(table: &[u32], fields: &[u32], s: Scope, r: Range, row: usize) -> Judged
+    requires { ⌜ Judgeable (now table) (now fields) s × (r .first ≤ row) × (row < r .end) × (r .end ≤ s .tokens) ⌝ }
+    ensures { λ q. ⌜ NewArrayPost (now (table .entry)) s (r .end) row q ⌝ }
 {
     let t = type_of(table, s.tokens, row + 1);
     if known(table, s.tokens, t) {
         let part = word(table, columns::FIRST, row);
-        return single(table, fields, s, row + 1, end, part, INT, t);
+        let a = operand(table, fields, s, behind(r, row), part, INT);
+        return typed(a, t);
     }
     Judged::Refused(codes::TYPE_UNKNOWN, word(table, columns::START, row + 1))
 }
 
 // `new T[e]` or `new C()`.
-fn creation(table: &[u32], fields: &[u32], s: Scope, first: usize, end: usize, row: usize) -> Judged
-    requires { ⌜ Judgeable (now table) (now fields) s × (first ≤ row) × (row < end) × (end ≤ s .tokens) ⌝ }
-    ensures { λ r. ⌜ CreationPost (now (table .entry)) s first end row r ⌝ }
+fn creation(table: &[u32], fields: &[u32], s: Scope, r: Range, row: usize) -> Judged
+    requires { ⌜ Judgeable (now table) (now fields) s × (r .first ≤ row) × (row < r .end) × (r .end ≤ s .tokens) ⌝ }
+    ensures { λ q. ⌜ CreationPost (now (table .entry)) s (r .first) (r .end) row q ⌝ }
 {
     if kind(table, s.tokens, row + 2) == kinds::OPEN_BRACKET {
-        return new_array(table, fields, s, end, row);
+        return new_array(table, fields, s, r, row);
     }
     new_object(table, s.tokens, row)
 }
 
 // `e.length`.
-fn measured(table: &[u32], fields: &[u32], s: Scope, first: usize, row: usize) -> Judged
-    requires { ⌜ Judgeable (now table) (now fields) s × (row ≤ s .tokens) ⌝ }
-    ensures { λ r. ⌜ LengthPost (now (table .entry)) s first row r ⌝ }
+fn measured(table: &[u32], fields: &[u32], s: Scope, r: Range, row: usize) -> Judged
+    requires { ⌜ Judgeable (now table) (now fields) s × (r .first ≤ row) × (row < r .end) × (r .end ≤ s .tokens) ⌝ }
+    ensures { λ q. ⌜ LengthPost (now (table .entry)) s (r .first) row q ⌝ }
 {
     let part = word(table, columns::FIRST, row);
-    let a = array(table, fields, s, first, row, part);
-    match a {
-        Judged::Fine(_) => Judged::Fine(INT),
-        Judged::Refused(number, at) => Judged::Refused(number, at),
-    }
+    typed(array(table, fields, s, before(r, row), part), INT)
 }
 
 // `e.length` or a call.
-fn dotted(table: &[u32], fields: &[u32], s: Scope, first: usize, end: usize, row: usize) -> Judged
-    requires { ⌜ Judgeable (now table) (now fields) s × (first ≤ row) × (row < end) × (end ≤ s .tokens) ⌝ }
-    ensures { λ r. ⌜ DottedPost (now (table .entry)) s first end row r ⌝ }
+fn dotted(table: &[u32], fields: &[u32], s: Scope, r: Range, row: usize) -> Judged
+    requires { ⌜ Judgeable (now table) (now fields) s × (r .first ≤ row) × (row < r .end) × (r .end ≤ s .tokens) ⌝ }
+    ensures { λ q. ⌜ DottedPost (now (table .entry)) s (r .first) (r .end) row q ⌝ }
 {
     if kind(table, s.tokens, row + 1) == kinds::LENGTH {
-        return measured(table, fields, s, first, row);
+        return measured(table, fields, s, r, row);
     }
-    call(table, fields, s, first, end, row)
+    call(table, fields, s, r, row)
 }
 
 // `e.m(e, ..)`: the receiver must be an object, 31.
-fn call(table: &[u32], fields: &[u32], s: Scope, first: usize, end: usize, row: usize) -> Judged
-    requires { ⌜ Judgeable (now table) (now fields) s × (first ≤ row) × (row < end) × (end ≤ s .tokens) ⌝ }
-    ensures { λ r. ⌜ NodePost (now (table .entry)) s aCall first end row r ⌝ }
+fn call(table: &[u32], fields: &[u32], s: Scope, r: Range, row: usize) -> Judged
+    requires { ⌜ Judgeable (now table) (now fields) s × (r .first ≤ row) × (row < r .end) × (r .end ≤ s .tokens) ⌝ }
+    ensures { λ q. ⌜ NodePost (now (table .entry)) s aCall (r .first) (r .end) row q ⌝ }
 {
     let left = word(table, columns::FIRST, row);
-    let e = expression(table, fields, s, first, row, left);
+    let e = expression(table, fields, s, before(r, row), left);
     match e {
         Judged::Fine(t) => {
             if INT <= t {
                 return Judged::Refused(codes::WRONG_TYPE, word(table, columns::BEGIN, left));
             }
-            invocation(table, fields, s, end, row, t)
+            invocation(table, fields, s, behind(r, row), row, t)
         }
         Judged::Refused(number, at) => Judged::Refused(number, at),
     }
 }
 
-// The method, in a class of name c, and the arguments, which lie behind `row`: 32, 33.
-fn invocation(table: &[u32], fields: &[u32], s: Scope, end: usize, row: usize, c: usize) -> Judged
-    requires { ⌜ Judgeable (now table) (now fields) s × (row < end) × (end ≤ s .tokens) ⌝ }
-    ensures { λ r. ⌜ InvocationPost (now (table .entry)) s end row c r ⌝ }
+// The method, in a class of name c, and the arguments: 32, 33. The range is that of the arguments, behind the token in `row`.
+fn invocation(table: &[u32], fields: &[u32], s: Scope, r: Range, row: usize, c: usize) -> Judged
+    requires { ⌜ Judgeable (now table) (now fields) s × (row < r .first) × (r .end ≤ s .tokens) ⌝ }
+    ensures { λ q. ⌜ InvocationPost (now (table .entry)) s (r .first) (r .end) row c q ⌝ }
 {
     let called = word(table, columns::NUMBER, row + 1);
     let m = find_method(table, s.tokens, s.classes, c, called);
@@ -343,48 +310,27 @@ fn invocation(table: &[u32], fields: &[u32], s: Scope, end: usize, row: usize, c
     let given = word(table, columns::SECOND, row);
     let taken = word(table, columns::PARAMETERS, m);
     if same_count(table, s.tokens, given, taken) {
-        let a = arguments(table, fields, s, row + 1, end, given, taken);
-        match a {
-            Judged::Fine(_) => {
-                return Judged::Fine(type_of(table, s.tokens, word(table, columns::TYPE, m)));
-            }
-            Judged::Refused(number, at) => {
-                return Judged::Refused(number, at);
-            }
-        }
+        let a = arguments(table, fields, s, r, given, taken);
+        return typed(a, type_of(table, s.tokens, word(table, columns::TYPE, m)));
     }
     Judged::Refused(codes::ARGUMENT_COUNT, word(table, columns::START, row + 1))
 }
 
-// Arguments, each of which must fit its parameter.
-fn arguments(
-    table: &[u32],
-    fields: &[u32],
-    s: Scope,
-    first: usize,
-    end: usize,
-    row: usize,
-    parameter: usize,
-) -> Judged
-    requires { ⌜ Judgeable (now table) (now fields) s × (end ≤ s .tokens) ⌝ }
-    ensures { λ r. ⌜ ArgumentsPost (now (table .entry)) s first end row parameter r ⌝ }
+// The arguments from a row on, each of which must fit its parameter; the parameters stand from the row `taken` on.
+fn arguments(table: &[u32], fields: &[u32], s: Scope, r: Range, row: usize, taken: usize) -> Judged
+    requires { ⌜ Judgeable (now table) (now fields) s × (r .end ≤ s .tokens) ⌝ }
+    ensures { λ q. ⌜ ArgumentsPost (now (table .entry)) s (r .first) (r .end) row taken q ⌝ }
 {
     if ABSENT <= row {
         return Judged::Fine(0);
     }
-    if row < first {
-        return Judged::Refused(BROKEN, 0);
-    }
-    if end <= row {
-        return Judged::Refused(BROKEN, 0);
-    }
-    let want = type_of(table, s.tokens, word(table, columns::TYPE, parameter));
-    let a = operand(table, fields, s, first, end, row, want);
+    let want = type_of(table, s.tokens, word(table, columns::TYPE, taken));
+    let a = operand(table, fields, s, r, row, want);
     match a {
         Judged::Fine(_) => {
             let next = word(table, columns::NEXT, row);
-            let after = word(table, columns::NEXT, parameter);
-            arguments(table, fields, s, row + 1, end, next, after)
+            let after = word(table, columns::NEXT, taken);
+            arguments(table, fields, s, behind(r, row), next, after)
         }
         Judged::Refused(number, at) => Judged::Refused(number, at),
     }

@@ -1,8 +1,10 @@
-// Statements, each with what it needs of its expressions. Each has the range of tokens in which it lies, from `first` up to `end`; all its
-// parts lie behind its own token, from `row + 1` up to `end`.
+// Statements, each with what it needs of its expressions. Each has the range of tokens in which it lies. All its parts lie behind its own
+// token: a function on statements of one kind has the range of its parts, `parts`.
 use crate::expr::expression;
 use crate::expr::name;
 use crate::expr::operand;
+use crate::range::Range;
+use crate::range::behind;
 use crate::scope::Scope;
 use base::codes;
 use base::codes::BROKEN;
@@ -16,38 +18,31 @@ use lookup::types::INT;
 use parser::columns;
 use parser::columns::ABSENT;
 use parser::table::kind;
-ghost use Prim.Native.Nat.{_≤_, _<_};
+ghost use Prim.Native.Nat.{_≤_};
 ghost use Rattle.lookup.specs.contracts.Shows.{aConditional, aLoop, aPrint, anAssignment, anElementStore};
 ghost use Rattle.bodies.specs.contracts.Scoping.{Judgeable};
 ghost use Rattle.bodies.specs.contracts.StatementPost.{StatementPost, ListPost, StatementNodePost, BranchesPost, ValuePost};
 
-// Index and value of an assignment to an element, which is of type `want`; register and value of `Port.put`.
-fn index_and_value(
-    table: &[u32],
-    fields: &[u32],
-    s: Scope,
-    end: usize,
-    row: usize,
-    want: usize,
-) -> Judged
-    requires { ⌜ Judgeable (now table) (now fields) s × (row < end) × (end ≤ s .tokens) ⌝ }
-    ensures { λ r. ⌜ ValuePost (now (table .entry)) s end row want r ⌝ }
+// Where and what is stored: index and value of an assignment to an element, which is of type `want`; register and value of `Port.put`.
+fn stored(table: &[u32], fields: &[u32], s: Scope, parts: Range, row: usize, want: usize) -> Judged
+    requires { ⌜ Judgeable (now table) (now fields) s × (parts .end ≤ s .tokens) ⌝ }
+    ensures { λ r. ⌜ ValuePost (now (table .entry)) s (parts .first) (parts .end) row want r ⌝ }
 {
     let index = word(table, columns::FIRST, row);
-    let i = operand(table, fields, s, row + 1, end, index, INT);
+    let i = operand(table, fields, s, parts, index, INT);
     match i {
         Judged::Fine(_) => {
             let value = word(table, columns::SECOND, row);
-            operand(table, fields, s, row + 1, end, value, want)
+            operand(table, fields, s, parts, value, want)
         }
         Judged::Refused(number, at) => Judged::Refused(number, at),
     }
 }
 
 // An assignment to an element: the target is looked up first, and must be an array: 31 at its name.
-fn element_store(table: &[u32], fields: &[u32], s: Scope, end: usize, row: usize) -> Judged
-    requires { ⌜ Judgeable (now table) (now fields) s × (row < end) × (end ≤ s .tokens) ⌝ }
-    ensures { λ r. ⌜ StatementNodePost (now (table .entry)) s anElementStore end row r ⌝ }
+fn element_store(table: &[u32], fields: &[u32], s: Scope, parts: Range, row: usize) -> Judged
+    requires { ⌜ Judgeable (now table) (now fields) s × (parts .end ≤ s .tokens) ⌝ }
+    ensures { λ r. ⌜ StatementNodePost (now (table .entry)) s anElementStore (parts .first) (parts .end) row r ⌝ }
 {
     let x = name(table, fields, s, row);
     match x {
@@ -55,34 +50,34 @@ fn element_store(table: &[u32], fields: &[u32], s: Scope, end: usize, row: usize
             if t < ARRAY {
                 return Judged::Refused(codes::WRONG_TYPE, word(table, columns::BEGIN, row));
             }
-            index_and_value(table, fields, s, end, row, t - ARRAY)
+            stored(table, fields, s, parts, row, t - ARRAY)
         }
         Judged::Refused(number, at) => Judged::Refused(number, at),
     }
 }
 
 // An assignment: the target is looked up first.
-fn assignment(table: &[u32], fields: &[u32], s: Scope, end: usize, row: usize) -> Judged
-    requires { ⌜ Judgeable (now table) (now fields) s × (row < end) × (end ≤ s .tokens) ⌝ }
-    ensures { λ r. ⌜ StatementNodePost (now (table .entry)) s anAssignment end row r ⌝ }
+fn assignment(table: &[u32], fields: &[u32], s: Scope, parts: Range, row: usize) -> Judged
+    requires { ⌜ Judgeable (now table) (now fields) s × (parts .end ≤ s .tokens) ⌝ }
+    ensures { λ r. ⌜ StatementNodePost (now (table .entry)) s anAssignment (parts .first) (parts .end) row r ⌝ }
 {
     let x = name(table, fields, s, row);
     match x {
         Judged::Fine(t) => {
             let value = word(table, columns::FIRST, row);
-            operand(table, fields, s, row + 1, end, value, t)
+            operand(table, fields, s, parts, value, t)
         }
         Judged::Refused(number, at) => Judged::Refused(number, at),
     }
 }
 
 // `System.out.println`: what is printed must be int or fixed, 31 at it.
-fn printed(table: &[u32], fields: &[u32], s: Scope, end: usize, row: usize) -> Judged
-    requires { ⌜ Judgeable (now table) (now fields) s × (row < end) × (end ≤ s .tokens) ⌝ }
-    ensures { λ r. ⌜ StatementNodePost (now (table .entry)) s aPrint end row r ⌝ }
+fn printed(table: &[u32], fields: &[u32], s: Scope, parts: Range, row: usize) -> Judged
+    requires { ⌜ Judgeable (now table) (now fields) s × (parts .end ≤ s .tokens) ⌝ }
+    ensures { λ r. ⌜ StatementNodePost (now (table .entry)) s aPrint (parts .first) (parts .end) row r ⌝ }
 {
     let part = word(table, columns::FIRST, row);
-    let e = expression(table, fields, s, row + 1, end, part);
+    let e = expression(table, fields, s, parts, part);
     match e {
         Judged::Fine(t) => {
             if t == INT {
@@ -98,110 +93,97 @@ fn printed(table: &[u32], fields: &[u32], s: Scope, end: usize, row: usize) -> J
 }
 
 // A statement.
-pub fn single(
-    table: &[u32],
-    fields: &[u32],
-    s: Scope,
-    first: usize,
-    end: usize,
-    row: usize,
-) -> Judged
-    requires { ⌜ Judgeable (now table) (now fields) s × (end ≤ s .tokens) ⌝ }
-    ensures { λ r. ⌜ StatementPost (now (table .entry)) s first end row r ⌝ }
+pub fn single(table: &[u32], fields: &[u32], s: Scope, r: Range, row: usize) -> Judged
+    requires { ⌜ Judgeable (now table) (now fields) s × (r .end ≤ s .tokens) ⌝ }
+    ensures { λ q. ⌜ StatementPost (now (table .entry)) s (r .first) (r .end) row q ⌝ }
 {
-    if row < first {
+    if row < r.first {
         return Judged::Refused(BROKEN, 0);
     }
-    if end <= row {
+    if r.end <= row {
         return Judged::Refused(BROKEN, 0);
     }
+    let parts = behind(r, row);
     let k = kind(table, s.tokens, row);
     if k == kinds::OPEN_BRACE {
-        let part = word(table, columns::FIRST, row);
-        return list(table, fields, s, row + 1, end, part);
+        return list(table, fields, s, parts, word(table, columns::FIRST, row));
     }
     if k == kinds::IF {
-        return conditional(table, fields, s, end, row);
+        return conditional(table, fields, s, parts, row);
     }
     if k == kinds::WHILE {
-        return repeated(table, fields, s, end, row);
+        return repeated(table, fields, s, parts, row);
     }
     if k == kinds::SYSTEM {
-        return printed(table, fields, s, end, row);
+        return printed(table, fields, s, parts, row);
     }
     if k == kinds::PORT {
-        return index_and_value(table, fields, s, end, row, INT);
+        return stored(table, fields, s, parts, row, INT);
     }
     if kind(table, s.tokens, row + 1) == kinds::OPEN_BRACKET {
-        return element_store(table, fields, s, end, row);
+        return element_store(table, fields, s, parts, row);
     }
-    assignment(table, fields, s, end, row)
+    assignment(table, fields, s, parts, row)
 }
 
 // The branches of an `if`.
-fn branches(table: &[u32], fields: &[u32], s: Scope, end: usize, row: usize) -> Judged
-    requires { ⌜ Judgeable (now table) (now fields) s × (row < end) × (end ≤ s .tokens) ⌝ }
-    ensures { λ r. ⌜ BranchesPost (now (table .entry)) s end row r ⌝ }
+fn branches(table: &[u32], fields: &[u32], s: Scope, parts: Range, row: usize) -> Judged
+    requires { ⌜ Judgeable (now table) (now fields) s × (parts .end ≤ s .tokens) ⌝ }
+    ensures { λ r. ⌜ BranchesPost (now (table .entry)) s (parts .first) (parts .end) row r ⌝ }
 {
     let second = word(table, columns::SECOND, row);
-    let a = single(table, fields, s, row + 1, end, second);
+    let a = single(table, fields, s, parts, second);
     match a {
         Judged::Fine(_) => {
             let third = word(table, columns::THIRD, row);
-            single(table, fields, s, row + 1, end, third)
+            single(table, fields, s, parts, third)
         }
         Judged::Refused(number, at) => Judged::Refused(number, at),
     }
 }
 
 // `if`: its test, then both branches.
-fn conditional(table: &[u32], fields: &[u32], s: Scope, end: usize, row: usize) -> Judged
-    requires { ⌜ Judgeable (now table) (now fields) s × (row < end) × (end ≤ s .tokens) ⌝ }
-    ensures { λ r. ⌜ StatementNodePost (now (table .entry)) s aConditional end row r ⌝ }
+fn conditional(table: &[u32], fields: &[u32], s: Scope, parts: Range, row: usize) -> Judged
+    requires { ⌜ Judgeable (now table) (now fields) s × (parts .end ≤ s .tokens) ⌝ }
+    ensures { λ r. ⌜ StatementNodePost (now (table .entry)) s aConditional (parts .first) (parts .end) row r ⌝ }
 {
     let test = word(table, columns::FIRST, row);
-    let t = operand(table, fields, s, row + 1, end, test, BOOLEAN);
+    let t = operand(table, fields, s, parts, test, BOOLEAN);
     match t {
-        Judged::Fine(_) => branches(table, fields, s, end, row),
+        Judged::Fine(_) => branches(table, fields, s, parts, row),
         Judged::Refused(number, at) => Judged::Refused(number, at),
     }
 }
 
 // `while`: its test, then its body.
-fn repeated(table: &[u32], fields: &[u32], s: Scope, end: usize, row: usize) -> Judged
-    requires { ⌜ Judgeable (now table) (now fields) s × (row < end) × (end ≤ s .tokens) ⌝ }
-    ensures { λ r. ⌜ StatementNodePost (now (table .entry)) s aLoop end row r ⌝ }
+fn repeated(table: &[u32], fields: &[u32], s: Scope, parts: Range, row: usize) -> Judged
+    requires { ⌜ Judgeable (now table) (now fields) s × (parts .end ≤ s .tokens) ⌝ }
+    ensures { λ r. ⌜ StatementNodePost (now (table .entry)) s aLoop (parts .first) (parts .end) row r ⌝ }
 {
     let test = word(table, columns::FIRST, row);
-    let t = operand(table, fields, s, row + 1, end, test, BOOLEAN);
+    let t = operand(table, fields, s, parts, test, BOOLEAN);
     match t {
         Judged::Fine(_) => {
             let body = word(table, columns::SECOND, row);
-            single(table, fields, s, row + 1, end, body)
+            single(table, fields, s, parts, body)
         }
         Judged::Refused(number, at) => Judged::Refused(number, at),
     }
 }
 
 // The statements from a row on.
-pub fn list(table: &[u32], fields: &[u32], s: Scope, first: usize, end: usize, row: usize) -> Judged
-    requires { ⌜ Judgeable (now table) (now fields) s × (end ≤ s .tokens) ⌝ }
-    ensures { λ r. ⌜ ListPost (now (table .entry)) s first end row r ⌝ }
+pub fn list(table: &[u32], fields: &[u32], s: Scope, r: Range, row: usize) -> Judged
+    requires { ⌜ Judgeable (now table) (now fields) s × (r .end ≤ s .tokens) ⌝ }
+    ensures { λ q. ⌜ ListPost (now (table .entry)) s (r .first) (r .end) row q ⌝ }
 {
     if ABSENT <= row {
         return Judged::Fine(0);
     }
-    if row < first {
-        return Judged::Refused(BROKEN, 0);
-    }
-    if end <= row {
-        return Judged::Refused(BROKEN, 0);
-    }
-    let a = single(table, fields, s, first, end, row);
+    let a = single(table, fields, s, r, row);
     match a {
         Judged::Fine(_) => {
             let next = word(table, columns::NEXT, row);
-            list(table, fields, s, row + 1, end, next)
+            list(table, fields, s, behind(r, row), next)
         }
         Judged::Refused(number, at) => Judged::Refused(number, at),
     }

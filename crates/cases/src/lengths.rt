@@ -40,3 +40,17 @@ pub fn size_at(line: &[u8], k: usize, most: usize, over: Wrong) -> usize {
         Size::Refused(wrong) => refused(wrong),
     }
 }
+
+// Whether a case has as many words as it should, of which word `last` is the last.
+pub fn are_words(line: &[u8], last: usize) -> bool {
+    let count = fields::count(line);
+    if count <= last {
+        output::refuse(Wrong::Missing);
+        return false;
+    }
+    if last + 1 < count {
+        output::refuse(Wrong::Surplus);
+        return false;
+    }
+    true
+}

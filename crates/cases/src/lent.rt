@@ -1,6 +1,5 @@
 // What a case lends to its operation: a work table and a strip, each as long as the case says, and the source.
 // The words of the case are looked at from the left, and the first that is wrong is the answer.
-use crate::fields;
 use crate::lengths;
 use crate::menu_case;
 use crate::operation;
@@ -43,13 +42,8 @@ fn with_table(o: Operation, line: &[u8], space: &mut [u8], table: &mut [u32], st
 
 // Answers a case.
 pub fn answer(o: Operation, line: &[u8], space: &mut [u8], table: &mut [u32], strip: &mut [u32]) {
-    let count = fields::count(line);
-    let last = operation::source_word(o);
-    if count <= last {
-        return output::refuse(Wrong::Missing);
-    }
-    if last + 1 < count {
-        return output::refuse(Wrong::Surplus);
+    if !lengths::are_words(line, operation::source_word(o)) {
+        return;
     }
     let n = lengths::length_at(line, 1, table.len(), Wrong::TableLength);
     if table.len() < n {

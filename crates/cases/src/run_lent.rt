@@ -126,12 +126,8 @@ fn with_table(line: &[u8], space: &mut [u8], table: &mut [u32]) {
 
 // Answers a case.
 pub fn answer(line: &[u8], space: &mut [u8], table: &mut [u32]) {
-    let count = fields::count(line);
-    if count <= SOURCE_WORD {
-        return output::refuse(Wrong::Missing);
-    }
-    if SOURCE_WORD + 1 < count {
-        return output::refuse(Wrong::Surplus);
+    if !lengths::are_words(line, SOURCE_WORD) {
+        return;
     }
     let n = lengths::length_at(line, 1, table.len(), Wrong::TableLength);
     if table.len() < n {

@@ -65,13 +65,8 @@ pub fn chains(table: &[u32], heights: &mut [u32], classes: usize, left: usize, r
     if height(table, heights, classes, word(table, columns::NUMBER, row)) == 0 {
         return Judged::Refused(codes::CHAIN_ENDLESS, word(table, columns::START, row));
     }
-    chains(
-        table,
-        heights,
-        classes,
-        left - 1,
-        word(table, columns::NEXT, row),
-    )
+    let next = word(table, columns::NEXT, row);
+    chains(table, heights, classes, left - 1, next)
 }
 
 // The fields and the method heads of a class. The fields have this stamp and the methods the next.
@@ -119,15 +114,10 @@ pub fn declarations(
     }
     let m = members(table, marks, n, classes, stamp, row);
     match m {
-        Judged::Fine(_) => declarations(
-            table,
-            marks,
-            n,
-            classes,
-            left - 1,
-            stamp + 2,
-            word(table, columns::NEXT, row),
-        ),
+        Judged::Fine(_) => {
+            let next = word(table, columns::NEXT, row);
+            declarations(table, marks, n, classes, left - 1, stamp + 2, next)
+        }
         Judged::Refused(number, at) => Judged::Refused(number, at),
     }
 }

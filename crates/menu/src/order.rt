@@ -45,14 +45,8 @@ pub fn gather(
     if ABSENT <= row {
         return;
     }
-    gather(
-        table,
-        tree,
-        first,
-        next,
-        left - 1,
-        word(table, columns::NEXT, row),
-    );
+    let rest = word(table, columns::NEXT, row);
+    gather(table, tree, first, next, left - 1, rest);
     let c = above(table, row);
     if ABSENT <= c {
         enter(tree, row);

@@ -10,7 +10,7 @@ use lib.Dec.{eqb}
 use borrow.Author.Tests.{eqb-true}
 use Rattle.base.specs.Choice.{option}
 use Rattle.base.specs.contracts.Table.{col}
-use Rattle.lexer.specs.Kinds.{isName}
+use Rattle.lexer.specs.Kinds.{isName, kFixed, kNew, kNot}
 use Rattle.lexer.specs.Tokens.{Token}
 use Rattle.parser.specs.declared.answer.Answer.{Answer}
 use Rattle.parser.specs.declared.answer.Answer.the-variants.{At, Bad}
@@ -170,7 +170,7 @@ module _ {n i : ℕ} {T T₁ : List ℕ} {r₁ : Answer} (level : ℕ) (p : Mode
       refused-below (3 - level) level 3 (omega arith) (omega arith) few (operation-bad few (operand-last 3 (omega arith) (omega arith) p) e)
 
 -- `new fixed` the definition takes for an array, and it refuses `fixed` there as it does where `new C()` is looked for
-new-fixed : (ts : List Token) (i f : ℕ) → kindAt ts i ≡ 14 → kindAt ts (i + 1) ≡ 43
+new-fixed : (ts : List Token) (i f : ℕ) → kindAt ts i ≡ kNew → kindAt ts (i + 1) ≡ kFixed
     → step ts (λ s m j. parseAs (suc f) ts m j) postfix i
     ≡ bind (parseAs (suc f) ts primary i) (λ l j. parseAs (suc f) ts (suffixes true i l) j)
 unfolding step parseAs beginsType elementType isName
@@ -181,12 +181,12 @@ not-array : (T : List ℕ) (n i : ℕ) → startsArray T n i ≡ false → (ts :
     → step ts (λ s m j. parseAs f ts m j) postfix i ≡ bind (parseAs f ts primary i) (λ l j. parseAs f ts (suffixes true i l) j)
 unfolding step
 not-array T n i t ts h zero l = absurd (omega arith)
-not-array T n i t ts h (suc f) l = by (eqb (kindAt ts i) 14) refl (eqb (kindAt ts (i + 1)) 43) refl
+not-array T n i t ts h (suc f) l = by (eqb (kindAt ts i) kNew) refl (eqb (kindAt ts (i + 1)) kFixed) refl
   where
-    by : (a : Bool) → eqb (kindAt ts i) 14 ≡ a → (b : Bool) → eqb (kindAt ts (i + 1)) 43 ≡ b
+    by : (a : Bool) → eqb (kindAt ts i) kNew ≡ a → (b : Bool) → eqb (kindAt ts (i + 1)) kFixed ≡ b
         → step ts (λ s m j. parseAs (suc f) ts m j) postfix i
         ≡ bind (parseAs (suc f) ts primary i) (λ l j. parseAs (suc f) ts (suffixes true i l) j)
-    by true p true q = new-fixed ts i f (eqb-true (kindAt ts i) 14 p) (eqb-true (kindAt ts (i + 1)) 43 q)
+    by true p true q = new-fixed ts i f (eqb-true (kindAt ts i) kNew p) (eqb-true (kindAt ts (i + 1)) kFixed q)
     by true p false q = rw (makes-array T n i h, p, q, t) refl
     by false p b q = rw (makes-array T n i h, p, t) refl
 
@@ -253,7 +253,7 @@ module _ (level : ℕ) {n first left i k : ℕ} {T : List ℕ} {b : Bool} (ek : 
 
 -- UNARY
 module _ {n i k : ℕ} {T : List ℕ} (ek : k ≡ kindInTable T n i) where
-  pub negation-is : {T₁ T₂ : List ℕ} {r₁ r : Answer} → n ≤ 2048 → k ≡ 29 → ModePost unary n n (i + 1) T r₁ T₁ → OnePart i T₁ r₁ r T₂
+  pub negation-is : {T₁ T₂ : List ℕ} {r₁ r : Answer} → n ≤ 2048 → k ≡ kNot → ModePost unary n n (i + 1) T r₁ T₁ → OnePart i T₁ r₁ r T₂
       → ModePost unary n n i T r T₂
   unfolding step store
   negation-is few z p w =
@@ -261,6 +261,6 @@ module _ {n i k : ℕ} {T : List ℕ} (ek : k ≡ kindInTable T n i) where
       as-mode (omega arith) (omega arith) (λ f ts h. rw (is h i ek z) refl)
       (then-node (λ ts a. negation (placeAt ts i i) a) (λ ts a t. (refl, refl)) few il (of-mode (16 * (n - (i + 1)) + 15) (omega arith) p) w)
 
-  pub to-postfix : {T₁ : List ℕ} {r : Answer} → k ≢ 29 → ModePost postfix n n i T r T₁ → ModePost unary n n i T r T₁
+  pub to-postfix : {T₁ : List ℕ} {r : Answer} → k ≢ kNot → ModePost postfix n n i T r T₁ → ModePost unary n n i T r T₁
   unfolding step
   to-postfix q p = as-mode (omega arith) (omega arith) (λ f ts h. rw (is-not h i ek q) refl) (of-mode (fuel postfix n i) (omega arith) p)

@@ -9,7 +9,7 @@ use native.Mathlib.Omega.{arith}
 use lib.Dec.{eqb, lit<}
 use Rattle.base.specs.Choice.{if_then_else_}
 use Rattle.base.specs.contracts.Table.{put}
-use Rattle.lexer.specs.Kinds.{isName}
+use Rattle.lexer.specs.Kinds.{isName, kClass, kExtends, kOpenBrace, kPublic}
 use Rattle.lexer.specs.Tokens.{Token}
 use Rattle.parser.specs.declared.answer.Answer.{Answer}
 use Rattle.parser.specs.declared.answer.Answer.the-variants.{At, Bad}
@@ -132,7 +132,7 @@ opened-ends p e = within-ok e (p .piece .within)
 module _ {c : Bool} {n j : ℕ} {T T₁ : List ℕ} {r₁ : Answer} (few : n ≤ 2048) (p : OpenedPost c n j T r₁ T₁) where
   opened-bad : {B : Type 0} {S : Stored B} {y : ℕ} {base : List ℕ} {ts : List Token} {f : ℕ} (g : List Variable → ℕ → Parsed B) → r₁ ≡ Bad y
       → TokensIn T n ts
-      → 16 * (n - j) < f → Met S base T₁ (Bad y) (expect ts 38 j λ j. bind (variablesFrom f c ts j) g)
+      → 16 * (n - j) < f → Met S base T₁ (Bad y) (expect ts kOpenBrace j λ j. bind (variablesFrom f c ts j) g)
   opened-bad {ts = ts} {f} g e h en = at-result (headed ts 38 j (variablesFrom f c ts) g) (bind-bad g e (p .piece .says ts h f en))
 
   module _ {x m : ℕ} (e : r₁ ≡ At x m) where
@@ -144,7 +144,7 @@ module _ {c : Bool} {n j : ℕ} {T T₁ : List ℕ} {r₁ : Answer} (few : n ≤
         → 16 * (n - j) < f
         → ((vs : List Variable) → x ≡ rowVariables vs → T₁ ≡ storeVariables vs T → TokensIn T₁ n ts → 16 * (n - m) + 3 < f
         → Met S base T₂ r (g vs m))
-        → Met S base T₂ r (expect ts 38 j λ j. bind (variablesFrom f c ts j) g)
+        → Met S base T₂ r (expect ts kOpenBrace j λ j. bind (variablesFrom f c ts j) g)
     opened-on {ts = ts} {f} g h en on =
         let w = opened-ends p e in
         at-result (headed ts 38 j (variablesFrom f c ts) g)
@@ -179,7 +179,7 @@ ends-there e s h = subst EndsNext e (next s h)
     next (missing e) h = tt
     next nothing h = tt
 
-module _ {n i : ℕ} {T T₁ : List ℕ} {r₁ r₂ : Answer} (few : n ≤ 2048) (z : kindInTable T n i ≡ 15) (p : DeclPost aVariable n (i + 1) T r₁ T₁)
+module _ {n i : ℕ} {T T₁ : List ℕ} {r₁ r₂ : Answer} (few : n ≤ 2048) (z : kindInTable T n i ≡ kPublic) (p : DeclPost aVariable n (i + 1) T r₁ T₁)
     (s : Follows T₁ n 34 r₁ r₂) where
   pub method-bad : {y : ℕ} → r₂ ≡ Bad y → DeclPost aMethod n i T (Bad y) T₁
   unfolding methodFrom
@@ -222,17 +222,17 @@ is-more-methods : (m : Method) (ms : List Method) (t : List ℕ)
 unfolding storeMethods
 is-more-methods m ms t = (refl, refl)
 
-more-methods : (T : List ℕ) (n i : ℕ) → kindInTable T n i ≡ 15 → (f : ℕ) (ts : List Token) → TokensIn T n ts
+more-methods : (T : List ℕ) (n i : ℕ) → kindInTable T n i ≡ kPublic → (f : ℕ) (ts : List Token) → TokensIn T n ts
     → methodsFrom (suc f) ts i ≡ bind (methodFrom f ts i) λ m j. bind (methodsFrom f ts j) λ ms j. ok (m ∷ ms) j
 unfolding methodsFrom
 more-methods T n i z f ts h = rw (is h i refl z) refl
 
 module _ {n i k : ℕ} {T : List ℕ} (ek : k ≡ kindInTable T n i) where
-  pub methods-end : i ≤ n → k ≢ 15 → DeclPost methodList n i T (At 2048 i) T
+  pub methods-end : i ≤ n → k ≢ kPublic → DeclPost methodList n i T (At 2048 i) T
   unfolding methodsFrom storeMethods
   methods-end le z = list-end methodList [] (omega arith) le (omega arith) refl refl (λ f ts h. rw (is-not h i ek z) refl)
 
-  module _ {T₁ : List ℕ} {r₁ : Answer} (few : n ≤ 2048) (z : k ≡ 15) (p : DeclPost aMethod n i T r₁ T₁) where
+  module _ {T₁ : List ℕ} {r₁ : Answer} (few : n ≤ 2048) (z : k ≡ kPublic) (p : DeclPost aMethod n i T r₁ T₁) where
     pub methods-bad : {y : ℕ} → r₁ ≡ Bad y → DeclPost methodList n i T (Bad y) T₁
     methods-bad e =
         list-bad methodList i _∷_ few (of-declaration (16 * (n - i) + 2) (omega arith) p) (omega arith) (more-methods T n i (sym ek ∙ z)) e
@@ -246,12 +246,12 @@ module _ {n i k : ℕ} {T : List ℕ} (ek : k ≡ kindInTable T n i) where
 
 -- CLASSES
 module _ {n i k : ℕ} {T : List ℕ} (ek : k ≡ kindInTable T n i) where
-  pub parent-none : i ≤ n → k ≢ 8 → DeclPost aParent n i T (At 2048 i) T
+  pub parent-none : i ≤ n → k ≢ kExtends → DeclPost aParent n i T (At 2048 i) T
   unfolding parentFrom
   parent-none le z =
       record { kept = refl; within = (omega arith, le, omega arith); says = λ ts h f enough. rw (is-not h i ek z) (met-ok refl refl) }
 
-  module _ {k₁ : ℕ} {b : Bool} (z : k ≡ 8) (ek₁ : k₁ ≡ kindInTable T n (i + 1)) (eb : b ≡ isName k₁) where
+  module _ {k₁ : ℕ} {b : Bool} (z : k ≡ kExtends) (ek₁ : k₁ ≡ kindInTable T n (i + 1)) (eb : b ≡ isName k₁) where
     pub parent-some : n ≤ 2048 → b ≡ true → DeclPost aParent n i T (At (i + 1) (i + 2)) T
     unfolding parentFrom
     parent-some few t =
@@ -313,11 +313,11 @@ module _ {n name above j : ℕ} {T T₁ : List ℕ} {r₁ : Answer} (few : n ≤
       }
 
 module _ {n i k : ℕ} {T : List ℕ} (ek : k ≡ kindInTable T n i) where
-  pub class-missing : k ≢ 6 → DeclPost aClass n i T (Bad i) T
+  pub class-missing : k ≢ kClass → DeclPost aClass n i T (Bad i) T
   unfolding classFrom
   class-missing z = record { kept = refl; within = tt; says = λ ts h f enough. rw (is-not h i ek z) met-bad }
 
-  module _ {k₁ : ℕ} {b : Bool} (z : k ≡ 6) (ek₁ : k₁ ≡ kindInTable T n (i + 1)) (eb : b ≡ isName k₁) where
+  module _ {k₁ : ℕ} {b : Bool} (z : k ≡ kClass) (ek₁ : k₁ ≡ kindInTable T n (i + 1)) (eb : b ≡ isName k₁) where
     pub class-name : b ≡ false → DeclPost aClass n i T (Bad (i + 1)) T
     unfolding classFrom
     class-name t =

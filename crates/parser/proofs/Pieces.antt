@@ -11,6 +11,7 @@ use borrow.Author.Tests.{eq-eqb}
 use Rattle.base.specs.Choice.{if_then_else_}
 use Rattle.base.specs.contracts.Table.{col, put}
 use Rattle.lexer.specs.Tokens.{Token}
+use Rattle.lexer.specs.Kinds.{kClose, kComma}
 use Rattle.parser.specs.declared.answer.Answer.{Answer}
 use Rattle.parser.specs.declared.answer.Answer.the-variants.{At, Bad}
 use Rattle.parser.specs.Tree.{Sort, Sort.arguments, Sort.statements, Part}
@@ -90,8 +91,8 @@ bind-same e out = refl
 -- what goes on after a member of a list in parentheses; R is the definition of the rest
 abbrev pub member : {A B : Type 0} → List Token → (cons : A → B → B) (nil : B) → (ℕ → Parsed B) → A → ℕ → Parsed B
 member ts cons nil R a j =
-    if eqb (kindAt ts j) 35 then (λ _. ok (cons a nil) (j + 1)) else λ _.
-    expect ts 32 j λ j. bind (R j) λ b j. ok (cons a b) j
+    if eqb (kindAt ts j) kClose then (λ _. ok (cons a nil) (j + 1)) else λ _.
+    expect ts kComma j λ j. bind (R j) λ b j. ok (cons a b) j
 
 -- a token that follows is there
 pub follows-within : (low n top : ℕ) {T : List ℕ} {q : ℕ} {r r′ : Answer} → Follows T n q r r′ → 0 < q → Within low n top r
@@ -191,7 +192,7 @@ module _ {A : Type 0} {S : Stored A} {P : ℕ → List Token → Parsed A} {enou
       (is-cons : (a : A) (b : B) (t : List ℕ) → (S .row a ≡ L .row (cons a b)) × (put (L .write b (S .write a t)) 6 (S .row a) (L .row b) ≡ L .write (cons a b) t))
       (is-nil : (t : List ℕ) → (L .row nil ≡ 2048) × (L .write nil t ≡ t)) (R : ℕ → List Token → ℕ → Parsed B) {x j k : ℕ} (high : top ≤ 2049)
       (e : r ≡ At x j) (ek : k ≡ kindInTable T₁ n j) where
-    pub last-member : {T₂ : List ℕ} → k ≡ 35 → T₂ ≡ put T₁ 6 x 2048
+    pub last-member : {T₂ : List ℕ} → k ≡ kClose → T₂ ≡ put T₁ 6 x 2048
         → PiecePost L (λ f ts. bind (P f ts) (member ts cons nil (R f ts))) enough low n 2049 T (At x (j + 1)) T₂
     last-member z eT =
         let jl = there T₁ n j k 35 ek z (omega arith) in
@@ -200,11 +201,11 @@ module _ {A : Type 0} {S : Stored A} {P : ℕ → List Token → Parsed A} {enou
         (λ ts h f en a ea ta. let m = is-cons a nil T in rw (is h j ek z)
         (met-ok (ea ∙ m .0) (eT ∙ rw (ea, ta) (rw (is-nil (S .write a T) .0, is-nil (S .write a T) .1) at (m .1)))))
 
-    pub no-member : k ≢ 35 → k ≢ 32 → PiecePost L (λ f ts. bind (P f ts) (member ts cons nil (R f ts))) enough low n 2049 T (Bad j) T₁
+    pub no-member : k ≢ kClose → k ≢ kComma → PiecePost L (λ f ts. bind (P f ts) (member ts cons nil (R f ts))) enough low n 2049 T (Bad j) T₁
     no-member z z′ =
         then-on (λ f ts. member ts cons nil (R f ts)) e refl tt (λ ts h f en a ea ta. rw (is-not h j ek z, is-not h j ek z′) met-bad)
 
-    pub more-members : {low₂ : ℕ} {r₂ r′ : Answer} {T₂ T₃ : List ℕ} → k ≡ 32 → low ≤ low₂
+    pub more-members : {low₂ : ℕ} {r₂ r′ : Answer} {T₂ T₃ : List ℕ} → k ≡ kComma → low ≤ low₂
         → PiecePost L (λ f ts. R f ts (j + 1)) enough low₂ n 2049 T₁ r₂ T₂
         → ListOf x T₂ r₂ r′ T₃ → PiecePost L (λ f ts. bind (P f ts) (member ts cons nil (R f ts))) enough low n 2049 T r′ T₃
     more-members {low₂} {T₂ = T₂} z le q s =

@@ -12,6 +12,7 @@ use Rattle.base.specs.Choice.{option}
 use Rattle.base.specs.contracts.Table.{col, put}
 use Rattle.base.specs.laws.Tests.{and-true, or-neither}
 use Rattle.lexer.specs.Kinds.{isName}
+use Rattle.lexer.specs.Kinds.{kClose, kCloseBracket, kComma, kDot, kFalse, kFixed, kFixedLiteral, kLength, kLiteral, kNew, kOpen, kOpenBracket, kPort, kThis, kTrue}
 use Rattle.lexer.specs.Tokens.{Token, decimal, thousandthsOf}
 use Rattle.lexer.specs.laws.ItemLaws.{kinds-apart}
 use Rattle.parser.specs.declared.answer.Answer.{Answer}
@@ -51,24 +52,24 @@ unfolding store
 is-new-array p u e t = refl
 
 module _ (T : List ℕ) (n i k : ℕ) (ek : k ≡ kindInTable T n i) where
-  pub after-new : {k₁ k₂ : ℕ} {b : Bool} → k ≡ 14 → k₂ ≡ kindInTable T n (i + 2) → k₁ ≡ kindInTable T n (i + 1)
-      → b ≡ beginsElement k₁ (eqb k₂ 36) → b ≡ startsArray T n i
+  pub after-new : {k₁ k₂ : ℕ} {b : Bool} → k ≡ kNew → k₂ ≡ kindInTable T n (i + 2) → k₁ ≡ kindInTable T n (i + 1)
+      → b ≡ beginsElement k₁ (eqb k₂ kOpenBracket) → b ≡ startsArray T n i
   unfolding startsArray
   after-new z ek₂ ek₁ eb = rw (← ek, z, ← ek₁, ← ek₂) eb
 
-  pub no-new : k ≢ 14 → false ≡ startsArray T n i
+  pub no-new : k ≢ kNew → false ≡ startsArray T n i
   unfolding startsArray
-  no-new z = rw (← ek, ne-eqb k 14 z) refl
+  no-new z = rw (← ek, ne-eqb k kNew z) refl
 
 module _ (T : List ℕ) (n i : ℕ) (pre : startsArray T n i ≡ true) where
   -- the element type after `new`
   element-after : {ts : List Token} → TokensIn T n ts → ElementRead ts (i + 1)
-  element-after {ts} h = element-read ts (i + 1) _ (and-true (eqb (kindAt ts i) 14) _ (sym (array-told T n i h) ∙ pre) .1)
+  element-after {ts} h = element-read ts (i + 1) _ (and-true (eqb (kindAt ts i) kNew) _ (sym (array-told T n i h) ∙ pre) .1)
 
   -- it begins an array by the definition too
   an-array : {ts : List Token} → TokensIn T n ts
-      → (eqb (kindAt ts i) 14 && beginsType (kindAt ts (i + 1)) (eqb (kindAt ts (i + 2)) 36)) ≡ true
-  an-array {ts} h = makes-array T n i h ∙ rw pre (or-true (eqb (kindAt ts i) 14 && eqb (kindAt ts (i + 1)) 43))
+      → (eqb (kindAt ts i) kNew && beginsType (kindAt ts (i + 1)) (eqb (kindAt ts (i + 2)) kOpenBracket)) ≡ true
+  an-array {ts} h = makes-array T n i h ∙ rw pre (or-true (eqb (kindAt ts i) kNew && eqb (kindAt ts (i + 1)) kFixed))
 
   -- what follows the length
   abbrev sized : ℕ → List Token → Expression → ℕ → Parsed Expression
@@ -76,15 +77,15 @@ module _ (T : List ℕ) (n i : ℕ) (pre : startsArray T n i ≡ true) where
       option (elementType ts (i + 1)) (bad (i + 1)) λ t.
       parseAs f ts (suffixes false i (newArray (placeAt ts i i) (elementAt ts (i + 1) t) a)) j
 
-  array-steps : {k : ℕ} → k ≡ kindInTable T n (i + 2) → k ≡ 36 → (f : ℕ) (ts : List Token) → TokensIn T n ts
+  array-steps : {k : ℕ} → k ≡ kindInTable T n (i + 2) → k ≡ kOpenBracket → (f : ℕ) (ts : List Token) → TokensIn T n ts
       → step ts (λ s m j. parseAs f ts m j) postfix i ≡ bind (andToken ts 37 (parseAs f ts anExpression (i + 3))) (sized f ts)
   unfolding step
   array-steps ek z f ts h =
-      let opened : step ts (λ s m j. parseAs f ts m j) postfix i ≡ bind (parseAs f ts anExpression (i + 3)) (λ a j. expect ts 37 j λ j. sized f ts a j) =
+      let opened : step ts (λ s m j. parseAs f ts m j) postfix i ≡ bind (parseAs f ts anExpression (i + 3)) (λ a j. expect ts kCloseBracket j λ j. sized f ts a j) =
       rw (an-array h, element-after h .read, is h (i + 2) ek z, plus-three i) refl in
       opened ∙ regroup ts 37 (sized f ts) (parseAs f ts anExpression (i + 3))
 
-  module _ {k : ℕ} {T₁ : List ℕ} {r₁ r₂ : Answer} (few : n ≤ 2048) (ek : k ≡ kindInTable T n (i + 2)) (z : k ≡ 36)
+  module _ {k : ℕ} {T₁ : List ℕ} {r₁ r₂ : Answer} (few : n ≤ 2048) (ek : k ≡ kindInTable T n (i + 2)) (z : k ≡ kOpenBracket)
       (p : ModePost (operation (levelAt 0)) n n (i + 3) T r₁ T₁) (s : Follows T₁ n 37 r₁ r₂) where
     pub array-bad : {y : ℕ} → r₂ ≡ Bad y → ModePost postfix n n i T (Bad y) T₁
     unfolding levelAt
@@ -109,7 +110,7 @@ module _ (T : List ℕ) (n i : ℕ) (pre : startsArray T n i ≡ true) where
         (q .says (newArray (placeAt ts i i) u a) T refl
         (made T₂ i i x 2048 h (omega arith) eT ∙ cc (is-new-array (placeAt ts i i) u a T)) ts (tokens-kept few same h) f (omega arith))))
 
-  pub array-open : {k : ℕ} → k ≡ kindInTable T n (i + 2) → k ≢ 36 → ModePost postfix n n i T (Bad (i + 2)) T
+  pub array-open : {k : ℕ} → k ≡ kindInTable T n (i + 2) → k ≢ kOpenBracket → ModePost postfix n n i T (Bad (i + 2)) T
   unfolding step
   array-open ek q =
       record {
@@ -138,7 +139,7 @@ module _ {n first left i : ℕ} {T : List ℕ} where
       → RestPost (moreSuffixes b first) n left i T r T₁
   suffix-element {T₁} {r} e p = subst (λ (b : Bool). RestPost (moreSuffixes b first) n left i T r T₁) (sym e) p
 
-  pub suffix-closed : {k : ℕ} {b : Bool} → k ≡ kindInTable T n i → k ≡ 36 → b ≡ false → RestPost (moreSuffixes b first) n left i T (Bad i) T
+  pub suffix-closed : {k : ℕ} {b : Bool} → k ≡ kindInTable T n i → k ≡ kOpenBracket → b ≡ false → RestPost (moreSuffixes b first) n left i T (Bad i) T
   unfolding step
   suffix-closed {k} {b} ek z t =
       record {
@@ -147,8 +148,8 @@ module _ {n first left i : ℕ} {T : List ℕ} where
         says = λ l base el et ts h. stepped (suffixes b first l) ts i (16 * (n - i)) (λ f enough. rw (is h i ek z, t) met-bad);
       }
 
-  pub suffix-length : {k k′ : ℕ} {b : Bool} {T₁ T₂ : List ℕ} {r : Answer} → n ≤ 2048 → first < n → k ≡ kindInTable T n i → k ≡ 31
-      → k′ ≡ kindInTable T n (i + 1) → k′ ≡ 12
+  pub suffix-length : {k k′ : ℕ} {b : Bool} {T₁ T₂ : List ℕ} {r : Answer} → n ≤ 2048 → first < n → k ≡ kindInTable T n i → k ≡ kDot
+      → k′ ≡ kindInTable T n (i + 1) → k′ ≡ kLength
       → T₁ ≡ node T i (col T 1 first) left 2048 → RestPost (moreSuffixes true first) n i (i + 2) T₁ r T₂
       → RestPost (moreSuffixes b first) n left i T r T₂
   unfolding step
@@ -163,7 +164,7 @@ module _ {n first left i : ℕ} {T : List ℕ} where
             ts (tokens-kept few same h) f (omega arith)));
       }
 
-  pub suffix-none : {k : ℕ} {b : Bool} → i ≤ n → left < n → k ≡ kindInTable T n i → k ≢ 36 → k ≢ 31
+  pub suffix-none : {k : ℕ} {b : Bool} → i ≤ n → left < n → k ≡ kindInTable T n i → k ≢ kOpenBracket → k ≢ kDot
       → RestPost (moreSuffixes b first) n left i T (At left i) T
   unfolding step
   suffix-none {k} {b} le lt ek z z′ =
@@ -174,7 +175,7 @@ module _ {n first left i : ℕ} {T : List ℕ} where
       }
 
   -- `[e]`
-  module _ {T₁ : List ℕ} {r₁ r₂ : Answer} (few : n ≤ 2048) (z : kindInTable T n i ≡ 36) (p : ModePost (operation (levelAt 0)) n n (i + 1) T r₁ T₁)
+  module _ {T₁ : List ℕ} {r₁ r₂ : Answer} (few : n ≤ 2048) (z : kindInTable T n i ≡ kOpenBracket) (p : ModePost (operation (levelAt 0)) n n (i + 1) T r₁ T₁)
       (s : Follows T₁ n 37 r₁ r₂) where
     pub element-bad : {y : ℕ} → r₂ ≡ Bad y → RestPost (moreSuffixes true first) n left i T (Bad y) T₁
     unfolding step levelAt
@@ -208,10 +209,10 @@ module _ {n first left i : ℕ} {T : List ℕ} where
         }
 
   -- `.m(e, ..)`
-  module _ {b : Bool} (z : kindInTable T n i ≡ 31) (z₁ : kindInTable T n (i + 1) ≡ 12 → ⊥) where
+  module _ {b : Bool} (z : kindInTable T n i ≡ kDot) (z₁ : kindInTable T n (i + 1) ≡ kLength → ⊥) where
     pub call-ok : {k k₂ x j : ℕ} {c : Bool} {T₁ T₂ T₃ : List ℕ} {r₁ r : Answer} → n ≤ 2048 → first < n → k ≡ kindInTable T n (i + 1)
         → c ≡ isName k → c ≡ true
-        → k₂ ≡ kindInTable T n (i + 2) → k₂ ≡ 34 → ModePost argumentList n 2049 (i + 3) T r₁ T₁ → r₁ ≡ At x j
+        → k₂ ≡ kindInTable T n (i + 2) → k₂ ≡ kOpen → ModePost argumentList n 2049 (i + 3) T r₁ T₁ → r₁ ≡ At x j
         → T₂ ≡ node T₁ i (col T₁ 1 first) left x
         → RestPost (moreSuffixes true first) n i j T₂ r T₃ → RestPost (moreSuffixes b first) n left i T r T₃
     unfolding step
@@ -230,7 +231,7 @@ module _ {n first left i : ℕ} {T : List ℕ} where
         }
 
     pub call-bad : {k k₂ y : ℕ} {c : Bool} {T₁ : List ℕ} {r₁ : Answer} → k ≡ kindInTable T n (i + 1) → c ≡ isName k → c ≡ true
-        → k₂ ≡ kindInTable T n (i + 2) → k₂ ≡ 34 → ModePost argumentList n 2049 (i + 3) T r₁ T₁ → r₁ ≡ Bad y
+        → k₂ ≡ kindInTable T n (i + 2) → k₂ ≡ kOpen → ModePost argumentList n 2049 (i + 3) T r₁ T₁ → r₁ ≡ Bad y
         → RestPost (moreSuffixes b first) n left i T (Bad y) T₁
     unfolding step
     call-bad {k} {k₂} {y} {c} {T₁} {r₁} ek ec t ek₂ z₂ p e =
@@ -242,7 +243,7 @@ module _ {n first left i : ℕ} {T : List ℕ} where
               rw (is h i refl z, is-not h (i + 1) refl z₁, passes h isName (i + 1) ek (sym ec ∙ t), plus-two i, is h (i + 2) ek₂ z₂, plus-three i) (bind-bad _ e (p .says ts h f (omega arith))));
         }
 
-    pub call-open : {k k₂ : ℕ} {c : Bool} → k ≡ kindInTable T n (i + 1) → c ≡ isName k → c ≡ true → k₂ ≡ kindInTable T n (i + 2) → k₂ ≢ 34
+    pub call-open : {k k₂ : ℕ} {c : Bool} → k ≡ kindInTable T n (i + 1) → c ≡ isName k → c ≡ true → k₂ ≡ kindInTable T n (i + 2) → k₂ ≢ kOpen
         → RestPost (moreSuffixes b first) n left i T (Bad (i + 2)) T
     unfolding step
     call-open {k} {k₂} {c} ek ec t ek₂ z₂ =
@@ -268,19 +269,19 @@ module _ {n first left i : ℕ} {T : List ℕ} where
 
 -- what an expression of one token is
 data Atom (k : ℕ) : Type 0 where
-  a-fixed-literal : k ≡ 44 → Atom k
-  a-literal : k ≡ 4 → Atom k
-  a-true : k ≡ 21 → Atom k
-  a-false : k ≡ 9 → Atom k
-  a-this : k ≡ 20 → Atom k
+  a-fixed-literal : k ≡ kFixedLiteral → Atom k
+  a-literal : k ≡ kLiteral → Atom k
+  a-true : k ≡ kTrue → Atom k
+  a-false : k ≡ kFalse → Atom k
+  a-this : k ≡ kThis → Atom k
   a-name : isName k ≡ true → Atom k
 
 atom : (k : ℕ) → isAtom k ≡ true → Atom k
 unfolding isAtom
-atom k = go (eqb k 44) refl (eqb k 4) refl (eqb k 21) refl (eqb k 9) refl (eqb k 20) refl
+atom k = go (eqb k kFixedLiteral) refl (eqb k kLiteral) refl (eqb k kTrue) refl (eqb k kFalse) refl (eqb k kThis) refl
   where
-    go : (x : Bool) → eqb k 44 ≡ x → (a : Bool) → eqb k 4 ≡ a → (b : Bool) → eqb k 21 ≡ b → (c : Bool) → eqb k 9 ≡ c
-        → (d : Bool) → eqb k 20 ≡ d → (x || a || b || c || d || isName k) ≡ true → Atom k
+    go : (x : Bool) → eqb k kFixedLiteral ≡ x → (a : Bool) → eqb k kLiteral ≡ a → (b : Bool) → eqb k kTrue ≡ b → (c : Bool) → eqb k kFalse ≡ c
+        → (d : Bool) → eqb k kThis ≡ d → (x || a || b || c || d || isName k) ≡ true → Atom k
     go true e a _ b _ c _ d _ t = a-fixed-literal (eqb→eq k 44 (subst T (sym e) tt))
     go false _ true e b _ c _ d _ t = a-literal (eqb→eq k 4 (subst T (sym e) tt))
     go false _ false _ true e c _ d _ t = a-true (eqb→eq k 21 (subst T (sym e) tt))
@@ -345,25 +346,25 @@ module _ {n i : ℕ} {T : List ℕ} where
             at-result (o .read) (met-ok (o .row) (made T₁ i i 2048 2048 h il eT ∙ sym (o .lies T))));
       }
 
-  pub no-primary : {k : ℕ} {b : Bool} → k ≡ kindInTable T n i → b ≡ isAtom k → b ≡ false → k ≢ 14 → k ≢ 34 → k ≢ 40
+  pub no-primary : {k : ℕ} {b : Bool} → k ≡ kindInTable T n i → b ≡ isAtom k → b ≡ false → k ≢ kNew → k ≢ kOpen → k ≢ kPort
       → ModePost primary n n i T (Bad i) T
   unfolding step isAtom
   no-primary {k} {b} ek eb t z z′ z″ =
-      let q₅ = or-neither (eqb k 44 || eqb k 4 || eqb k 21 || eqb k 9 || eqb k 20) (isName k) (sym eb ∙ t) in
-      let q₄ = or-neither (eqb k 44 || eqb k 4 || eqb k 21 || eqb k 9) (eqb k 20) (q₅ .0) in
-      let q₃ = or-neither (eqb k 44 || eqb k 4 || eqb k 21) (eqb k 9) (q₄ .0) in
-      let q₂ = or-neither (eqb k 44 || eqb k 4) (eqb k 21) (q₃ .0) in
-      let q₁ = or-neither (eqb k 44) (eqb k 4) (q₂ .0) in
+      let q₅ = or-neither (eqb k kFixedLiteral || eqb k kLiteral || eqb k kTrue || eqb k kFalse || eqb k kThis) (isName k) (sym eb ∙ t) in
+      let q₄ = or-neither (eqb k kFixedLiteral || eqb k kLiteral || eqb k kTrue || eqb k kFalse) (eqb k kThis) (q₅ .0) in
+      let q₃ = or-neither (eqb k kFixedLiteral || eqb k kLiteral || eqb k kTrue) (eqb k kFalse) (q₄ .0) in
+      let q₂ = or-neither (eqb k kFixedLiteral || eqb k kLiteral) (eqb k kTrue) (q₃ .0) in
+      let q₁ = or-neither (eqb k kFixedLiteral) (eqb k kLiteral) (q₂ .0) in
       record {
         kept = refl;
         within = tt;
         says = λ ts h. stepped primary ts i (fuel primary n i) (λ f enough.
-            rw (kind-of h i ek, q₁ .1, q₁ .0, q₂ .1, q₃ .1, q₅ .1, q₄ .1, ne-eqb k 14 z, ne-eqb k 34 z′, ne-eqb k 40 z″) met-bad);
+            rw (kind-of h i ek, q₁ .1, q₁ .0, q₂ .1, q₃ .1, q₅ .1, q₄ .1, ne-eqb k kNew z, ne-eqb k kOpen z′, ne-eqb k kPort z″) met-bad);
       }
 
   -- `new C()`
-  module _ (z : kindInTable T n i ≡ 14) {k₁ : ℕ} {c : Bool} (ek : k₁ ≡ kindInTable T n (i + 1)) (ec : c ≡ isName k₁) where
-    pub object-ok : {k₂ k₃ : ℕ} {T₁ : List ℕ} → c ≡ true → k₂ ≡ kindInTable T n (i + 2) → k₂ ≡ 34 → k₃ ≡ kindInTable T n (i + 3) → k₃ ≡ 35
+  module _ (z : kindInTable T n i ≡ kNew) {k₁ : ℕ} {c : Bool} (ek : k₁ ≡ kindInTable T n (i + 1)) (ec : c ≡ isName k₁) where
+    pub object-ok : {k₂ k₃ : ℕ} {T₁ : List ℕ} → c ≡ true → k₂ ≡ kindInTable T n (i + 2) → k₂ ≡ kOpen → k₃ ≡ kindInTable T n (i + 3) → k₃ ≡ kClose
         → T₁ ≡ node T i (col T 1 i) 2048 2048 → ModePost primary n n i T (At i (i + 4)) T₁
     unfolding step isName
     object-ok {k₂} {k₃} {T₁} t ek₂ z₂ ek₃ z₃ eT =
@@ -376,7 +377,7 @@ module _ {n i : ℕ} {T : List ℕ} where
               (met-ok refl (made T₁ i i 2048 2048 h (omega arith) eT ∙ sym (is-new-object (placeAt ts i i) (nameAt ts (i + 1)) T))));
         }
 
-    pub object-close : {k₂ k₃ : ℕ} → c ≡ true → k₂ ≡ kindInTable T n (i + 2) → k₂ ≡ 34 → k₃ ≡ kindInTable T n (i + 3) → k₃ ≢ 35
+    pub object-close : {k₂ k₃ : ℕ} → c ≡ true → k₂ ≡ kindInTable T n (i + 2) → k₂ ≡ kOpen → k₃ ≡ kindInTable T n (i + 3) → k₃ ≢ kClose
         → ModePost primary n n i T (Bad (i + 3)) T
     unfolding step isName
     object-close t ek₂ z₂ ek₃ z₃ =
@@ -387,7 +388,7 @@ module _ {n i : ℕ} {T : List ℕ} where
               rw (is h i refl z, passes h isName (i + 1) ek (sym ec ∙ t), plus-two i, is h (i + 2) ek₂ z₂, plus-three i, is-not h (i + 3) ek₃ z₃) met-bad);
         }
 
-    pub object-open : {k₂ : ℕ} → c ≡ true → k₂ ≡ kindInTable T n (i + 2) → k₂ ≢ 34 → ModePost primary n n i T (Bad (i + 2)) T
+    pub object-open : {k₂ : ℕ} → c ≡ true → k₂ ≡ kindInTable T n (i + 2) → k₂ ≢ kOpen → ModePost primary n n i T (Bad (i + 2)) T
     unfolding step isName
     object-open t ek₂ z₂ =
         record {
@@ -407,10 +408,10 @@ module _ {n i : ℕ} {T : List ℕ} where
         }
 
   -- `(e)`
-  module _ (z : kindInTable T n i ≡ 34) where
+  module _ (z : kindInTable T n i ≡ kOpen) where
     pub parentheses-ok : {x j k : ℕ} {T₁ : List ℕ} {r₁ : Answer} → n ≤ 2048 → ModePost (operation (levelAt 0)) n n (i + 1) T r₁ T₁
         → r₁ ≡ At x j
-        → k ≡ kindInTable T₁ n j → k ≡ 35 → ModePost primary n n i T (At x (j + 1)) T₁
+        → k ≡ kindInTable T₁ n j → k ≡ kClose → ModePost primary n n i T (At x (j + 1)) T₁
     unfolding step levelAt isName
     parentheses-ok {x} {j} {k} {T₁} {r₁} few p e ek z′ =
         let il = there T n i _ 34 refl z (omega arith) in
@@ -425,7 +426,7 @@ module _ {n i : ℕ} {T : List ℕ} where
 
     pub parentheses-close : {x j k : ℕ} {T₁ : List ℕ} {r₁ : Answer} → n ≤ 2048 → ModePost (operation (levelAt 0)) n n (i + 1) T r₁ T₁
         → r₁ ≡ At x j
-        → k ≡ kindInTable T₁ n j → k ≢ 35 → ModePost primary n n i T (Bad j) T₁
+        → k ≡ kindInTable T₁ n j → k ≢ kClose → ModePost primary n n i T (Bad j) T₁
     unfolding step levelAt isName
     parentheses-close {x} {j} {k} {T₁} {r₁} few p e ek z′ =
         let il = there T n i _ 34 refl z (omega arith) in
@@ -454,13 +455,13 @@ module _ (i f : ℕ) (ts : List Token) where
   got e j = ok (portGet (placeAt ts i i) e) j
 
   abbrev getting : ℕ → Parsed Expression
-  getting j = bind (parseAs f ts anExpression j) λ e j. expect ts 35 j (got e)
+  getting j = bind (parseAs f ts anExpression j) λ e j. expect ts kClose j (got e)
 
-  is-getting : kindAt ts i ≡ 40 → step ts (λ s m j. parseAs f ts m j) primary i ≡ expectAll ts getHead (i + 1) getting
+  is-getting : kindAt ts i ≡ kPort → step ts (λ s m j. parseAs f ts m j) primary i ≡ expectAll ts getHead (i + 1) getting
   unfolding step isName
   is-getting e = rw e refl
 
-module _ {n i m : ℕ} {T : List ℕ} (z : kindInTable T n i ≡ 40) (em : m ≡ matchedIn T n (i + 1) getHead) where
+module _ {n i m : ℕ} {T : List ℕ} (z : kindInTable T n i ≡ kPort) (em : m ≡ matchedIn T n (i + 1) getHead) where
   pub get-head : m < 3 → ModePost primary n n i T (Bad (i + 1 + m)) T
   get-head lt = head-bad primary getHead z em (getting i) (is-getting i) lt
 
@@ -486,7 +487,7 @@ unfolding store
 is-no-argument t = (refl, refl)
 
 module _ {n i k : ℕ} {T : List ℕ} (ek : k ≡ kindInTable T n i) where
-  pub arguments-none : k ≡ 35 → ModePost argumentList n 2049 i T (At 2048 (i + 1)) T
+  pub arguments-none : k ≡ kClose → ModePost argumentList n 2049 i T (At 2048 (i + 1)) T
   unfolding step
   arguments-none z =
       let il = there T n i k 35 ek z (omega arith) in
@@ -496,7 +497,7 @@ module _ {n i k : ℕ} {T : List ℕ} (ek : k ≡ kindInTable T n i) where
         says = λ ts h. stepped argumentList ts i (fuel argumentList n i) (λ f enough. rw (is h i ek z) (met-ok refl (sym (is-no-argument T .1))));
       }
 
-  pub arguments-some : {T₁ : List ℕ} {r : Answer} → k ≢ 35 → ModePost someArguments n 2049 i T r T₁ → ModePost argumentList n 2049 i T r T₁
+  pub arguments-some : {T₁ : List ℕ} {r : Answer} → k ≢ kClose → ModePost someArguments n 2049 i T r T₁ → ModePost argumentList n 2049 i T r T₁
   unfolding step
   arguments-some z p =
       as-mode (omega arith) (omega arith) (λ f ts h. rw (is-not h i ek z) refl) (of-mode (fuel someArguments n i) (omega arith) p)
@@ -518,19 +519,19 @@ module _ {n i : ℕ} {T T₁ : List ℕ} {r₁ : Answer} (few : n ≤ 2048) (p :
       (then-bad few (of-mode (16 * (n - i) + 6) (omega arith) p) (i + 1) 2049 (λ f ts. member ts argument noArguments (rest i f ts)) e)
 
   module _ {x j k : ℕ} (e : r₁ ≡ At x j) (ek : k ≡ kindInTable T₁ n j) where
-    pub argument-last : {T₂ : List ℕ} → k ≡ 35 → T₂ ≡ put T₁ 6 x 2048 → ModePost someArguments n 2049 i T (At x (j + 1)) T₂
+    pub argument-last : {T₂ : List ℕ} → k ≡ kClose → T₂ ≡ put T₁ 6 x 2048 → ModePost someArguments n 2049 i T (At x (j + 1)) T₂
     unfolding levelAt
     argument-last z eT =
         as-mode (omega arith) (omega arith) (λ f ts h. some-arguments i f ts)
         (last-member few (of-mode (16 * (n - i) + 6) (omega arith) p) argument noArguments is-argument is-no-argument (rest i) (omega arith) e ek z eT)
 
-    pub argument-other : k ≢ 35 → k ≢ 32 → ModePost someArguments n 2049 i T (Bad j) T₁
+    pub argument-other : k ≢ kClose → k ≢ kComma → ModePost someArguments n 2049 i T (Bad j) T₁
     unfolding levelAt
     argument-other z z′ =
         as-mode (omega arith) (omega arith) (λ f ts h. some-arguments i f ts)
         (no-member few (of-mode (16 * (n - i) + 6) (omega arith) p) argument noArguments is-argument is-no-argument (rest i) (omega arith) e ek z z′)
 
-    pub arguments-more : {T₂ T₃ : List ℕ} {r₂ r : Answer} → k ≡ 32 → ModePost someArguments n 2049 (j + 1) T₁ r₂ T₂ → ListOf x T₂ r₂ r T₃
+    pub arguments-more : {T₂ T₃ : List ℕ} {r₂ r : Answer} → k ≡ kComma → ModePost someArguments n 2049 (j + 1) T₁ r₂ T₂ → ListOf x T₂ r₂ r T₃
         → ModePost someArguments n 2049 i T r T₃
     unfolding levelAt
     arguments-more z q l =

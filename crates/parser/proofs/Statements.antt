@@ -8,7 +8,7 @@ use native.Mathlib.Omega.{arith}
 use lib.Dec.{eqb}
 use Rattle.base.specs.Choice.{if_then_else_}
 use Rattle.base.specs.contracts.Table.{col, put}
-use Rattle.lexer.specs.Kinds.{isName}
+use Rattle.lexer.specs.Kinds.{isName, kAssign, kClose, kComma, kIf, kOpen, kOpenBrace, kOpenBracket, kPort, kSemicolon, kSystem, kWhile}
 use Rattle.lexer.specs.Tokens.{Token}
 use Rattle.lexer.specs.laws.ItemLaws.{kinds-apart}
 use Rattle.parser.specs.declared.answer.Answer.{Answer}
@@ -63,7 +63,7 @@ module _ {n i k : ℕ} {T : List ℕ} {b : Bool} (ek : k ≡ kindInTable T n i) 
         (of-list (16 * (n - i)) (omega arith) q) s)
 
 -- BLOCKS
-pub block-is : {n i : ℕ} {T T₁ T₂ : List ℕ} {r₁ r₂ r : Answer} → n ≤ 2048 → kindInTable T n i ≡ 38 → ListPost n (i + 1) T r₁ T₁
+pub block-is : {n i : ℕ} {T T₁ T₂ : List ℕ} {r₁ r₂ r : Answer} → n ≤ 2048 → kindInTable T n i ≡ kOpenBrace → ListPost n (i + 1) T r₁ T₁
     → Follows T₁ n 39 r₁ r₂
     → OnePart i T₁ r₂ r T₂ → ModePost aStatement n n i T r T₂
 unfolding step store
@@ -74,10 +74,10 @@ block-is {n} {i} {T} few z p s w =
 
 -- `if` AND `while`: the test
 module _ {n i k : ℕ} {T : List ℕ} (ek : k ≡ kindInTable T n (i + 1)) where
-  pub test-open : k ≢ 34 → TestPost n i T (Bad (i + 1)) T
+  pub test-open : k ≢ kOpen → TestPost n i T (Bad (i + 1)) T
   test-open z = record { piece = record { kept = refl; within = tt; says = λ ts h f enough. rw (is-not h (i + 1) ek z) met-bad } }
 
-  pub test-ok : {T₁ : List ℕ} {r₁ r : Answer} → n ≤ 2048 → k ≡ 34 → ModePost (operation (levelAt 0)) n n (i + 2) T r₁ T₁
+  pub test-ok : {T₁ : List ℕ} {r₁ r : Answer} → n ≤ 2048 → k ≡ kOpen → ModePost (operation (levelAt 0)) n n (i + 2) T r₁ T₁
       → Follows T₁ n 35 r₁ r → TestPost n i T r T₁
   unfolding levelAt
   test-ok few z p s =
@@ -89,11 +89,11 @@ module _ {n i k : ℕ} {T : List ℕ} (ek : k ≡ kindInTable T n (i + 1)) where
 
 -- what goes on after a test
 tested : (i f : ℕ) (ts : List Token) {B : Type 0} (g : Expression → ℕ → Parsed B)
-    → (expect ts 34 (i + 1) λ j. bind (parseAs f ts anExpression j) λ e j. expect ts 35 j λ j. g e j) ≡ bind (testFrom i f ts) g
-tested i f ts {B} g = go (eqb (kindAt ts (i + 1)) 34)
+    → (expect ts kOpen (i + 1) λ j. bind (parseAs f ts anExpression j) λ e j. expect ts kClose j λ j. g e j) ≡ bind (testFrom i f ts) g
+tested i f ts {B} g = go (eqb (kindAt ts (i + 1)) kOpen)
   where
-    go : (b : Bool) → (if b then (λ _. bind (parseAs f ts anExpression (i + 1 + 1)) λ e j. expect ts 35 j λ j. g e j) else λ _. bad (i + 1))
-        ≡ bind (if b then (λ _. bind (parseAs f ts anExpression (i + 1 + 1)) λ e j. expect ts 35 j λ j. ok e j) else λ _. bad (i + 1)) g
+    go : (b : Bool) → (if b then (λ _. bind (parseAs f ts anExpression (i + 1 + 1)) λ e j. expect ts kClose j λ j. g e j) else λ _. bad (i + 1))
+        ≡ bind (if b then (λ _. bind (parseAs f ts anExpression (i + 1 + 1)) λ e j. expect ts kClose j λ j. ok e j) else λ _. bad (i + 1)) g
     go true = regroup ts 35 g (parseAs f ts anExpression (i + 1 + 1))
     go false = refl
 
@@ -106,12 +106,12 @@ module _ {n i k : ℕ} {T T₁ : List ℕ} {r₁ : Answer} (few : n ≤ 2048) (z
       let il = there T n i _ k refl z pos in
       as-mode (omega arith) (omega arith) (λ f ts h. steps f ts (is h i refl z)) (then-bad few (p .piece) (i + 1) n g e)
 
-conditional-steps : (i f : ℕ) (ts : List Token) → kindAt ts i ≡ 10
+conditional-steps : (i f : ℕ) (ts : List Token) → kindAt ts i ≡ kIf
     → step ts (λ s m j. parseAs f ts m j) aStatement i ≡ bind (testFrom i f ts) (branchesFrom ts (λ s m j. parseAs f ts m j) i)
 unfolding step
 conditional-steps i f ts e = rw e (tested i f ts (branchesFrom ts (λ s m j. parseAs f ts m j) i))
 
-while-steps : (i f : ℕ) (ts : List Token) → kindAt ts i ≡ 23
+while-steps : (i f : ℕ) (ts : List Token) → kindAt ts i ≡ kWhile
     → step ts (λ s m j. parseAs f ts m j) aStatement i ≡ bind (testFrom i f ts) (repeatedFrom ts (λ s m j. parseAs f ts m j) i)
 unfolding step
 while-steps i f ts e = rw e (tested i f ts (repeatedFrom ts (λ s m j. parseAs f ts m j) i))
@@ -122,13 +122,13 @@ pub after-test : {n i q x j : ℕ} {T T₁ : List ℕ} {r : Answer} → kindInTa
 after-test {n} {i} {q} {T = T} z pos p e = let w = within-ok e (p .piece .within) in (there T n i _ q refl z pos, w .0, w .1, w .2)
 
 module _ {n i : ℕ} {T T₁ : List ℕ} {r₁ : Answer} (few : n ≤ 2048) (p : TestPost n i T r₁ T₁) where
-  pub conditional-bad : {y : ℕ} → kindInTable T n i ≡ 10 → r₁ ≡ Bad y → ModePost aStatement n n i T (Bad y) T₁
+  pub conditional-bad : {y : ℕ} → kindInTable T n i ≡ kIf → r₁ ≡ Bad y → ModePost aStatement n n i T (Bad y) T₁
   conditional-bad z e = test-bad few z (omega arith) p (λ f ts. branchesFrom ts (λ s m j. parseAs f ts m j) i) (conditional-steps i) e
 
-  pub while-bad : {y : ℕ} → kindInTable T n i ≡ 23 → r₁ ≡ Bad y → ModePost aStatement n n i T (Bad y) T₁
+  pub while-bad : {y : ℕ} → kindInTable T n i ≡ kWhile → r₁ ≡ Bad y → ModePost aStatement n n i T (Bad y) T₁
   while-bad z e = test-bad few z (omega arith) p (λ f ts. repeatedFrom ts (λ s m j. parseAs f ts m j) i) (while-steps i) e
 
-  pub conditional-ok : {x j : ℕ} {T₂ : List ℕ} {r : Answer} → kindInTable T n i ≡ 10 → r₁ ≡ At x j → BranchesPost n i x j T₁ r T₂
+  pub conditional-ok : {x j : ℕ} {T₂ : List ℕ} {r : Answer} → kindInTable T n i ≡ kIf → r₁ ≡ At x j → BranchesPost n i x j T₁ r T₂
       → ModePost aStatement n n i T r T₂
   conditional-ok {x} {j} {r = r} z e q =
       let il = there T n i _ 10 refl z (omega arith) in
@@ -137,7 +137,7 @@ module _ {n i : ℕ} {T T₁ : List ℕ} {r₁ : Answer} (few : n ≤ 2048) (p :
       (then-on few (p .piece) (λ f ts. branchesFrom ts (λ s m j. parseAs f ts m j) i) e (q .kept) (within-more (j + 1) (i + 1) n n n r (omega arith) (omega arith) (q .within))
       (λ ts h f en a ea ta. q .says a T ea ta ts h f (omega arith)))
 
-  pub while-ok : {x j : ℕ} {T₂ T₃ : List ℕ} {r₂ r : Answer} → kindInTable T n i ≡ 23 → r₁ ≡ At x j → ModePost aStatement n n j T₁ r₂ T₂
+  pub while-ok : {x j : ℕ} {T₂ T₃ : List ℕ} {r₂ r : Answer} → kindInTable T n i ≡ kWhile → r₁ ≡ At x j → ModePost aStatement n n j T₁ r₂ T₂
       → TwoParts i i x T₂ r₂ r T₃
       → ModePost aStatement n n i T r T₃
   unfolding store
@@ -202,11 +202,11 @@ module _ (i f : ℕ) (ts : List Token) where
   abbrev printing : ℕ → Parsed Statement
   printing j = bind (parseAs f ts anExpression j) λ e j. expectAll ts callEnd j (printed e)
 
-  is-printing : kindAt ts i ≡ 19 → step ts (λ s m j. parseAs f ts m j) aStatement i ≡ expectAll ts printHead (i + 1) printing
+  is-printing : kindAt ts i ≡ kSystem → step ts (λ s m j. parseAs f ts m j) aStatement i ≡ expectAll ts printHead (i + 1) printing
   unfolding step
   is-printing e = rw e refl
 
-module _ {n i m : ℕ} {T : List ℕ} (z : kindInTable T n i ≡ 19) (em : m ≡ matchedIn T n (i + 1) printHead) where
+module _ {n i m : ℕ} {T : List ℕ} (z : kindInTable T n i ≡ kSystem) (em : m ≡ matchedIn T n (i + 1) printHead) where
   pub print-head : m < 5 → ModePost aStatement n n i T (Bad (i + 1 + m)) T
   print-head lt = head-bad aStatement printHead z em (printing i) (is-printing i) lt
 
@@ -229,12 +229,12 @@ module _ (ts : List Token) (P : (s : Sort) → Mode s → ℕ → Parsed (Part s
   other : (q : ℕ) → isName q ≡ false → eqb (kindAt ts i) q ≡ false
   other q n = kinds-apart isName (kindAt ts i) q t n
 
-  is-assignment : eqb (kindAt ts (i + 1)) 36 ≡ false → step ts P aStatement i ≡ assignFrom ts P i
+  is-assignment : eqb (kindAt ts (i + 1)) kOpenBracket ≡ false → step ts P aStatement i ≡ assignFrom ts P i
   unfolding step isName
   is-assignment e =
       rw (other 38 refl, other 10 refl, other 23 refl, other 19 refl, other 40 refl, t, e) refl
 
-  is-element-assignment : kindAt ts (i + 1) ≡ 36 → step ts P aStatement i ≡ assignElementFrom ts P i
+  is-element-assignment : kindAt ts (i + 1) ≡ kOpenBracket → step ts P aStatement i ≡ assignElementFrom ts P i
   unfolding step isName
   is-element-assignment e =
       rw (other 38 refl, other 10 refl, other 23 refl, other 19 refl, other 40 refl, t, e) refl
@@ -245,7 +245,7 @@ of-name : {T : List ℕ} {n : ℕ} {ts : List Token} (h : TokensIn T n ts) (i : 
 of-name h i t = ap isName (sym (h .kinds i)) ∙ t
 
 module _ {n i k : ℕ} {T : List ℕ} (t : isName (kindInTable T n i) ≡ true) (ek : k ≡ kindInTable T n (i + 1)) where
-  pub assign-missing : k ≢ 36 → k ≢ 30 → ModePost aStatement n n i T (Bad (i + 1)) T
+  pub assign-missing : k ≢ kOpenBracket → k ≢ kAssign → ModePost aStatement n n i T (Bad (i + 1)) T
   assign-missing z z′ =
       record {
         kept = refl;
@@ -254,7 +254,7 @@ module _ {n i k : ℕ} {T : List ℕ} (t : isName (kindInTable T n i) ≡ true) 
             at-result (is-assignment ts _ i (of-name h i t) (is-not h (i + 1) ek z)) (rw (is-not h (i + 1) ek z′) met-bad));
       }
 
-  pub assign-ok : {T₁ T₂ : List ℕ} {r₁ r₂ r : Answer} → n ≤ 2048 → k ≡ 30 → ModePost (operation (levelAt 0)) n n (i + 2) T r₁ T₁
+  pub assign-ok : {T₁ T₂ : List ℕ} {r₁ r₂ r : Answer} → n ≤ 2048 → k ≡ kAssign → ModePost (operation (levelAt 0)) n n (i + 2) T r₁ T₁
       → Follows T₁ n 33 r₁ r₂
       → OnePart i T₁ r₂ r T₂ → ModePost aStatement n n i T r T₂
   unfolding levelAt store
@@ -268,7 +268,7 @@ module _ {n i k : ℕ} {T : List ℕ} (t : isName (kindInTable T n i) ≡ true) 
 -- `x[e] = e;`
 abbrev assigning : (i f : ℕ) → List Token → Expression → ℕ → Parsed Statement
 assigning i f ts a j =
-    bind (parseAs f ts anExpression j) λ e j. expect ts 33 j λ j. ok (assignElement (placeAt ts i i) (tokenAt ts i .text) a e) j
+    bind (parseAs f ts anExpression j) λ e j. expect ts kSemicolon j λ j. ok (assignElement (placeAt ts i i) (tokenAt ts i .text) a e) j
 
 abbrev indexPart : (i f : ℕ) → List Token → Parsed Expression
 indexPart i f ts = andToken ts 30 (andToken ts 37 (parseAs f ts anExpression (i + 2)))
@@ -280,12 +280,12 @@ module _ (n i : ℕ) {T T₁ : List ℕ} {r₁ r₂ r₃ : Answer} (few : n ≤ 
   index-part p s s₂ = then-token few (then-token few (of-mode (after n i) (omega arith) p) (omega arith) s) (omega arith) s₂
 
 module _ (n i : ℕ) {T : List ℕ} where
-  as-element : isName (kindInTable T n i) ≡ true → kindInTable T n (i + 1) ≡ 36 → (f : ℕ) (ts : List Token) → TokensIn T n ts
+  as-element : isName (kindInTable T n i) ≡ true → kindInTable T n (i + 1) ≡ kOpenBracket → (f : ℕ) (ts : List Token) → TokensIn T n ts
       → step ts (λ s m j. parseAs f ts m j) aStatement i ≡ bind (indexPart i f ts) (assigning i f ts)
   as-element t z f ts h =
       is-element-assignment ts _ i (of-name h i t) (is h (i + 1) refl z) ∙ regroup-two ts 37 30 (assigning i f ts) (parseAs f ts anExpression (i + 2))
 
-module _ {n i : ℕ} {T T₁ : List ℕ} {r₁ r₂ r₃ : Answer} (few : n ≤ 2048) (t : isName (kindInTable T n i) ≡ true) (z : kindInTable T n (i + 1) ≡ 36)
+module _ {n i : ℕ} {T T₁ : List ℕ} {r₁ r₂ r₃ : Answer} (few : n ≤ 2048) (t : isName (kindInTable T n i) ≡ true) (z : kindInTable T n (i + 1) ≡ kOpenBracket)
     (p : ModePost (operation (levelAt 0)) n n (i + 2) T r₁ T₁) (s : Follows T₁ n 37 r₁ r₂) (s₂ : Follows T₁ n 30 r₂ r₃) where
   pub index-bad : {y : ℕ} → r₃ ≡ Bad y → ModePost aStatement n n i T (Bad y) T₁
   index-bad e =
@@ -319,13 +319,13 @@ module _ (i f : ℕ) (ts : List Token) where
   registerPart = andToken ts 32 (parseAs f ts anExpression (i + 4))
 
   abbrev puttingTo : ℕ → Parsed Statement
-  puttingTo j = bind (parseAs f ts anExpression j) λ a j. expect ts 32 j (putting a)
+  puttingTo j = bind (parseAs f ts anExpression j) λ a j. expect ts kComma j (putting a)
 
-  is-putting : kindAt ts i ≡ 40 → step ts (λ s m j. parseAs f ts m j) aStatement i ≡ expectAll ts putHead (i + 1) puttingTo
+  is-putting : kindAt ts i ≡ kPort → step ts (λ s m j. parseAs f ts m j) aStatement i ≡ expectAll ts putHead (i + 1) puttingTo
   unfolding step
   is-putting e = rw e refl
 
-module _ {n i m : ℕ} {T : List ℕ} (z : kindInTable T n i ≡ 40) (em : m ≡ matchedIn T n (i + 1) putHead) where
+module _ {n i m : ℕ} {T : List ℕ} (z : kindInTable T n i ≡ kPort) (em : m ≡ matchedIn T n (i + 1) putHead) where
   pub put-head : m < 3 → ModePost aStatement n n i T (Bad (i + 1 + m)) T
   put-head lt = head-bad aStatement putHead z em (puttingTo i) (is-putting i) lt
 
@@ -336,13 +336,13 @@ module _ (n i : ℕ) {T T₁ : List ℕ} {r₁ r₂ : Answer} (few : n ≤ 2048)
   register-part p s = then-token few (of-mode (after n i) (omega arith) p) (omega arith) s
 
 module _ (n i : ℕ) {m : ℕ} {T : List ℕ} where
-  as-put : kindInTable T n i ≡ 40 → m ≡ matchedIn T n (i + 1) putHead → 3 ≤ m → (f : ℕ) (ts : List Token) → TokensIn T n ts
+  as-put : kindInTable T n i ≡ kPort → m ≡ matchedIn T n (i + 1) putHead → 3 ≤ m → (f : ℕ) (ts : List Token) → TokensIn T n ts
       → step ts (λ s m j. parseAs f ts m j) aStatement i ≡ bind (registerPart i f ts) (putting i f ts)
   as-put z em l f ts h =
       head-passed aStatement putHead z em (puttingTo i) (is-putting i) l f ts h
       ∙ ap (puttingTo i f ts) (omega arith) ∙ regroup ts 32 (putting i f ts) (parseAs f ts anExpression (i + 4))
 
-module _ {n i m : ℕ} {T T₁ : List ℕ} {r₁ r₂ : Answer} (few : n ≤ 2048) (z : kindInTable T n i ≡ 40) (em : m ≡ matchedIn T n (i + 1) putHead)
+module _ {n i m : ℕ} {T T₁ : List ℕ} {r₁ r₂ : Answer} (few : n ≤ 2048) (z : kindInTable T n i ≡ kPort) (em : m ≡ matchedIn T n (i + 1) putHead)
     (l : 3 ≤ m) (p : ModePost (operation (levelAt 0)) n n (i + 4) T r₁ T₁) (s : Follows T₁ n 32 r₁ r₂) where
   pub register-bad : {y : ℕ} → r₂ ≡ Bad y → ModePost aStatement n n i T (Bad y) T₁
   register-bad e =
@@ -364,7 +364,7 @@ module _ {n i m : ℕ} {T T₁ : List ℕ} {r₁ r₂ : Answer} (few : n ≤ 204
       (then-token few (then-token few (of-mode (after n i) (omega arith) q) (omega arith) s₂) (omega arith) s₃) w₃)
 
 -- NO STATEMENT
-pub no-statement : {n i k : ℕ} {T : List ℕ} {b : Bool} → k ≡ kindInTable T n i → k ≢ 38 → k ≢ 10 → k ≢ 23 → k ≢ 19 → k ≢ 40
+pub no-statement : {n i k : ℕ} {T : List ℕ} {b : Bool} → k ≡ kindInTable T n i → k ≢ kOpenBrace → k ≢ kIf → k ≢ kWhile → k ≢ kSystem → k ≢ kPort
     → b ≡ isName k → b ≡ false
     → ModePost aStatement n n i T (Bad i) T
 unfolding step

@@ -8,7 +8,7 @@ use mathlib.Core.Option.{none, some}
 use native.Mathlib.Omega.{arith}
 use lib.Dec.{eqb}
 use borrow.Author.Tests.{ne-eqb}
-use Rattle.lexer.specs.Kinds.{isName}
+use Rattle.lexer.specs.Kinds.{isName, kBoolean, kFixed, kInt, kNew, kOpenBracket}
 use Rattle.lexer.specs.Tokens.{Token}
 use Rattle.parser.specs.Tree.{Element, Element.int, Element.boolean, Element.class}
 use Rattle.parser.specs.Stream.{tokenAt, kindAt}
@@ -25,9 +25,9 @@ module _ (ts : List Token) (i : ℕ) where
   -- what the test takes is read
   pub element-read : (named : Bool) → beginsElement (kindAt ts i) named ≡ true → ElementRead ts i
   unfolding beginsElement elementType
-  element-read named = go (eqb (kindAt ts i) 11) refl (eqb (kindAt ts i) 5) refl (isName (kindAt ts i)) refl
+  element-read named = go (eqb (kindAt ts i) kInt) refl (eqb (kindAt ts i) kBoolean) refl (isName (kindAt ts i)) refl
     where
-      go : (a : Bool) → eqb (kindAt ts i) 11 ≡ a → (b : Bool) → eqb (kindAt ts i) 5 ≡ b → (c : Bool) → isName (kindAt ts i) ≡ c
+      go : (a : Bool) → eqb (kindAt ts i) kInt ≡ a → (b : Bool) → eqb (kindAt ts i) kBoolean ≡ b → (c : Bool) → isName (kindAt ts i) ≡ c
           → (a || b || c && named) ≡ true → ElementRead ts i
       go true e b _ c _ t = record { element = int; read = rw e refl }
       go false e true e′ c _ t = record { element = boolean; read = rw (e, e′) refl }
@@ -37,9 +37,9 @@ module _ (ts : List Token) (i : ℕ) where
   -- and where even a name would do, what it refuses is not
   pub element-not : beginsElement (kindAt ts i) true ≡ false → elementType ts i ≡ none
   unfolding beginsElement elementType
-  element-not = go (eqb (kindAt ts i) 11) refl (eqb (kindAt ts i) 5) refl (isName (kindAt ts i)) refl
+  element-not = go (eqb (kindAt ts i) kInt) refl (eqb (kindAt ts i) kBoolean) refl (isName (kindAt ts i)) refl
     where
-      go : (a : Bool) → eqb (kindAt ts i) 11 ≡ a → (b : Bool) → eqb (kindAt ts i) 5 ≡ b → (c : Bool) → isName (kindAt ts i) ≡ c
+      go : (a : Bool) → eqb (kindAt ts i) kInt ≡ a → (b : Bool) → eqb (kindAt ts i) kBoolean ≡ b → (c : Bool) → isName (kindAt ts i) ≡ c
           → (a || b || c && true) ≡ false → elementType ts i ≡ none
       go false e false e′ false e″ t = rw (e, e′, e″) refl
       go true e b _ c _ t = absurd (let z : _≡_ {A = ℕ} 0 1 = cc in omega arith)
@@ -52,9 +52,9 @@ unfolding beginsElement isName
 element-there T n i k e eb t = there-by (λ (k : ℕ). beginsElement k true) refl T n i k e (sym eb ∙ t)
 
 -- a type is `fixed`, or one of which there are arrays
-pub type-or-fixed : (k : ℕ) (named : Bool) → beginsType k named ≡ (eqb k 43 || beginsElement k named)
+pub type-or-fixed : (k : ℕ) (named : Bool) → beginsType k named ≡ (eqb k kFixed || beginsElement k named)
 unfolding beginsType beginsElement
-type-or-fixed k named = go (eqb k 11) (eqb k 5) (eqb k 43) (isName k && named)
+type-or-fixed k named = go (eqb k kInt) (eqb k kBoolean) (eqb k kFixed) (isName k && named)
   where
     go : (a b c d : Bool) → (a || b || c || d) ≡ (c || (a || b || d))
     go true b true d = refl
@@ -64,19 +64,19 @@ type-or-fixed k named = go (eqb k 11) (eqb k 5) (eqb k 43) (isName k && named)
     go false false true d = refl
     go false false false d = refl
 
-pub not-fixed : {k : ℕ} {b : Bool} → k ≢ 43 → b ≡ beginsType k true → b ≡ beginsElement k true
-not-fixed {k} z e = e ∙ type-or-fixed k true ∙ rw (ne-eqb k 43 z) refl
+pub not-fixed : {k : ℕ} {b : Bool} → k ≢ kFixed → b ≡ beginsType k true → b ≡ beginsElement k true
+not-fixed {k} z e = e ∙ type-or-fixed k true ∙ rw (ne-eqb k kFixed z) refl
 
 -- `new T[e]`, by the definition and as the code tests for it: they differ at `new fixed` alone
 module _ (T : List ℕ) (n i : ℕ) {ts : List Token} (h : TokensIn T n ts) where
-  pub array-told : startsArray T n i ≡ (eqb (kindAt ts i) 14 && beginsElement (kindAt ts (i + 1)) (eqb (kindAt ts (i + 2)) 36))
+  pub array-told : startsArray T n i ≡ (eqb (kindAt ts i) kNew && beginsElement (kindAt ts (i + 1)) (eqb (kindAt ts (i + 2)) kOpenBracket))
   unfolding startsArray
   array-told = rw (h .kinds i, h .kinds (i + 1), h .kinds (i + 2)) refl
 
-  pub makes-array : (eqb (kindAt ts i) 14 && beginsType (kindAt ts (i + 1)) (eqb (kindAt ts (i + 2)) 36))
-      ≡ (eqb (kindAt ts i) 14 && eqb (kindAt ts (i + 1)) 43 || startsArray T n i)
+  pub makes-array : (eqb (kindAt ts i) kNew && beginsType (kindAt ts (i + 1)) (eqb (kindAt ts (i + 2)) kOpenBracket))
+      ≡ (eqb (kindAt ts i) kNew && eqb (kindAt ts (i + 1)) kFixed || startsArray T n i)
   makes-array =
-      rw (array-told, type-or-fixed (kindAt ts (i + 1)) (eqb (kindAt ts (i + 2)) 36)) (go (eqb (kindAt ts i) 14) _ _)
+      rw (array-told, type-or-fixed (kindAt ts (i + 1)) (eqb (kindAt ts (i + 2)) kOpenBracket)) (go (eqb (kindAt ts i) kNew) _ _)
     where
       go : (a b c : Bool) → (a && (b || c)) ≡ (a && b || a && c)
       go true b c = refl

@@ -10,7 +10,7 @@ use lib.Dec.{eqb}
 use borrow.Author.Tests.{ne-eqb}
 use Rattle.base.specs.contracts.Table.{put}
 use Rattle.base.specs.laws.Tests.{or-neither}
-use Rattle.lexer.specs.Kinds.{isName}
+use Rattle.lexer.specs.Kinds.{isName, kClose, kCloseBracket, kComma, kFixed, kOpenBrace, kOpenBracket}
 use Rattle.lexer.specs.Tokens.{Token}
 use Rattle.parser.specs.declared.answer.Answer.{Answer}
 use Rattle.parser.specs.declared.answer.Answer.the-variants.{At, Bad}
@@ -31,7 +31,7 @@ use Rattle.parser.proofs.Types.{ElementRead, element-read, element-not,
 
 -- TYPES
 module _ {n i k : ℕ} {T : List ℕ} (ek : k ≡ kindInTable T n i) where
-  pub type-fixed : k ≡ 43 → DeclPost aType n i T (At i (i + 1)) T
+  pub type-fixed : k ≡ kFixed → DeclPost aType n i T (At i (i + 1)) T
   unfolding typeFrom
   type-fixed z =
       let l = there T n i k 43 ek z (omega arith) in
@@ -41,12 +41,12 @@ module _ {n i k : ℕ} {T : List ℕ} (ek : k ≡ kindInTable T n i) where
         says = λ ts h f enough. rw (is h i ek z) (met-ok refl refl);
       }
 
-  module _ {b : Bool} {k₁ : ℕ} (eb : b ≡ beginsType k true) (t : b ≡ true) (z : k ≢ 43) (ek₁ : k₁ ≡ kindInTable T n (i + 1)) where
+  module _ {b : Bool} {k₁ : ℕ} (eb : b ≡ beginsType k true) (t : b ≡ true) (z : k ≢ kFixed) (ek₁ : k₁ ≡ kindInTable T n (i + 1)) where
     -- what the definition reads there
     element-at : {ts : List Token} → TokensIn T n ts → ElementRead ts i
     element-at {ts} h = element-read ts i true (passes h (λ (k : ℕ). beginsElement k true) i ek (sym (not-fixed z eb) ∙ t))
 
-    pub type-array : {k₂ : ℕ} → k₁ ≡ 36 → k₂ ≡ kindInTable T n (i + 2) → k₂ ≡ 37 → DeclPost aType n i T (At i (i + 3)) T
+    pub type-array : {k₂ : ℕ} → k₁ ≡ kOpenBracket → k₂ ≡ kindInTable T n (i + 2) → k₂ ≡ kCloseBracket → DeclPost aType n i T (At i (i + 3)) T
     unfolding typeFrom
     type-array z₁ ek₂ z₂ =
         let l = there T n (i + 2) _ 37 ek₂ z₂ (omega arith) in
@@ -56,7 +56,7 @@ module _ {n i k : ℕ} {T : List ℕ} (ek : k ≡ kindInTable T n i) where
           says = λ ts h f enough. rw (is-not h i ek z, element-at h .read, is h (i + 1) ek₁ z₁, is h (i + 2) ek₂ z₂, plus-three i) (met-ok refl refl);
         }
 
-    pub type-open : {k₂ : ℕ} → k₁ ≡ 36 → k₂ ≡ kindInTable T n (i + 2) → k₂ ≢ 37 → DeclPost aType n i T (Bad (i + 2)) T
+    pub type-open : {k₂ : ℕ} → k₁ ≡ kOpenBracket → k₂ ≡ kindInTable T n (i + 2) → k₂ ≢ kCloseBracket → DeclPost aType n i T (Bad (i + 2)) T
     unfolding typeFrom
     type-open z₁ ek₂ z₂ =
         record {
@@ -65,7 +65,7 @@ module _ {n i k : ℕ} {T : List ℕ} (ek : k ≡ kindInTable T n i) where
           says = λ ts h f enough. rw (is-not h i ek z, element-at h .read, is h (i + 1) ek₁ z₁, is-not h (i + 2) ek₂ z₂) met-bad;
         }
 
-    pub type-plain : k₁ ≢ 36 → DeclPost aType n i T (At i (i + 1)) T
+    pub type-plain : k₁ ≢ kOpenBracket → DeclPost aType n i T (At i (i + 1)) T
     unfolding typeFrom
     type-plain z₁ =
         let l = element-there T n i k ek (not-fixed z eb) t in
@@ -78,12 +78,12 @@ module _ {n i k : ℕ} {T : List ℕ} (ek : k ≡ kindInTable T n i) where
   pub type-none : {b : Bool} → b ≡ beginsType k true → b ≡ false → DeclPost aType n i T (Bad i) T
   unfolding typeFrom
   type-none eb t =
-      let q = or-neither (eqb k 43) (beginsElement k true) (sym (type-or-fixed k true) ∙ sym eb ∙ t) in
+      let q = or-neither (eqb k kFixed) (beginsElement k true) (sym (type-or-fixed k true) ∙ sym eb ∙ t) in
       record {
         kept = refl;
         within = tt;
         says = λ ts h f enough.
-            rw (passes h (λ (k : ℕ). eqb k 43) i ek (q .0), element-not ts i (passes h (λ (k : ℕ). beginsElement k true) i ek (q .1))) met-bad;
+            rw (passes h (λ (k : ℕ). eqb k kFixed) i ek (q .0), element-not ts i (passes h (λ (k : ℕ). beginsElement k true) i ek (q .1))) met-bad;
       }
 
 -- A TYPE AND A NAME
@@ -125,13 +125,13 @@ module _ (T : List ℕ) (c : Bool) (n i : ℕ) where
     unfolding followsType
     follows-name t′ = rw (t, ← ek, sym eb ∙ t′) refl
 
-    pub follows-mark : {k′ : ℕ} → b ≡ false → k ≡ 36 → k′ ≡ kindInTable T n (i + 1) → eqb k′ 37 ≡ followsType T c n i
+    pub follows-mark : {k′ : ℕ} → b ≡ false → k ≡ kOpenBracket → k′ ≡ kindInTable T n (i + 1) → eqb k′ kCloseBracket ≡ followsType T c n i
     unfolding followsType
     follows-mark t′ z ek′ = rw (t, ← ek, sym eb ∙ t′, z, ← ek′) refl
 
-    pub follows-other : b ≡ false → k ≢ 36 → eqb k 36 ≡ followsType T c n i
+    pub follows-other : b ≡ false → k ≢ kOpenBracket → eqb k kOpenBracket ≡ followsType T c n i
     unfolding followsType
-    follows-other t′ z = rw (t, ← ek, sym eb ∙ t′, ne-eqb k 36 z) refl
+    follows-other t′ z = rw (t, ← ek, sym eb ∙ t′, ne-eqb k kOpenBracket z) refl
 
   pub starts-here : {k : ℕ} {b b′ : Bool} → b ≡ followsType T c n (i + 1) → k ≡ kindInTable T n i → b′ ≡ beginsType k b
       → b′ ≡ startsVariable T c n i
@@ -184,10 +184,10 @@ module _ {n i : ℕ} {T : List ℕ} {c : Bool} where
 
 -- `{` and variables
 module _ {c : Bool} {n j k : ℕ} {T : List ℕ} (ek : k ≡ kindInTable T n j) where
-  pub opened-not : k ≢ 38 → OpenedPost c n j T (Bad j) T
+  pub opened-not : k ≢ kOpenBrace → OpenedPost c n j T (Bad j) T
   opened-not z = record { piece = record { kept = refl; within = tt; says = λ ts h f enough. rw (is-not h j ek z) met-bad } }
 
-  pub opened-ok : {T₁ : List ℕ} {r : Answer} → k ≡ 38 → DeclPost (variableList c) n (j + 1) T r T₁ → OpenedPost c n j T r T₁
+  pub opened-ok : {T₁ : List ℕ} {r : Answer} → k ≡ kOpenBrace → DeclPost (variableList c) n (j + 1) T r T₁ → OpenedPost c n j T r T₁
   opened-ok z p =
       let l = there T n j k 38 ek z (omega arith) in
       record { piece = as-piece (omega arith) (omega arith) (λ f ts h. rw (is h j ek z) refl) (of-declaration (16 * (n - j)) (omega arith) p) }
@@ -205,19 +205,19 @@ module _ {n i : ℕ} {T T₁ : List ℕ} {r₁ : Answer} (few : n ≤ 2048) (p :
       (omega arith) (λ f ts h. some-parameters f ts i)
 
   module _ {x j k : ℕ} (e : r₁ ≡ At x j) (ek : k ≡ kindInTable T₁ n j) where
-    pub parameter-last : {T₂ : List ℕ} → k ≡ 35 → T₂ ≡ put T₁ 6 x 2048 → DeclPost parameterList n i T (At x (j + 1)) T₂
+    pub parameter-last : {T₂ : List ℕ} → k ≡ kClose → T₂ ≡ put T₁ 6 x 2048 → DeclPost parameterList n i T (At x (j + 1)) T₂
     parameter-last z eT =
         as-declarations (omega arith)
         (last-member few (of-declaration (16 * (n - i)) (omega arith) p) _∷_ [] is-more is-none (λ f ts j. someParameters f ts j) (omega arith) e ek z eT)
         (omega arith) (λ f ts h. some-parameters f ts i)
 
-    pub parameter-other : k ≢ 35 → k ≢ 32 → DeclPost parameterList n i T (Bad j) T₁
+    pub parameter-other : k ≢ kClose → k ≢ kComma → DeclPost parameterList n i T (Bad j) T₁
     parameter-other z z′ =
         as-declarations (omega arith)
         (no-member few (of-declaration (16 * (n - i)) (omega arith) p) _∷_ [] is-more is-none (λ f ts j. someParameters f ts j) (omega arith) e ek z z′)
         (omega arith) (λ f ts h. some-parameters f ts i)
 
-    pub parameters-more : {T₂ T₃ : List ℕ} {r₂ r : Answer} → k ≡ 32 → DeclPost parameterList n (j + 1) T₁ r₂ T₂ → ListOf x T₂ r₂ r T₃
+    pub parameters-more : {T₂ T₃ : List ℕ} {r₂ r : Answer} → k ≡ kComma → DeclPost parameterList n (j + 1) T₁ r₂ T₂ → ListOf x T₂ r₂ r T₃
         → DeclPost parameterList n i T r T₃
     parameters-more z q l =
         let w = within-ok e (p .within) in
@@ -226,7 +226,7 @@ module _ {n i : ℕ} {T T₁ : List ℕ} {r₁ : Answer} (few : n ≤ 2048) (p :
         (of-declaration (16 * (n - i)) (omega arith) q) l) (omega arith) (λ f ts h. some-parameters f ts i)
 
 module _ {n i k : ℕ} {T : List ℕ} (ek : k ≡ kindInTable T n i) where
-  pub formals-none : k ≡ 35 → DeclPost formals n i T (At 2048 (i + 1)) T
+  pub formals-none : k ≡ kClose → DeclPost formals n i T (At 2048 (i + 1)) T
   unfolding parametersFrom
   formals-none z =
       let l = there T n i k 35 ek z (omega arith) in
@@ -236,7 +236,7 @@ module _ {n i k : ℕ} {T : List ℕ} (ek : k ≡ kindInTable T n i) where
         says = λ ts h f enough. rw (is h i ek z) (met-ok refl (sym (is-none T .1)));
       }
 
-  pub formals-some : {T₁ : List ℕ} {r : Answer} → k ≢ 35 → DeclPost parameterList n i T r T₁ → DeclPost formals n i T r T₁
+  pub formals-some : {T₁ : List ℕ} {r : Answer} → k ≢ kClose → DeclPost parameterList n i T r T₁ → DeclPost formals n i T r T₁
   unfolding parametersFrom
   formals-some z p =
       record { kept = p .kept; within = p .within; says = λ ts h f enough. rw (is-not h i ek z) (p .says ts h f (omega arith)) }

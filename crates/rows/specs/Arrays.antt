@@ -72,9 +72,6 @@ runRows =
     row (method (bytes "A[] x;x=new A[3];return 1;")) (stripLimits 5 256) (ends 0 0 7 1 5 (pos 1 ∷ [])) ∷
     []
 
-abbrev pub arrayRows : List Row
-arrayRows = grammarRows ++ typeRows ++ runRows
-
-pub arrays : All RowHolds arrayRows
+pub arrays : All RowHolds (grammarRows ++ typeRows ++ runRows)
 unfolding endOf
-arrays = hold arrayRows (record { ends = refl; ranges = refl })
+arrays = hold _ (record { ends = refl; ranges = refl })

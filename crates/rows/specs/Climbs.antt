@@ -70,9 +70,6 @@ stoppedRows =
     row (inherited (bytes "System.out.println(5);return 1;")) (stripLimits 4096 0) (ends 53 102 5 2 1 []) ∷
     []
 
-abbrev pub climbRows : List Row
-climbRows = searchRows ++ totalRows ++ stoppedRows
-
-pub climbs : All RowHolds climbRows
+pub climbs : All RowHolds (searchRows ++ totalRows ++ stoppedRows)
 unfolding endOf
-climbs = hold climbRows (record { ends = refl; ranges = refl })
+climbs = hold _ (record { ends = refl; ranges = refl })

@@ -103,9 +103,6 @@ registerRows =
     row (method (bytes "int get;int put;put=3;get=put;return get;")) usual (ends 0 0 8 1 1 (pos 3 ∷ [])) ∷
     []
 
-abbrev pub portRows : List Row
-portRows = sampleRows ++ flagRows ++ registerRows
-
-pub ports : All RowHolds portRows
+pub ports : All RowHolds (sampleRows ++ flagRows ++ registerRows)
 unfolding endOf
-ports = hold portRows (record { ends = refl; ranges = refl })
+ports = hold _ (record { ends = refl; ranges = refl })

@@ -92,9 +92,6 @@ mixedRows =
     row (printing (bytes "new fixed[1].length")) usual (refusedAt 16 67) ∷
     []
 
-abbrev pub thousandthsRows : List Row
-thousandthsRows = literalRows ++ countRows ++ variableRows ++ mixedRows
-
-pub thousandths : All RowHolds thousandthsRows
+pub thousandths : All RowHolds (literalRows ++ countRows ++ variableRows ++ mixedRows)
 unfolding endOf
-thousandths = hold thousandthsRows (record { ends = refl; ranges = refl })
+thousandths = hold _ (record { ends = refl; ranges = refl })

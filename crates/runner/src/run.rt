@@ -95,40 +95,7 @@ fn compiled(
 // How many tokens a small lesson has at most.
 const SMALL: usize = 125;
 
-// A small lesson, in room that is enough for one: what is cleared for a run depends on the lesson.
-fn small(
-    table: &[u32],
-    s: Sizes,
-    b: Bounds,
-    heap: &mut [i32],
-    output: &mut [i32],
-    registers: &mut [u8],
-    tape: &[u8],
-) -> RunAnswer
-    requires { ⌜ Walkable (now table) (s .tokens) × (s .classes ≤ rows) × (length (now heap) ≤ heapMost) × (b .budget < modulus)
-        × (b .calls ≤ callsMost) × (s .tokens ≤ 125) × (length (now registers) ≡ registersCount) ⌝ }
-    ensures { λ r. ⌜ Completes (now (table .entry)) s b (now (tape .entry)) (now (heap .entry))
-        (resultStrips (now (output .entry)) (now (registers .entry))) (runAnswerOf r)
-        (resultStrips (now (output .exit)) (now (registers .exit))) ⌝ }
-{
-    let mut code = [0u32; 2048];
-    let mut fast = [0u64; 512];
-    let mut values = [0u32; 4096];
-    compiled(
-        table,
-        &mut code,
-        &mut fast,
-        &mut values,
-        s,
-        b,
-        heap,
-        output,
-        registers,
-        tape,
-    )
-}
-
-// Any lesson.
+// Any lesson, in room that is enough for the largest.
 fn wide(
     table: &[u32],
     s: Sizes,
@@ -161,7 +128,8 @@ fn wide(
     )
 }
 
-// Runs the accepted lesson that the table holds.
+// Runs the accepted lesson that the table holds: a small one in room that is enough for such, so that what is cleared for a run depends on
+// the lesson.
 fn accepted(
     table: &[u32],
     s: Sizes,
@@ -177,10 +145,24 @@ fn accepted(
         (resultStrips (now (output .entry)) (now (registers .entry))) (runAnswerOf r)
         (resultStrips (now (output .exit)) (now (registers .exit))) ⌝ }
 {
-    if s.tokens <= SMALL {
-        return small(table, s, b, heap, output, registers, tape);
+    if SMALL < s.tokens {
+        return wide(table, s, b, heap, output, registers, tape);
     }
-    wide(table, s, b, heap, output, registers, tape)
+    let mut code = [0u32; 2048];
+    let mut fast = [0u64; 512];
+    let mut values = [0u32; 4096];
+    compiled(
+        table,
+        &mut code,
+        &mut fast,
+        &mut values,
+        s,
+        b,
+        heap,
+        output,
+        registers,
+        tape,
+    )
 }
 
 // Checks the lesson where no tokens are known of it, and then goes on with those of an accepted one: it is run. The call that checks

@@ -59,13 +59,14 @@ module _ {tab : List ℕ} {n : ℕ} {ts : List Token} (lx : Lexemes tab n ts) {m
 
 -- STATEMENTS AND RETURN EXPRESSION
 
-module _ {tab : List ℕ} {s : Scope} {row first : ℕ} (e₄ : first ≡ wordAt tab 4 (row + 1)) {v : Judged}
-    (f : ListPost tab s row (s .tokens) first v) where
+-- they lie among the tokens from the row on
+module _ {tab : List ℕ} {s : Scope} {row first from end : ℕ} (e₄ : first ≡ wordAt tab 4 (row + 1)) (low : from ≡ row)
+    (high : end ≡ s .tokens) {v : Judged} (f : ListPost tab s from end first v) where
   statements : (ts : List Token) (G : List Class) (Γ : Context) → InScope tab ts G Γ s → (m : Method) → m .name .row ≡ row
       → MethodHeld tab (s .tokens) ts m → v ≡ asJudged (judge G Γ (m .body))
   statements ts G Γ sc m at st =
       f .says ts G Γ sc (m .body)
-      (part (sc .world .tokens) at st 4 (m .body) (st .start) e₄ (st .body) (st .body-matches) (st .body-within))
+      (rw (low, high) (part (sc .world .tokens) at st 4 (m .body) (st .start) e₄ (st .body) (st .body-matches) (st .body-within)))
 
   pub carried-refused : {n p : ℕ} → v ≡ Refused n p → CarriedJudged tab s row (Refused n p)
   carried-refused is =
@@ -76,14 +77,14 @@ module _ {tab : List ℕ} {s : Scope} {row first : ℕ} (e₄ : first ≡ wordAt
 
   pub carried-value : {w : ℕ} → v ≡ Fine w → {t want second : ℕ} → t ≡ wordAt tab 3 row → TypeOf tab (s .tokens) t want
       → second ≡ wordAt tab 5 (row + 1) → {r : Judged}
-      → OperandPost tab s row (s .tokens) second want r → CarriedJudged tab s row r
+      → OperandPost tab s from end second want r → CarriedJudged tab s row r
   carried-value is {t} {want} {second} e₃ type e₅ g =
       record {
         says = λ ts G Γ sc m at st.
             let d : m .result .row ≡ t = named (sc .world .tokens) at st 3 (st .result) e₃ in
             rw (goes-on (judge G Γ (m .body)) (λ _. judge G Γ (m .value) >>= λ t. must G (m .value) (m .result .type) t) (statements ts G Γ sc m at st) is)
             (g .says ts G Γ sc (m .value)
-            (part (sc .world .tokens) at st 5 (m .value) (st .return) e₅ (st .value) (st .value-matches) (st .value-within))
+            (rw (low, high) (part (sc .world .tokens) at st 5 (m .value) (st .return) e₅ (st .value) (st .value-matches) (st .value-within)))
             (m .result .type) (type .says ts (sc .world .tokens) (m .result .row) d (m .result .type) (st .head .type)));
       }
 
@@ -233,7 +234,8 @@ mainScope n classes = record { tokens = n; classes = classes; owner = absent; pa
 none-listed : (tab : List ℕ) (n : ℕ) (ts : List Token) → ListedAt tab n ts absent []
 none-listed tab n ts = record { at = refl; stand = no-variables; few = omega arith }
 
-module _ {tab : List ℕ} {n classes : ℕ} {v : Judged} (f : StatementPost tab (mainScope n classes) 14 n 14 v) where
+module _ {tab : List ℕ} {n classes from end : ℕ} (low : from ≡ 14) (high : end ≡ n) {v : Judged}
+    (f : StatementPost tab (mainScope n classes) from end 14 v) where
   main-settled : (ts : List Token) (p : Program) → Ready tab n ts p → length (p .classes) ≡ classes
       → v ≡ asJudged (judge (p .classes) mainContext (p .statement))
   main-settled ts p h l =
@@ -248,7 +250,7 @@ module _ {tab : List ℕ} {n classes : ℕ} {v : Judged} (f : StatementPost tab 
         given-listed = none-listed tab n ts;
         own-listed = none-listed tab n ts;
       })
-      (p .statement) (record { at = h .row; holds = h .statement; matches = h .matches; within = h .statement-within })
+      (p .statement) (rw (low, high) (record { at = h .row; holds = h .statement; matches = h .matches; within = h .statement-within }))
 
   pub bodies-main : {k p : ℕ} → v ≡ Refused k p → BodiesJudged tab n classes (Refused k p)
   unfolding allBodies

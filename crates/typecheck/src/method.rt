@@ -2,6 +2,7 @@
 // mean to them.
 use base::codes::BROKEN;
 use bodies::expr::operand;
+use bodies::range::onward;
 use bodies::scope::Scope;
 use bodies::stmt;
 use declarations::variables::variables;
@@ -28,13 +29,14 @@ fn carried(table: &[u32], fields: &[u32], s: Scope, row: usize) -> Judged
     requires { ⌜ Judgeable (now table) (now fields) s × (row < modulus) ⌝ }
     ensures { λ r. ⌜ CarriedJudged (now (table .entry)) s row r ⌝ }
 {
+    let r = onward(s, row);
     let first = word(table, columns::BODY, row + 1);
-    let b = stmt::list(table, fields, s, row, s.tokens, first);
+    let b = stmt::list(table, fields, s, r, first);
     match b {
         Judged::Fine(_) => {
             let want = type_of(table, s.tokens, word(table, columns::TYPE, row));
             let value = word(table, columns::VALUE, row + 1);
-            operand(table, fields, s, row, s.tokens, value, want)
+            operand(table, fields, s, r, value, want)
         }
         Judged::Refused(number, at) => Judged::Refused(number, at),
     }
@@ -86,15 +88,10 @@ fn methods(
     }
     let b = body(table, fields, n, classes, owner, row);
     match b {
-        Judged::Fine(_) => methods(
-            table,
-            fields,
-            n,
-            classes,
-            left - 1,
-            owner,
-            word(table, NEXT, row),
-        ),
+        Judged::Fine(_) => {
+            let next = word(table, NEXT, row);
+            methods(table, fields, n, classes, left - 1, owner, next)
+        }
         Judged::Refused(number, at) => Judged::Refused(number, at),
     }
 }
@@ -152,14 +149,8 @@ pub fn bodies(table: &[u32], n: usize, classes: usize) -> Judged
         parameters: ABSENT,
         locals: ABSENT,
     };
-    let m = stmt::single(
-        table,
-        &fields,
-        s,
-        columns::MAIN_STATEMENT,
-        n,
-        columns::MAIN_STATEMENT,
-    );
+    let r = onward(s, columns::MAIN_STATEMENT);
+    let m = stmt::single(table, &fields, s, r, columns::MAIN_STATEMENT);
     match m {
         Judged::Fine(_) => all(
             table,

@@ -14,12 +14,15 @@ use Rattle.lookup.specs.contracts.HeldClasses.{ClassTableHeld}
 use Rattle.lookup.specs.laws.HeldLaws.{word-in, name-word, row-there}
 use Rattle.lookup.specs.contracts.Fields.{KeptBehind, FieldsFilled}
 use Rattle.codegen.specs.contracts.Compile.{endMethods, emitMethods, emitClasses}
+use Rattle.writer.specs.declared.job.Job.{Job}
 use Rattle.writer.specs.contracts.Words.{store}
+use Rattle.writer.specs.contracts.Jobs.{partOf, oneLess, PartPost}
 use Rattle.writer.specs.laws.Emits.{no-code}
 use Rattle.writer.specs.contracts.Sizing.{SizesHeld}
 use Rattle.writer.specs.contracts.Posts.{room, Wrote}
 use Rattle.writer.specs.contracts.Methods.{entered, MethodsPost}
 use Rattle.writer.specs.contracts.Classes.{endClasses, enteredClasses, ClassPost, ClassesPost}
+use Rattle.writer.proofs.ExpressionLaws.{found}
 use Rattle.writer.proofs.MethodLaws.{grows-methods}
 
 -- ONE CLASS
@@ -35,12 +38,13 @@ first-method : {tab : List ℕ} {n row first : ℕ} → first ≡ wordAt tab 5 r
 first-method {tab} e₅ w k is s =
     sym (word-in tab 5 (k .name .row) (row-there (w .tokens) (k .name .row) (s .named .token .there)) (s .second)) ∙ ap (wordAt tab 5) is ∙ sym e₅
 
-module _ {tab : List ℕ} {n classes row at first : ℕ} {names c E : List ℕ} (e₅ : first ≡ wordAt tab 5 row) where
-  pub class-empty : absent ≤ first → at ≤ room → ClassPost tab n classes row at names names c c E E at
+module _ {tab : List ℕ} {n classes row at : ℕ} {first : Job} {names c E : List ℕ}
+    (e₅ : PartPost tab 5 (record { left = n; row = row; at = at }) at first) where
+  pub class-empty : absent ≤ first .row → at ≤ room → ClassPost tab n classes row at names names c c E E at
   unfolding emitMethods endMethods entered
-  class-empty far low = record { within = low; stays = λ j h. refl; says = λ ts G w l z k is s lim. go ts G w (k .name .text) (k .methods) (first-method e₅ w k is s) (s .methods) }
+  class-empty far low = record { within = low; stays = λ j h. refl; says = λ ts G w l z k is s lim. go ts G w (k .name .text) (k .methods) (first-method (e₅ .leads) w k is s) (s .methods) }
     where
-      go : (ts : List Token) (G : List Class) → ClassTableHeld tab n ts G → (d : List ℕ) (M : List Method) → rowMethods M ≡ first
+      go : (ts : List Token) (G : List Class) → ClassTableHeld tab n ts G → (d : List ℕ) (M : List Method) → rowMethods M ≡ first .row
           → MethodsHeld tab n ts M
           → Wrote (firstNamed ts) (emitMethods G d M at) (endMethods M at) at c c at × (E ≡ entered M at E)
       go ts G w d [] is h = (record { ends = refl; code = no-code }, refl)
@@ -49,17 +53,20 @@ module _ {tab : List ℕ} {n classes row at first : ℕ} {names c E : List ℕ} 
 
   pub class-wrote : {x : ℕ} → x ≡ wordAt tab 2 row → {names′ : List ℕ} → FieldsFilled tab n classes x names names′
       → {c′ E′ : List ℕ} {r : ℕ}
-      → MethodsPost tab names′ n classes x n first at c c′ E E′ r → ClassPost tab n classes row at names names′ c c′ E E′ r
+      → MethodsPost tab names′ n classes x first c c′ E E′ r → ClassPost tab n classes row at names names′ c c′ E E′ r
   class-wrote {x} e₂ {names′} f {c′} {E′} {r} m = record { within = m .within; stays = f .stays; says = go }
     where
+      m′ : MethodsPost tab names′ n classes x (record { left = n; row = wordAt tab 5 row; at = at }) c c′ E E′ r
+      m′ = subst (λ (i : Job). MethodsPost tab names′ n classes x i c c′ E E′ r) (found e₅) m
+
       go : (ts : List Token) (G : List Class) → ClassTableHeld tab n ts G → length G ≡ classes → SizesHeld ts G names → (k : Class)
           → k .name .row ≡ row → ClassHeld tab n ts k
           → endMethods (k .methods) at ≤ room
           → Wrote (firstNamed ts) (emitMethods G (k .name .text) (k .methods) at) (endMethods (k .methods) at) at c c′ r × (E′ ≡ entered (k .methods) at E)
       go ts G w l sizes k is s lim =
           let own : NameNumber ts (k .name .text) x = subst (NameNumber ts (k .name .text)) (ap (wordAt tab 2) is ∙ sym e₂) (name-word (w .tokens) (k .name .row) (s .named .token)) in
-          m .says ts G (k .name .text) (record { world = w; many = l; declarer = own; sizes = sizes-kept (f .stays) sizes }) (k .methods)
-          (first-method e₅ w k is s) (s .methods) (s .few-methods) lim
+          m′ .says ts G (k .name .text) (record { world = w; many = l; declarer = own; sizes = sizes-kept (f .stays) sizes }) (k .methods)
+          (first-method refl w k is s) (s .methods) (s .few-methods) lim
 
 -- THE CLASSES FROM A ROW ON
 
@@ -68,43 +75,46 @@ unfolding endClasses
 grows-classes [] i = omega arith
 grows-classes (k ∷ ks) i = omega (arith, grows-methods (k .methods) i, grows-classes ks (endMethods (k .methods) i))
 
-module _ {tab : List ℕ} {n classes left row at : ℕ} {names c E : List ℕ} where
-  pub classes-none : left ≡ 0 → ClassesPost tab n classes left row at names c c E E
+module _ {tab : List ℕ} {n classes : ℕ} {job : Job} {names c E : List ℕ} where
+  pub classes-none : job .left ≡ 0 → ClassesPost tab n classes job names c c E E
   unfolding emitClasses enteredClasses store
   classes-none z = record { says = λ ts G w l s ks h lim. go ts G ks (h .few) }
     where
-      go : (ts : List Token) (G ks : List Class) → length ks ≤ left
-          → (c ≡ store (firstNamed ts) (emitClasses G ks at) at c) × (E ≡ enteredClasses ks at E)
+      go : (ts : List Token) (G ks : List Class) → length ks ≤ job .left
+          → (c ≡ store (firstNamed ts) (emitClasses G ks (job .at)) (job .at) c) × (E ≡ enteredClasses ks (job .at) E)
       go ts G [] few = (refl, refl)
       go ts G (k ∷ ks) few = absurd (omega arith)
 
-  pub classes-end : absent ≤ row → ClassesPost tab n classes left row at names c c E E
+  pub classes-end : absent ≤ job .row → ClassesPost tab n classes job names c c E E
   unfolding emitClasses enteredClasses store
   classes-end far = record { says = λ ts G w l s ks h lim. go ts G w ks (h .here) (h .stand) }
     where
-      go : (ts : List Token) (G : List Class) → ClassTableHeld tab n ts G → (ks : List Class) → rowClasses ks ≡ row
+      go : (ts : List Token) (G : List Class) → ClassTableHeld tab n ts G → (ks : List Class) → rowClasses ks ≡ job .row
           → ClassesHeld tab n ts ks
-          → (c ≡ store (firstNamed ts) (emitClasses G ks at) at c) × (E ≡ enteredClasses ks at E)
+          → (c ≡ store (firstNamed ts) (emitClasses G ks (job .at)) (job .at) c) × (E ≡ enteredClasses ks (job .at) E)
       go ts G w [] is h = (refl, refl)
       go ts G w (k ∷ ks) is (more-classes s e h) = absurd (omega (arith, is, row-there (w .tokens) (k .name .row) (s .named .token .there)))
 
-  pub classes-more : row < absent → {a : ℕ} {names′ c₁ E₁ : List ℕ} → ClassPost tab n classes row at names names′ c c₁ E E₁ a → {next : ℕ}
-      → next ≡ wordAt tab 6 row
-      → {c₂ E₂ : List ℕ} → ClassesPost tab n classes (left - 1) next a names′ c₁ c₂ E₁ E₂
-      → ClassesPost tab n classes left row at names c c₂ E E₂
+  pub classes-more : job .row < absent → {a : ℕ} {names′ c₁ E₁ : List ℕ} → ClassPost tab n classes (job .row) (job .at) names names′ c c₁ E E₁ a → {rest : Job} {at : ℕ}
+      → PartPost tab 6 (oneLess job at) a rest
+      → {c₂ E₂ : List ℕ} → ClassesPost tab n classes rest names′ c₁ c₂ E₁ E₂
+      → ClassesPost tab n classes job names c c₂ E E₂
   unfolding emitClasses endClasses enteredClasses
-  classes-more near {a} {names′} {c₁} {E₁} f {next} e₆ {c₂} {E₂} g = record { says = λ ts G w l s ks h lim. go ts G w l s ks (h .here) (h .stand) (h .few) lim }
+  classes-more near {a} {names′} {c₁} {E₁} f {rest} {at} e₆ {c₂} {E₂} g = record { says = λ ts G w l s ks h lim. go ts G w l s ks (h .here) (h .stand) (h .few) lim }
     where
+      g′ : ClassesPost tab n classes (partOf tab 6 (oneLess job at) a) names′ c₁ c₂ E₁ E₂
+      g′ = subst (λ (i : Job). ClassesPost tab n classes i names′ c₁ c₂ E₁ E₂) (found e₆) g
+
       go : (ts : List Token) (G : List Class) → ClassTableHeld tab n ts G → length G ≡ classes → SizesHeld ts G names → (ks : List Class)
-          → rowClasses ks ≡ row → ClassesHeld tab n ts ks
-          → length ks ≤ left → endClasses ks at ≤ room
-          → (c₂ ≡ store (firstNamed ts) (emitClasses G ks at) at c) × (E₂ ≡ enteredClasses ks at E)
+          → rowClasses ks ≡ job .row → ClassesHeld tab n ts ks
+          → length ks ≤ job .left → endClasses ks (job .at) ≤ room
+          → (c₂ ≡ store (firstNamed ts) (emitClasses G ks (job .at)) (job .at) c) × (E₂ ≡ enteredClasses ks (job .at) E)
       go ts G w l s [] is h few lim = absurd (omega (arith, is))
       go ts G w l s (k ∷ ks) is (more-classes st e h) few lim =
-          let stop = endMethods (k .methods) at in
+          let stop = endMethods (k .methods) (job .at) in
           let u = f .says ts G w l s k is st (omega (arith, grows-classes ks stop)) in
-          let here : rowClasses ks ≡ next = sym (word-in tab 6 (k .name .row) (omega (arith, is)) e) ∙ ap (wordAt tab 6) is ∙ sym e₆ in
-          let v = g .says ts G w l (sizes-kept (f .stays) s) ks (record { here = here; stand = h; few = omega arith }) (rw (u .0 .ends) lim) in (
+          let here : rowClasses ks ≡ wordAt tab 6 (job .row) = sym (word-in tab 6 (k .name .row) (omega (arith, is)) e) ∙ ap (wordAt tab 6) is in
+          let v = g′ .says ts G w l (sizes-kept (f .stays) s) ks (record { here = here; stand = h; few = omega arith }) (rw (u .0 .ends) lim) in (
             v .0 ∙ ap (λ (i : ℕ). store (firstNamed ts) (emitClasses G ks i) a c₁) (u .0 .ends) ∙ sym (u .0 .code .is (emitClasses G ks stop)),
             v .1 ∙ rw (u .0 .ends, u .1),
           )

@@ -22,10 +22,10 @@ use Rattle.codegen.specs.contracts.Compile.{end, emit, emitClasses, compile}
 use Rattle.writer.specs.contracts.Words.{store}
 use Rattle.writer.specs.contracts.Sizing.{SizesHeld, SizesPost}
 use Rattle.writer.specs.contracts.Scoping.{Sees}
-use Rattle.writer.specs.contracts.Posts.{room, PutPost, Wrote, Bounded, WritePost}
+use Rattle.writer.specs.contracts.Posts.{room, PutPost, Wrote, PartBounded, WritePost}
 use Rattle.writer.specs.contracts.Classes.{enteredClasses, ClassesPost}
 use Rattle.writer.specs.laws.Room.{program-room}
-use Rattle.writer.specs.contracts.Writing.{BeginPost, MainPost, Writes}
+use Rattle.writer.specs.contracts.Writing.{BeginPost, SeesNone, MainPost, Writes}
 use Rattle.writer.proofs.RowLaws.{whole}
 use Rattle.writer.proofs.PieceLaws.{put-one, next-to}
 use Rattle.writer.proofs.SizeLaws.{all-sizes}
@@ -47,35 +47,31 @@ begun size {names₁ = names₁} zero s f =
 
 -- MAIN
 
--- what main sees
-abbrev mainScope : (n classes : ℕ) → Scope
-mainScope n classes = record { tokens = n; classes = classes; owner = absent; parameters = absent; locals = absent }
-
-pub main-wrote : {tab names : List ℕ} {n classes a r : ℕ} {c c₁ c₂ : List ℕ}
-    → WritePost tab names (mainScope n classes) statement n 14 0 c c₁ a → PutPost a 7 0 0 0 c₁ c₂ r
-    → MainPost tab names n classes c c₂ r
-main-wrote {tab} {names} {n} {classes} {a} {r} {c} {c₁} {c₂} f o = record { within = o .within; says = go }
+pub main-wrote : {tab names : List ℕ} {s : Scope} {a r : ℕ} {c c₁ c₂ : List ℕ} → SeesNone s
+    → WritePost tab names s statement (record { left = s .tokens; row = 14; at = 0 }) c c₁ a → PutPost a 7 0 0 0 c₁ c₂ r
+    → MainPost tab names (s .tokens) (s .classes) c c₂ r
+main-wrote {tab} {names} {s} {a} {r} {c} {c₁} {c₂} none f o = record { within = o .within; says = go }
   where
-    go : (ts : List Token) (p : Program) → Ready tab n ts p → length (p .classes) ≡ classes
+    go : (ts : List Token) (p : Program) → Ready tab (s .tokens) ts p → length (p .classes) ≡ s .classes
         → SizesHeld ts (p .classes) names → suc (end (p .statement) 0) ≤ room
         → Wrote (firstNamed ts) (λ k. emit (p .classes) mainContext (p .statement) 0 (halt ∷ k)) (suc (end (p .statement) 0)) 0 c c₂ r
     go ts p w l sizes lim =
-        let sees : Sees tab names ts (p .classes) mainContext (mainScope n classes) =
+        let sees : Sees tab names ts (p .classes) mainContext s =
         record {
           scope =
               record {
                 world = w .world;
                 many = l;
-                declarer = no-name {c = absent} (omega arith);
+                declarer = no-name {c = s .owner} (omega (arith, none .owner));
                 given = [];
                 own = [];
                 seen = refl;
-                given-listed = record { at = refl; stand = no-variables; few = omega arith };
-                own-listed = record { at = refl; stand = no-variables; few = omega arith };
+                given-listed = record { at = sym (none .parameters); stand = no-variables; few = omega arith };
+                own-listed = record { at = sym (none .locals); stand = no-variables; few = omega arith };
               };
           sizes = sizes;
         } in
-        let x : PartAt tab ts 14 (Bounded n n statement) (p .statement) =
+        let x : PartAt tab ts 14 (PartBounded (s .tokens) (s .tokens) statement) (p .statement) =
         record {
           at = w .row;
           holds = w .statement;
@@ -89,7 +85,7 @@ main-wrote {tab} {names} {n} {classes} {a} {r} {c} {c₁} {c₂} f o = record { 
 
 pub all-wrote : {tab names : List ℕ} {n classes first a : ℕ} {c c₁ c₂ E E₂ : List ℕ} → first ≡ wordAt tab 6 0
     → BeginPost tab n classes first names → MainPost tab names n classes c c₁ a
-    → ClassesPost tab n classes n first a names c₁ c₂ E E₂ → Writes tab n classes c c₂ E E₂
+    → ClassesPost tab n classes (record { left = n; row = first; at = a }) names c₁ c₂ E E₂ → Writes tab n classes c c₂ E E₂
 unfolding compile
 all-wrote {tab} {names} {n} {classes} {first} {a} {c} {c₁} {c₂} {E} {E₂} e₆ b m g = record { says = go }
   where

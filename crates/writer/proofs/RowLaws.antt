@@ -21,7 +21,7 @@ use Rattle.typesystem.specs.Judge.{arity}
 use Rattle.lookup.specs.contracts.Shows.{PartAt}
 use Rattle.lookup.specs.contracts.Lookups.{Many, many-none, many-more, Counts}
 use Rattle.lookup.specs.laws.ShowLaws.{Bounds, BoundsS, there}
-use Rattle.writer.specs.contracts.Posts.{Bounded}
+use Rattle.writer.specs.contracts.Posts.{PartBounded}
 
 pub positive : (e : Expression) → 1 ≤ nodes e
 unfolding nodes
@@ -51,18 +51,18 @@ positive-statement (portPut p n e) = omega arith
 -- PARTS
 
 -- what lies in a declaration
-pub whole : {q : Sort} (t : Part q) {n : ℕ} (i : ℕ) → nodes t ≤ n → Spans i n t → Bounded n n q t
+pub whole : {q : Sort} (t : Part q) {n : ℕ} (i : ℕ) → nodes t ≤ n → Spans i n t → PartBounded n n q t
 whole t {n} i few h = record { few = few; spans = wider t i n 0 n (omega arith) (omega arith) h }
 
 module _ (n row left : ℕ) (more : left ≡ 0 → ⊥) where
   -- a part before the token i of its whole, and one behind it
-  before : {q : Sort} (t : Part q) (i : ℕ) → nodes t ≤ left - 1 → Among 0 n i → Spans 0 i t → Bounded n (left - 1) q t
+  before : {q : Sort} (t : Part q) (i : ℕ) → nodes t ≤ left - 1 → Among 0 n i → Spans 0 i t → PartBounded n (left - 1) q t
   before t i few m h = record { few = few; spans = wider t 0 i 0 n (omega arith) (omega (arith, m .high)) h }
 
-  behind : {q : Sort} (t : Part q) (i : ℕ) → nodes t ≤ left - 1 → Spans (i + 1) n t → Bounded n (left - 1) q t
+  behind : {q : Sort} (t : Part q) (i : ℕ) → nodes t ≤ left - 1 → Spans (i + 1) n t → PartBounded n (left - 1) q t
   behind t i few h = record { few = few; spans = wider t (i + 1) n 0 n (omega arith) (omega arith) h }
 
-  pub fewer : Bounds row (Bounded n left) (Bounded n (left - 1)) (Bounded n (left - 1))
+  pub fewer : Bounds row (PartBounded n left) (PartBounded n (left - 1)) (PartBounded n (left - 1))
   unfolding nodes Spans
   fewer =
       record {
@@ -84,7 +84,7 @@ module _ (n row left : ℕ) (more : left ≡ 0 → ⊥) where
         of-port-get = λ {p} {e} at w. behind e (p .row) (omega (arith, w .few)) (w .spans .1);
       }
 
-  pub fewerS : BoundsS row (Bounded n left) (Bounded n (left - 1))
+  pub fewerS : BoundsS row (PartBounded n left) (PartBounded n (left - 1))
   unfolding nodes Spans
   fewerS =
       record {
@@ -111,16 +111,16 @@ module _ (n row left : ℕ) (more : left ≡ 0 → ⊥) where
       }
 
   -- the first of a list, and the rest
-  pub fewer-arguments : (e : Expression) (es : Part arguments) → rowOf e ≡ row → Bounded n left arguments (argument e es)
-      → Bounded n left expression e × Bounded n (left - 1) arguments es
+  pub fewer-arguments : (e : Expression) (es : Part arguments) → rowOf e ≡ row → PartBounded n left arguments (argument e es)
+      → PartBounded n left expression e × PartBounded n (left - 1) arguments es
   unfolding nodes Spans
   fewer-arguments e es at w = (
     record { few = omega (arith, w .few); spans = w .spans .0 },
     behind es (rowOf e) (omega (arith, w .few, positive e)) (w .spans .1),
   )
 
-  pub fewer-statements : (t : Statement) (ss : Part statements) → rowOf t ≡ row → Bounded n left statements (sequence t ss)
-      → Bounded n left statement t × Bounded n (left - 1) statements ss
+  pub fewer-statements : (t : Statement) (ss : Part statements) → rowOf t ≡ row → PartBounded n left statements (sequence t ss)
+      → PartBounded n left statement t × PartBounded n (left - 1) statements ss
   unfolding nodes Spans
   fewer-statements t ss at w = (
     record { few = omega (arith, w .few); spans = w .spans .0 },
@@ -144,7 +144,7 @@ arity-few noArguments = omega arith
 arity-few (argument e es) = omega (arith, positive e, arity-few es)
 
 pub counted : {tab : List ℕ} {ts : List Token} {n left row r : ℕ} → length ts ≤ 2048 → Counts tab left row r → (es : Part arguments)
-    → PartAt tab ts row (Bounded n left arguments) es → r ≡ arity es
+    → PartAt tab ts row (PartBounded n left arguments) es → r ≡ arity es
 counted {tab} {ts} few c es h =
     c .says (arity es) (subst (λ (i : ℕ). Many tab i (arity es)) (h .at) (arguments-many ts few es (h .holds) (h .matches)))
     (omega (arith, h .within .few, arity-few es))

@@ -3,6 +3,7 @@ pub mod Words
 pub mod Places
 pub mod Sizing
 pub mod Scoping
+pub mod Jobs
 pub mod Posts
 pub mod Methods
 pub mod Classes

@@ -1,5 +1,8 @@
 // Classes: the methods of each, one class after another. While those of a class are written, `names` holds what its fields mean to them.
+use crate::job::Job;
+use crate::job::part;
 use crate::method::methods;
+use bodies::scope::Scope;
 use lookup::fields::fill;
 use lookup::rows::word;
 use parser::columns;
@@ -12,55 +15,52 @@ ghost use Rattle.writer.specs.contracts.Classes.{ClassPost, ClassesPost}
 ghost use Rattle.writer.specs.contracts.Posts.{room};
 ghost use Rattle.writer.specs.contracts.Sizing.{namesLeast};
 
-// The class in a row.
+// The class in a row, of which at most as many methods may come as there are tokens.
 fn of_class(
     table: &[u32],
     names: &mut [u32],
     code: &mut [u32],
     entries: &mut [u32],
-    n: usize,
-    classes: usize,
-    row: usize,
-    at: usize,
+    mut s: Scope,
+    mut p: Job,
 ) -> usize
-    requires { ⌜ Walkable (now table) n × (namesLeast ≤ length (now names)) × (rows ≤ length (now entries)) × (classes ≤ rows)
-        × (at ≤ room) ⌝ }
-    ensures { λ r. ⌜ ClassPost (now (table .entry)) n classes row at (now (names .entry)) (now (names .exit)) (now (code .entry))
-        (now (code .exit)) (now (entries .entry)) (now (entries .exit)) r ⌝ }
+    requires { ⌜ Walkable (now table) (s .tokens) × (namesLeast ≤ length (now names)) × (rows ≤ length (now entries))
+        × (s .classes ≤ rows) × (p .at ≤ room) ⌝ }
+    ensures { λ r. ⌜ ClassPost (now (table .entry)) (s .tokens) (s .classes) (p .row) (p .at) (now (names .entry)) (now (names .exit))
+        (now (code .entry)) (now (code .exit)) (now (entries .entry)) (now (entries .exit)) r ⌝ }
 {
-    let first = word(table, columns::METHODS, row);
-    if ABSENT <= first {
-        return at;
+    p.left = s.tokens;
+    let first = part(table, columns::METHODS, p, p.at);
+    if ABSENT <= first.row {
+        return p.at;
     }
-    let owner = word(table, columns::NUMBER, row);
-    fill(table, names, n, classes, owner);
-    methods(table, names, code, entries, n, classes, owner, n, first, at)
+    s.owner = word(table, columns::NUMBER, p.row);
+    fill(table, names, s.tokens, s.classes, s.owner);
+    methods(table, names, code, entries, s, first)
 }
 
-// The classes from a row on, of which at most `left` may come.
+// The classes from a row on.
 pub fn each(
     table: &[u32],
     names: &mut [u32],
     code: &mut [u32],
     entries: &mut [u32],
-    n: usize,
-    classes: usize,
-    left: usize,
-    row: usize,
-    at: usize,
+    s: Scope,
+    mut p: Job,
 )
-    requires { ⌜ Walkable (now table) n × (namesLeast ≤ length (now names)) × (rows ≤ length (now entries)) × (classes ≤ rows)
-        × (at ≤ room) ⌝ }
-    ensures { λ _. ⌜ ClassesPost (now (table .entry)) n classes left row at (now (names .entry)) (now (code .entry)) (now (code .exit))
-        (now (entries .entry)) (now (entries .exit)) ⌝ }
+    requires { ⌜ Walkable (now table) (s .tokens) × (namesLeast ≤ length (now names)) × (rows ≤ length (now entries))
+        × (s .classes ≤ rows) × (p .at ≤ room) ⌝ }
+    ensures { λ _. ⌜ ClassesPost (now (table .entry)) (s .tokens) (s .classes) p (now (names .entry)) (now (code .entry))
+        (now (code .exit)) (now (entries .entry)) (now (entries .exit)) ⌝ }
 {
-    if left == 0 {
+    if p.left == 0 {
         return;
     }
-    if ABSENT <= row {
+    if ABSENT <= p.row {
         return;
     }
-    let a = of_class(table, names, code, entries, n, classes, row, at);
-    let rest = word(table, columns::NEXT, row);
-    each(table, names, code, entries, n, classes, left - 1, rest, a);
+    let a = of_class(table, names, code, entries, s, p);
+    p.left -= 1;
+    let rest = part(table, columns::NEXT, p, a);
+    each(table, names, code, entries, s, rest);
 }

@@ -2,6 +2,7 @@
 pub mod classes;
 pub mod code;
 pub mod expr;
+pub mod job;
 pub mod method;
 pub mod places;
 pub mod prepare;

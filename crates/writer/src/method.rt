@@ -1,6 +1,8 @@
 // Methods: the body, the value, the return; and where each method's code begins, in an array by the row of its name.
 use crate::code::put;
 use crate::expr::expression;
+use crate::job::Job;
+use crate::job::part;
 use crate::stmt::list;
 use bodies::scope::Scope;
 use codegen::numbers;
@@ -17,34 +19,21 @@ ghost use Rattle.writer.specs.contracts.Methods.{MethodPost, MethodsPost
 ghost use Rattle.writer.specs.contracts.Posts.{room};
 ghost use Rattle.writer.specs.contracts.Sizing.{namesLeast};
 
-// The method whose name stands in this row, in the class whose name has the number `owner`.
-fn method(
-    table: &[u32],
-    names: &[u32],
-    code: &mut [u32],
-    n: usize,
-    classes: usize,
-    owner: usize,
-    row: usize,
-    at: usize,
-) -> usize
-    requires { ⌜ Walkable (now table) n × (namesLeast ≤ length (now names)) × FieldsHeld (now table) n classes owner (now names)
-        × (at ≤ room) × (row < rows) ⌝ }
-    ensures { λ r. ⌜ MethodPost (now (table .entry)) (now (names .entry)) n classes owner row at (now (code .entry)) (now (code .exit)) r ⌝ }
+// The method whose name stands in a row, in the class whose number a scope has; its parts have at most as many nodes as there are tokens.
+fn method(table: &[u32], names: &[u32], code: &mut [u32], mut s: Scope, mut p: Job) -> usize
+    requires { ⌜ Walkable (now table) (s .tokens) × (namesLeast ≤ length (now names))
+        × FieldsHeld (now table) (s .tokens) (s .classes) (s .owner) (now names) × (p .at ≤ room) × (p .row < rows) ⌝ }
+    ensures { λ r. ⌜ MethodPost (now (table .entry)) (now (names .entry)) (s .tokens) (s .classes) (s .owner) (p .row) (p .at)
+        (now (code .entry)) (now (code .exit)) r ⌝ }
 {
-    let parameters = word(table, columns::PARAMETERS, row);
-    let locals = word(table, columns::LOCALS, row);
-    let s = Scope {
-        tokens: n,
-        classes,
-        owner,
-        parameters,
-        locals,
-    };
-    let body = word(table, columns::BODY, row + 1);
-    let a = list(table, names, code, s, n, body, at);
-    let value = word(table, columns::VALUE, row + 1);
-    let b = expression(table, names, code, s, n, value, a);
+    s.parameters = word(table, columns::PARAMETERS, p.row);
+    s.locals = word(table, columns::LOCALS, p.row);
+    p.left = s.tokens;
+    p.row += 1;
+    let body = part(table, columns::BODY, p, p.at);
+    let a = list(table, names, code, s, body);
+    let value = part(table, columns::VALUE, p, a);
+    let b = expression(table, names, code, s, value);
     put(code, b, numbers::RETURN, 0, 0, 0)
 }
 
@@ -56,43 +45,29 @@ fn enter(entries: &mut [u32], row: usize, at: usize)
     entries[row] = at as u32;
 }
 
-// The methods of a class from a row on, of which at most `left` may come.
+// The methods of a class from a row on.
 pub fn methods(
     table: &[u32],
     names: &[u32],
     code: &mut [u32],
     entries: &mut [u32],
-    n: usize,
-    classes: usize,
-    owner: usize,
-    left: usize,
-    row: usize,
-    at: usize,
+    s: Scope,
+    mut p: Job,
 ) -> usize
-    requires { ⌜ Walkable (now table) n × (namesLeast ≤ length (now names)) × FieldsHeld (now table) n classes owner (now names)
-        × (rows ≤ length (now entries)) × (at ≤ room) ⌝ }
-    ensures { λ r. ⌜ MethodsPost (now (table .entry)) (now (names .entry)) n classes owner left row at (now (code .entry)) (now (code .exit))
-        (now (entries .entry)) (now (entries .exit)) r ⌝ }
+    requires { ⌜ Walkable (now table) (s .tokens) × (namesLeast ≤ length (now names))
+        × FieldsHeld (now table) (s .tokens) (s .classes) (s .owner) (now names) × (rows ≤ length (now entries)) × (p .at ≤ room) ⌝ }
+    ensures { λ r. ⌜ MethodsPost (now (table .entry)) (now (names .entry)) (s .tokens) (s .classes) (s .owner) p (now (code .entry))
+        (now (code .exit)) (now (entries .entry)) (now (entries .exit)) r ⌝ }
 {
-    if left == 0 {
-        return at;
+    if p.left == 0 {
+        return p.at;
     }
-    if ABSENT <= row {
-        return at;
+    if ABSENT <= p.row {
+        return p.at;
     }
-    enter(entries, row, at);
-    let a = method(table, names, code, n, classes, owner, row, at);
-    let rest = word(table, columns::NEXT, row);
-    methods(
-        table,
-        names,
-        code,
-        entries,
-        n,
-        classes,
-        owner,
-        left - 1,
-        rest,
-        a,
-    )
+    enter(entries, p.row, p.at);
+    let a = method(table, names, code, s, p);
+    p.left -= 1;
+    let rest = part(table, columns::NEXT, p, a);
+    methods(table, names, code, entries, s, rest)
 }

@@ -1,6 +1,7 @@
 // A program: main's statement, the end, and the classes.
 use crate::classes::each;
 use crate::code::put;
+use crate::job::Job;
 use crate::sizes::sizes;
 use crate::stmt::single;
 use base::fill::zero_words;
@@ -14,9 +15,8 @@ ghost use Prim.Native.Nat.{_≤_};
 ghost use lib.ListN.{length};
 ghost use Rattle.base.specs.contracts.Table.{rows};
 ghost use Rattle.reader.specs.contracts.WalkPost.{Walkable};
-ghost use Rattle.parser.specs.contracts.Layout.{absent};
 ghost use Rattle.lookup.specs.contracts.Fields.{FieldsHeld};
-ghost use Rattle.writer.specs.contracts.Writing.{BeginPost, MainPost, Writes};
+ghost use Rattle.writer.specs.contracts.Writing.{BeginPost, SeesNone, MainPost, Writes};
 ghost use Rattle.writer.specs.contracts.Sizing.{namesLeast};
 
 // What main sees: no fields, and how many fields the objects of each class hold, where the classes begin in a row.
@@ -30,18 +30,17 @@ fn begin(table: &[u32], names: &mut [u32], n: usize, classes: usize, first: usiz
 }
 
 // Main's statement, which stands in row 14 and sees no names, and the end.
-fn main_code(table: &[u32], names: &[u32], code: &mut [u32], n: usize, classes: usize) -> usize
-    requires { ⌜ Walkable (now table) n × (namesLeast ≤ length (now names)) × FieldsHeld (now table) n classes absent (now names) ⌝ }
-    ensures { λ r. ⌜ MainPost (now (table .entry)) (now (names .entry)) n classes (now (code .entry)) (now (code .exit)) r ⌝ }
+fn main_code(table: &[u32], names: &[u32], code: &mut [u32], s: Scope) -> usize
+    requires { ⌜ Walkable (now table) (s .tokens) × (namesLeast ≤ length (now names))
+        × FieldsHeld (now table) (s .tokens) (s .classes) (s .owner) (now names) × SeesNone s ⌝ }
+    ensures { λ r. ⌜ MainPost (now (table .entry)) (now (names .entry)) (s .tokens) (s .classes) (now (code .entry)) (now (code .exit)) r ⌝ }
 {
-    let s = Scope {
-        tokens: n,
-        classes,
-        owner: ABSENT,
-        parameters: ABSENT,
-        locals: ABSENT,
+    let p = Job {
+        left: s.tokens,
+        row: columns::MAIN_STATEMENT,
+        at: 0,
     };
-    let a = single(table, names, code, s, n, columns::MAIN_STATEMENT, 0);
+    let a = single(table, names, code, s, p);
     put(code, a, numbers::HALT, 0, 0, 0)
 }
 
@@ -61,6 +60,18 @@ pub fn write(
 {
     let first = word(table, columns::NEXT, columns::CLASS_LIST);
     begin(table, names, n, classes, first);
-    let a = main_code(table, names, code, n, classes);
-    each(table, names, code, entries, n, classes, n, first, a);
+    let s = Scope {
+        tokens: n,
+        classes,
+        owner: ABSENT,
+        parameters: ABSENT,
+        locals: ABSENT,
+    };
+    let at = main_code(table, names, code, s);
+    let p = Job {
+        left: n,
+        row: first,
+        at,
+    };
+    each(table, names, code, entries, s, p);
 }

@@ -11,20 +11,27 @@ use Rattle.lexer.specs.Kinds.{kNew, kDot}
 use Rattle.lexer.specs.Tokens.{Token}
 use Rattle.parser.specs.Tree.{Place, Name, Sort.arguments, Part, Part.this, Part.newObject, Expression, placeE, Ty, Ty.plain, Variable, Class}
 use Rattle.parser.specs.contracts.Post.{kindInTable}
+use Rattle.reader.specs.contracts.Spans.{Among}
 use Rattle.typesystem.specs.ClassTable.{Context, methodOf}
 use Rattle.typesystem.specs.Judge.{judge, must, ofArray, arity, invocation, lookUp}
 use Rattle.lookup.specs.declared.answer.Judged.{Judged}
+use Rattle.lookup.specs.declared.answer.Judged.the-variants.{Fine, Refused}
 use Rattle.lookup.specs.contracts.HeldClasses.{wordAt, NameNumber, Codes, ListedAt, ClassTableHeld}
 use Rattle.lookup.specs.contracts.Answers.{asJudged, Judges}
 use Rattle.lookup.specs.contracts.Shows.{PartAt, Form, aNewArray, aLength, formAtom, formCompound}
 use Rattle.bodies.specs.declared.scope.Scope.{Scope}
 use Rattle.bodies.specs.contracts.Scoping.{InScope, PartIn, ShowsIn}
 
--- what the row of a call tells of the method's name and of the arguments, which lie behind it
-pub record Invoked (tab : List ℕ) (ts : List Token) (end row : ℕ) (m : Name) (es : Part arguments) : Type 0 where
+-- what the row of a call tells of the method's name and of the arguments, which lie among the tokens from `first` up to `end`
+pub record Invoked (tab : List ℕ) (ts : List Token) (first end row : ℕ) (m : Name) (es : Part arguments) : Type 0 where
   pub number : NameNumber ts (m .text) (wordAt tab 2 (row + 1))
   pub start : wordAt tab 1 (row + 1) ≡ m .start
-  pub given : PartIn tab ts (wordAt tab 5 row) (row + 1) end es
+  pub given : PartIn tab ts (wordAt tab 5 row) first end es
+
+-- the answer for a node of this type, by that for its last part
+pub data TypedPost (t : ℕ) (part : Judged) : Judged → Type 0 where
+  typed-fine : {u : ℕ} → part ≡ Fine u → TypedPost t part (Fine t)
+  typed-refused : {n p : ℕ} → part ≡ Refused n p → TypedPost t part (Refused n p)
 
 module _ (tab : List ℕ) (s : Scope) where
   -- a name, which is a whole expression or the target of an assignment
@@ -58,19 +65,17 @@ module _ (tab : List ℕ) (s : Scope) where
   DottedPost first end row r =
       NodePost (formCompound kDot (kindInTable tab (s .tokens) (row + 1)) (kindInTable tab (s .tokens) (row + 2))) first end row r
 
+  -- an expression in any row; one that is fine lies in the range
   pub record ExpressionPost (first end row : ℕ) (r : Judged) : Type 0 where
+    pub among : {t : ℕ} → r ≡ Fine t → Among first end row
     pub says : (ts : List Token) (G : List Class) (Γ : Context) → InScope tab ts G Γ s → (e : Expression) → PartIn tab ts row first end e
         → Judges ts (judge G Γ e) r
 
   -- an expression that must fit a type
   pub record OperandPost (first end row want : ℕ) (r : Judged) : Type 0 where
+    pub among : {t : ℕ} → r ≡ Fine t → Among first end row
     pub says : (ts : List Token) (G : List Class) (Γ : Context) → InScope tab ts G Γ s → (e : Expression) → PartIn tab ts row first end e
         → (t : Ty) → Codes ts t want → r ≡ asJudged (judge G Γ e >>= λ u. must G e t u)
-
-  -- the last part of a node, which must fit a type, and a type of the node's own
-  pub record SinglePost (first end row want answer : ℕ) (r : Judged) : Type 0 where
-    pub says : (ts : List Token) (G : List Class) (Γ : Context) → InScope tab ts G Γ s → (e : Expression) → PartIn tab ts row first end e
-        → (t u : Ty) → Codes ts t want → Codes ts u answer → Judges ts (judge G Γ e >>= λ v. must G e t v >>= λ _. accepted u) r
 
   -- an expression that must be an array, with the type of what it holds
   pub record ArrayPost (first end row : ℕ) (r : Judged) : Type 0 where
@@ -85,9 +90,9 @@ module _ (tab : List ℕ) (s : Scope) where
     pub says : (end : ℕ) → NodeJudged aLength first end row r
 
   -- the method and the arguments, where the receiver's class has this name
-  pub record InvocationPost (end row c : ℕ) (r : Judged) : Type 0 where
+  pub record InvocationPost (first end row c : ℕ) (r : Judged) : Type 0 where
     pub says : (ts : List Token) (G : List Class) (Γ : Context) → InScope tab ts G Γ s → (m : Name) (es : Part arguments)
-        → Invoked tab ts end row m es → (name : List ℕ) → NameNumber ts name c
+        → Invoked tab ts first end row m es → (name : List ℕ) → NameNumber ts name c
         → Judges ts (invocation m (arity es) (judge G Γ es) (methodOf G name (m .text))) r
 
   -- as many arguments as parameters, each of which must fit

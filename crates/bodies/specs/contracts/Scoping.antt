@@ -40,9 +40,9 @@ PartIn tab ts row first end {q} t = PartAt tab ts row (Spans {s = q} first end) 
 abbrev pub ShowsIn : (tab : List ℕ) (ts : List Token) (n first end row : ℕ) → Form → Expression → Type 0
 ShowsIn tab ts n first end row = Shows tab ts n row (λ (q : Sort). Spans {s = q} first row) (λ (q : Sort). Spans {s = q} (row + 1) end)
 
--- the same of a statement, whose parts lie behind the row
-abbrev pub ShowsStatement : (tab : List ℕ) (ts : List Token) (end row : ℕ) → Form → Statement → Type 0
-ShowsStatement tab ts end row = ShowsS tab ts row (λ (q : Sort). Spans {s = q} (row + 1) end)
+-- a row shows this form of a statement, whose parts lie among the tokens from `first` up to `end`
+abbrev pub ShowsStatement : (tab : List ℕ) (ts : List Token) (first end row : ℕ) → Form → Statement → Type 0
+ShowsStatement tab ts first end row = ShowsS tab ts row (λ (q : Sort). Spans {s = q} first end)
 
 -- the type of what a name means, by number
 abbrev pub Means : List Token → Option Meaning → ℕ → Type 0

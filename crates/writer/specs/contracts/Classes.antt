@@ -10,6 +10,7 @@ use Rattle.lookup.specs.contracts.HeldClasses.{ClassHeld, ClassTableHeld}
 use Rattle.lookup.specs.contracts.Fields.{KeptBehind}
 use Rattle.declarations.specs.contracts.Judgements.{ClassesAt}
 use Rattle.codegen.specs.contracts.Compile.{endMethods, emitMethods, emitClasses}
+use Rattle.writer.specs.declared.job.Job.{Job}
 use Rattle.writer.specs.contracts.Words.{store}
 use Rattle.writer.specs.contracts.Sizing.{SizesHeld}
 use Rattle.writer.specs.contracts.Posts.{room, Wrote}
@@ -34,7 +35,8 @@ module _ (tab : List ℕ) (n classes : ℕ) where
         → endMethods (k .methods) at ≤ room
         → Wrote (firstNamed ts) (emitMethods G (k .name .text) (k .methods) at) (endMethods (k .methods) at) at c c′ r × (E′ ≡ entered (k .methods) at E)
 
-  pub record ClassesPost (left row at : ℕ) (names c c′ E E′ : List ℕ) : Type 0 where
+  pub record ClassesPost (job : Job) (names c c′ E E′ : List ℕ) : Type 0 where
     pub says : (ts : List Token) (G : List Class) → ClassTableHeld tab n ts G → length G ≡ classes → SizesHeld ts G names
-        → (ks : List Class) → ClassesAt tab n ts ks left row
-        → endClasses ks at ≤ room → (c′ ≡ store (firstNamed ts) (emitClasses G ks at) at c) × (E′ ≡ enteredClasses ks at E)
+        → (ks : List Class) → ClassesAt tab n ts ks (job .left) (job .row)
+        → endClasses ks (job .at) ≤ room
+        → (c′ ≡ store (firstNamed ts) (emitClasses G ks (job .at)) (job .at) c) × (E′ ≡ enteredClasses ks (job .at) E)

@@ -11,6 +11,7 @@ use Rattle.typesystem.specs.ClassTable.{contextOf}
 use Rattle.lookup.specs.contracts.HeldClasses.{NameNumber, MethodHeld, MethodsHeld, ClassTableHeld}
 use Rattle.codegen.specs.contracts.Code.{return}
 use Rattle.codegen.specs.contracts.Compile.{emit, middle, valueEnd, endMethods, emitMethods}
+use Rattle.writer.specs.declared.job.Job.{Job}
 use Rattle.writer.specs.contracts.Sizing.{SizesHeld}
 use Rattle.writer.specs.contracts.Posts.{room, Wrote}
 
@@ -32,8 +33,9 @@ pub record MethodPost (tab names : List ℕ) (n classes owner row at : ℕ) (c c
       → F .name .row ≡ row → MethodHeld tab n ts F → suc (valueEnd F at) ≤ room
       → Wrote (firstNamed ts) (λ k. emit G (contextOf d F) (F .body) at (emit G (contextOf d F) (F .value) (middle F at) (return ∷ k))) (suc (valueEnd F at)) at c c′ r
 
-pub record MethodsPost (tab names : List ℕ) (n classes owner left row at : ℕ) (c c′ E E′ : List ℕ) (r : ℕ) : Type 0 where
+pub record MethodsPost (tab names : List ℕ) (n classes owner : ℕ) (job : Job) (c c′ E E′ : List ℕ) (r : ℕ) : Type 0 where
   pub within : r ≤ room
   pub says : (ts : List Token) (G : List Class) (d : List ℕ) → SeesClass tab names n classes owner ts G d → (M : List Method)
-      → rowMethods M ≡ row → MethodsHeld tab n ts M → length M ≤ left
-      → endMethods M at ≤ room → Wrote (firstNamed ts) (emitMethods G d M at) (endMethods M at) at c c′ r × (E′ ≡ entered M at E)
+      → rowMethods M ≡ job .row → MethodsHeld tab n ts M → length M ≤ job .left
+      → endMethods M (job .at) ≤ room
+      → Wrote (firstNamed ts) (emitMethods G d M (job .at)) (endMethods M (job .at)) (job .at) c c′ r × (E′ ≡ entered M (job .at) E)

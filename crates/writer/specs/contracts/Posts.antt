@@ -30,7 +30,9 @@ use Rattle.codegen.specs.contracts.Code as Code
 use Rattle.codegen.specs.contracts.Code.{Instruction, push, load, save, self, negate, scale, operate, jump, unless, keep, fetch, measure}
 use Rattle.codegen.specs.contracts.Code.{makeArray, makeObject, storeElement, readRegister, writeRegister}
 use Rattle.codegen.specs.contracts.Compile.{endBinary, operatorCode, emitBinary, end, emit, cellsOf}
+use Rattle.writer.specs.declared.job.Job.{Job}
 use Rattle.writer.specs.contracts.Words.{words, encode, putAt}
+use Rattle.writer.specs.contracts.Jobs.{partOf}
 use Rattle.writer.specs.contracts.Sizing.{namesLeast}
 use Rattle.writer.specs.contracts.Scoping.{Sees}
 use Rattle.writer.specs.laws.Emits.{Emits}
@@ -40,12 +42,12 @@ abbrev pub room : ℕ
 room = 8192
 
 -- what the functions on parts ask for
-pub record Writable (tab names : List ℕ) (s : Scope) (left row at : ℕ) : Type 0 where
+pub record Writable (tab names : List ℕ) (s : Scope) (job : Job) : Type 0 where
   pub judgeable : Judgeable tab names s
   pub names-long : namesLeast ≤ length names
-  pub few : left ≤ rows
-  pub low : row < modulus
-  pub within : at ≤ room
+  pub few : job .left ≤ rows
+  pub low : job .row < modulus
+  pub within : job .at ≤ room
 
 -- one instruction; where there is no room nothing is written, and the place stays
 pub record PutPost (at op a b d : ℕ) (c c′ : List ℕ) (r : ℕ) : Type 0 where
@@ -119,19 +121,19 @@ endS (portPut p n e) i = suc (end e (end n i))
 -- PARTS AND FORMS
 
 -- a part of at most so many nodes, which lies among n tokens
-pub record Bounded (n left : ℕ) (q : Sort) (t : Part q) : Type 0 where
+pub record PartBounded (n left : ℕ) (q : Sort) (t : Part q) : Type 0 where
   pub few : nodes t ≤ left
   pub spans : Spans 0 n t
 
 -- the instruction of an operator other than `&&`, by whether it is the `*` of thousandths
-abbrev pub chosen : (thousandths : Bool) → Operator → Instruction
-chosen true o = scale
-chosen false o = operate o
+abbrev pub instructionOf : (thousandths : Bool) → Operator → Instruction
+instructionOf true o = scale
+instructionOf false o = operate o
 
 -- which it is of an operator of this kind, whose left operand lies in a row
 pub record ScalesPost (tab : List ℕ) (s : Scope) (kind row : ℕ) (r : Bool) : Type 0 where
   pub says : (ts : List Token) (G : List Class) (Γ : Context) → InScope tab ts G Γ s → (o : Operator) → kind ≡ operatorKind o
-      → (l : Expression) → PartIn tab ts row 0 (s .tokens) l → operatorCode G Γ o l ≡ chosen r o
+      → (l : Expression) → PartIn tab ts row 0 (s .tokens) l → operatorCode G Γ o l ≡ instructionOf r o
 
 -- of a statement that has a test, by the kind of its first token
 unfoldable pub formTested : ℕ → Form
@@ -147,79 +149,88 @@ module _ (tab names : List ℕ) (s : Scope) where
   Whatever P = (ts : List Token) (G : List Class) (Γ : Context) → Sees tab names ts G Γ s → P ts G Γ
 
   -- a part
-  pub record WritePost (q : Sort) (left row at : ℕ) (c c′ : List ℕ) (r : ℕ) : Type 0 where
+  pub record WritePost (q : Sort) (job : Job) (c c′ : List ℕ) (r : ℕ) : Type 0 where
     pub within : r ≤ room
-    pub says : Whatever λ ts G Γ. (t : Part q) → PartAt tab ts row (Bounded (s .tokens) left q) t
-        → Written ts (emit G Γ t at) (end t at) at c c′ r
+    pub says : Whatever λ ts G Γ. (t : Part q) → PartAt tab ts (job .row) (PartBounded (s .tokens) (job .left) q) t
+        → Written ts (emit G Γ t (job .at)) (end t (job .at)) (job .at) c c′ r
 
   -- an expression, a statement, whose row shows this form
-  abbrev pub Says : (F : Form) (left row at : ℕ) (c c′ : List ℕ) (r : ℕ) → Type 0
-  Says F left row at c c′ r =
-      Whatever λ ts G Γ. (e : Expression) → Shows tab ts (s .tokens) row (Bounded (s .tokens) left) (Bounded (s .tokens) left) F e
-      → Written ts (innerE G Γ e at) (endE e at) at c c′ r
+  abbrev pub Says : (F : Form) (job : Job) (c c′ : List ℕ) (r : ℕ) → Type 0
+  Says F job c c′ r =
+      Whatever λ ts G Γ. (e : Expression)
+      → Shows tab ts (s .tokens) (job .row) (PartBounded (s .tokens) (job .left)) (PartBounded (s .tokens) (job .left)) F e
+      → Written ts (innerE G Γ e (job .at)) (endE e (job .at)) (job .at) c c′ r
 
-  pub record ExpressionPost (F : Form) (left row at : ℕ) (c c′ : List ℕ) (r : ℕ) : Type 0 where
+  pub record ExpressionPost (F : Form) (job : Job) (c c′ : List ℕ) (r : ℕ) : Type 0 where
     pub within : r ≤ room
-    pub says : Says F left row at c c′ r
+    pub says : Says F job c c′ r
 
   -- an expression of more than one token, of which its own is of kind k
-  abbrev pub CompoundPost : (k left row at : ℕ) (c c′ : List ℕ) (r : ℕ) → Type 0
-  CompoundPost k left row at c c′ r =
-      ExpressionPost (formCompound k (kindInTable tab (s .tokens) (row + 1)) (kindInTable tab (s .tokens) (row + 2))) left row at c c′ r
+  abbrev pub CompoundPost : (k : ℕ) (job : Job) (c c′ : List ℕ) (r : ℕ) → Type 0
+  CompoundPost k job c c′ r =
+      ExpressionPost (formCompound k (kindInTable tab (s .tokens) (job .row + 1)) (kindInTable tab (s .tokens) (job .row + 2))) job c c′ r
 
-  abbrev pub SaysS : (F : Form) (left row at : ℕ) (c c′ : List ℕ) (r : ℕ) → Type 0
-  SaysS F left row at c c′ r =
-      Whatever λ ts G Γ. (t : Statement) → ShowsS tab ts row (Bounded (s .tokens) left) F t
-      → Written ts (innerS G Γ t at) (endS t at) at c c′ r
+  abbrev pub SaysS : (F : Form) (job : Job) (c c′ : List ℕ) (r : ℕ) → Type 0
+  SaysS F job c c′ r =
+      Whatever λ ts G Γ. (t : Statement) → ShowsS tab ts (job .row) (PartBounded (s .tokens) (job .left)) F t
+      → Written ts (innerS G Γ t (job .at)) (endS t (job .at)) (job .at) c c′ r
 
-  pub record StatementPost (F : Form) (left row at : ℕ) (c c′ : List ℕ) (r : ℕ) : Type 0 where
+  pub record StatementPost (F : Form) (job : Job) (c c′ : List ℕ) (r : ℕ) : Type 0 where
     pub within : r ≤ room
-    pub says : SaysS F left row at c c′ r
+    pub says : SaysS F job c c′ r
 
   -- the value of a variable
-  pub record LoadPost (row at : ℕ) (c c′ : List ℕ) (r : ℕ) : Type 0 where
+  pub record LoadPost (job : Job) (c c′ : List ℕ) (r : ℕ) : Type 0 where
     pub within : r ≤ room
-    pub says : Whatever λ ts G Γ. (x : List ℕ) → NameNumber ts x (wordAt tab 2 row)
-        → Written ts (λ k. load (meaning G Γ x) ∷ k) (suc at) at c c′ r
+    pub says : Whatever λ ts G Γ. (x : List ℕ) → NameNumber ts x (wordAt tab 2 (job .row))
+        → Written ts (λ k. load (meaning G Γ x) ∷ k) (suc (job .at)) (job .at) c c′ r
 
   -- the expression in a row and an instruction with these words; the two parts of the node in a row and such an instruction
-  pub record FollowedPost (op arg left row at : ℕ) (c c′ : List ℕ) (r : ℕ) : Type 0 where
+  pub record FollowedPost (op arg : ℕ) (job : Job) (c c′ : List ℕ) (r : ℕ) : Type 0 where
     pub within : r ≤ room
     pub says : Whatever λ ts G Γ. (x : Instruction) → words op arg 0 0 ≡ encode (firstNamed ts) x → (e : Expression)
-        → PartAt tab ts row (Bounded (s .tokens) left expression) e → Written ts (λ k. emit G Γ e at (x ∷ k)) (suc (end e at)) at c c′ r
+        → PartAt tab ts (job .row) (PartBounded (s .tokens) (job .left) expression) e
+        → Written ts (λ k. emit G Γ e (job .at) (x ∷ k)) (suc (end e (job .at))) (job .at) c c′ r
 
-  pub record PairPost (op arg left row at : ℕ) (c c′ : List ℕ) (r : ℕ) : Type 0 where
+  -- the first part of the node in a row and an instruction that has the position where the node begins
+  abbrev pub LocatedPost : (op : ℕ) (job : Job) (c c′ : List ℕ) (r : ℕ) → Type 0
+  LocatedPost op job c c′ r = FollowedPost op (wordAt tab 3 (job .row)) (partOf tab 4 job (job .at)) c c′ r
+
+  pub record PairPost (op arg : ℕ) (job : Job) (c c′ : List ℕ) (r : ℕ) : Type 0 where
     pub within : r ≤ room
     pub says : Whatever λ ts G Γ. (x : Instruction) → words op arg 0 0 ≡ encode (firstNamed ts) x → (a b : Expression)
-        → PartAt tab ts (wordAt tab 4 row) (Bounded (s .tokens) left expression) a
-        → PartAt tab ts (wordAt tab 5 row) (Bounded (s .tokens) left expression) b
-        → Written ts (λ k. emit G Γ a at (emit G Γ b (end a at) (x ∷ k))) (suc (end b (end a at))) at c c′ r
+        → PartAt tab ts (wordAt tab 4 (job .row)) (PartBounded (s .tokens) (job .left) expression) a
+        → PartAt tab ts (wordAt tab 5 (job .row)) (PartBounded (s .tokens) (job .left) expression) b
+        → Written ts (λ k. emit G Γ a (job .at) (emit G Γ b (end a (job .at)) (x ∷ k))) (suc (end b (end a (job .at)))) (job .at) c c′ r
 
   -- the two parts of the node in a row, the second behind a jump over it
-  pub record ConjunctionPost (left row at : ℕ) (c c′ : List ℕ) (r : ℕ) : Type 0 where
+  pub record ConjunctionPost (job : Job) (c c′ : List ℕ) (r : ℕ) : Type 0 where
     pub within : r ≤ room
-    pub says : Whatever λ ts G Γ. (a b : Expression) → PartAt tab ts (wordAt tab 4 row) (Bounded (s .tokens) left expression) a
-        → PartAt tab ts (wordAt tab 5 row) (Bounded (s .tokens) left expression) b
-        → Written ts (λ k. emit G Γ a at (keep (end b (suc (end a at))) ∷ emit G Γ b (suc (end a at)) k)) (end b (suc (end a at))) at c c′ r
+    pub says : Whatever λ ts G Γ. (a b : Expression)
+        → PartAt tab ts (wordAt tab 4 (job .row)) (PartBounded (s .tokens) (job .left) expression) a
+        → PartAt tab ts (wordAt tab 5 (job .row)) (PartBounded (s .tokens) (job .left) expression) b
+        → Written ts (λ k. emit G Γ a (job .at) (keep (end b (suc (end a (job .at)))) ∷ emit G Γ b (suc (end a (job .at))) k))
+        (end b (suc (end a (job .at)))) (job .at) c c′ r
 
   -- the test's jump, the first branch, and the second
-  pub record BranchesPost (left row at : ℕ) (c c′ : List ℕ) (r : ℕ) : Type 0 where
+  pub record BranchesPost (job : Job) (at : ℕ) (c c′ : List ℕ) (r : ℕ) : Type 0 where
     pub within : r ≤ room
-    pub says : Whatever λ ts G Γ. (y z : Statement) → PartAt tab ts (wordAt tab 5 row) (Bounded (s .tokens) left statement) y
-        → PartAt tab ts (wordAt tab 7 row) (Bounded (s .tokens) left statement) z
+    pub says : Whatever λ ts G Γ. (y z : Statement)
+        → PartAt tab ts (wordAt tab 5 (job .row)) (PartBounded (s .tokens) (job .left) statement) y
+        → PartAt tab ts (wordAt tab 7 (job .row)) (PartBounded (s .tokens) (job .left) statement) z
         → Written ts
         (λ k. unless (suc (end y (suc at))) ∷ emit G Γ y (suc at)
         (jump (end z (suc (end y (suc at)))) ∷ emit G Γ z (suc (end y (suc at))) k))
         (end z (suc (end y (suc at)))) at c c′ r
 
   -- the jump over the second branch, and the branch
-  pub record OtherwisePost (left row at : ℕ) (c c′ : List ℕ) (r : ℕ) : Type 0 where
+  pub record OtherwisePost (job : Job) (at : ℕ) (c c′ : List ℕ) (r : ℕ) : Type 0 where
     pub within : r ≤ room
-    pub says : Whatever λ ts G Γ. (z : Statement) → PartAt tab ts (wordAt tab 7 row) (Bounded (s .tokens) left statement) z
+    pub says : Whatever λ ts G Γ. (z : Statement) → PartAt tab ts (wordAt tab 7 (job .row)) (PartBounded (s .tokens) (job .left) statement) z
         → Written ts (λ k. jump (end z (suc at)) ∷ emit G Γ z (suc at) k) (end z (suc at)) at c c′ r
 
   -- the test's jump, the body, and the jump back
-  pub record BodyPost (left row top at : ℕ) (c c′ : List ℕ) (r : ℕ) : Type 0 where
+  pub record BodyPost (job : Job) (at : ℕ) (c c′ : List ℕ) (r : ℕ) : Type 0 where
     pub within : r ≤ room
-    pub says : Whatever λ ts G Γ. (y : Statement) → PartAt tab ts (wordAt tab 5 row) (Bounded (s .tokens) left statement) y
-        → Written ts (λ k. unless (suc (end y (suc at))) ∷ emit G Γ y (suc at) (jump top ∷ k)) (suc (end y (suc at))) at c c′ r
+    pub says : Whatever λ ts G Γ. (y : Statement) → PartAt tab ts (wordAt tab 5 (job .row)) (PartBounded (s .tokens) (job .left) statement) y
+        → Written ts (λ k. unless (suc (end y (suc at))) ∷ emit G Γ y (suc at) (jump (job .at) ∷ k)) (suc (end y (suc at))) at c c′ r

@@ -11,6 +11,7 @@ use Rattle.parser.specs.Grammar.{DerivesProgram}
 use Rattle.typesystem.specs.ClassTable.{mainContext}
 use Rattle.lookup.specs.contracts.HeldClasses.{ClassTableHeld}
 use Rattle.lookup.specs.contracts.Fields.{FieldsHeld}
+use Rattle.bodies.specs.declared.scope.Scope.{Scope}
 use Rattle.declarations.specs.contracts.Indexing.{Ready}
 use Rattle.codegen.specs.contracts.Code.{halt}
 use Rattle.codegen.specs.contracts.Compile.{end, emit, compile}
@@ -24,6 +25,12 @@ pub record BeginPost (tab : List ℕ) (n classes first : ℕ) (names : List ℕ)
   pub fields : FieldsHeld tab n classes absent names
   pub sizes : (ts : List Token) (G : List Class) → ClassTableHeld tab n ts G → length G ≡ classes → rowClasses G ≡ first
       → SizesHeld ts G names
+
+-- main sees no names of its own
+pub record SeesNone (s : Scope) : Type 0 where
+  pub owner : s .owner ≡ absent
+  pub parameters : s .parameters ≡ absent
+  pub locals : s .locals ≡ absent
 
 pub record MainPost (tab names : List ℕ) (n classes : ℕ) (c c′ : List ℕ) (r : ℕ) : Type 0 where
   pub within : r ≤ room

@@ -6,5 +6,5 @@ use Rattle.bodies.proofs.StatementLaws.{assignment-refused, assignment-
 
 pub assignment-spec : {M : Type 1} → statement M
 assignment-spec =
-    tie.close (tie.spec (λ c κs. search needs) (λ c. search needs) (λ c κs. search needs) (λ c. search needs) (λ c κs. search needs)
-    (λ c. search needs) (λ c. search assignment-value) (λ c. search assignment-refused))
+    tie.close (tie.spec (λ c κs. search needs) (λ c. search needs) (λ c κs. search needs) (λ c κs. search needs) (λ c. search needs)
+    (λ c. search assignment-value) (λ c. search assignment-refused))

@@ -6,5 +6,5 @@ use Rattle.bodies.proofs.StatementLaws.{print-int, print-fixed, print-w
 
 pub printed-spec : {M : Type 1} → statement M
 printed-spec =
-    tie.close (tie.spec (λ c κs. search needs) (λ c. search needs) (λ c κs. search needs) (λ c. search needs) (λ c. search print-int)
-    (λ c. search print-fixed) (λ c κs. search needs) (λ c. search needs) (λ c. search print-wrong) (λ c. search print-refused))
+    tie.close (tie.spec (λ c κs. search needs) (λ c κs. search needs) (λ c. search needs) (λ c. search print-int) (λ c. search print-fixed)
+    (λ c κs. search needs) (λ c. search needs) (λ c. search print-wrong) (λ c. search print-refused))

@@ -21,6 +21,6 @@ pub +chains-spec : {M : Type 1} → statement M
     (word-reads.Asked, word-reads.Learnt, height-reads.Asked, height-reads.Learnt, and 2 chains-kinds.ps (falls 2 chains-kinds.ps _<_ μ-chains t) chains.Pre, chains.Post)
     (and 2 chains-kinds.ps (is 2 chains-kinds.ps μ-chains t) chains.Pre) chains.Post (λ c. search chains-absent)
     (λ c. search chains-none-left) (λ c κs. search needs) (λ c κs. search needs) (λ c κs. search needs) (λ c. search needs)
-    (λ c. search chains-endless) (λ c. search needs) (λ c κs. search needs)
+    (λ c. search chains-endless) (λ c κs. search needs) (λ c. search needs)
     (λ c κs. (search needs, (search needs, search needs, search needs, search needs))) (λ c. search needs)
     (λ c. search chains-next))

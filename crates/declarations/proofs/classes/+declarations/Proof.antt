@@ -32,6 +32,6 @@ pub +declarations-spec : {M : Type 1} → statement M
 +declarations-spec =
     close μ-declarations
     (λ t. declarations-lts.spec (declarations-calls t) (declarations-at t) declarations.Post (λ c. search declarations-absent)
-    (λ c. search declarations-none-left) (λ c κs. search needs) (λ c. search needs) (λ c. search needs) (λ c. search needs)
-    (λ c κs. search needs) (declarations-declarations-requires t) (λ c. search needs) (λ c. search needs) (λ c. search declarations-next)
+    (λ c. search declarations-none-left) (λ c κs. search needs) (λ c. search needs) (λ c κs. search needs) (λ c. search needs)
+    (λ c. search needs) (declarations-declarations-requires t) (λ c. search needs) (λ c. search needs) (λ c. search declarations-next)
     (λ c. search needs) (λ c. search declarations-stop))

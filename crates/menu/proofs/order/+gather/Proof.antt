@@ -22,7 +22,7 @@ pub +gather-spec : {M : Type 1} → statement M
     (λ t. gather-lts.spec
     (word-reads.Asked, word-reads.Learnt, and 4 gather-kinds.ps (falls 4 gather-kinds.ps _<_ μ-gather t) gather.Pre, gather.Post, above-reads.Asked, above-reads.Learnt, enter-reads.Asked, enter-reads.Learnt, link-reads.Asked, link-reads.Learnt)
     (and 4 gather-kinds.ps (is 4 gather-kinds.ps μ-gather t) gather.Pre) gather.Post (λ c. search gather-none) (λ c. search gather-absent)
-    (λ c. search needs) (λ c κs. search needs) (λ c κs. search needs) (λ c κs. search needs) (λ c κs. search needs) (λ c. search needs)
+    (λ c κs. search needs) (λ c. search needs) (λ c κs. search needs) (λ c κs. search needs) (λ c κs. search needs) (λ c. search needs)
     (λ c. search needs) (λ c. search needs) (λ c. search gather-root) (λ c κs. search needs) (λ c. search needs) (λ c. search needs)
     (λ c. search needs) (λ c. search gather-unknown) (λ c κs. search needs) (λ c. search needs) (λ c. search needs) (λ c. search needs)
     (λ c. search gather-child))

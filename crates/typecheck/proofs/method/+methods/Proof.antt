@@ -20,5 +20,5 @@ pub +methods-spec : {M : Type 1} → statement M
     (λ t. methods-lts.spec
     (body-reads.Asked, body-reads.Learnt, word-reads.Asked, word-reads.Learnt, and 2 methods-kinds.ps (falls 2 methods-kinds.ps _<_ μ-methods t) methods.Pre, methods.Post)
     (and 2 methods-kinds.ps (is 2 methods-kinds.ps μ-methods t) methods.Pre) methods.Post (λ c. search methods-end)
-    (λ c. search methods-none) (λ c κs. search needs) (λ c. search needs) (λ c. search needs) (λ c κs. search needs)
+    (λ c. search methods-none) (λ c κs. search needs) (λ c. search needs) (λ c κs. search needs) (λ c. search needs)
     (λ c κs. search needs) (λ c. search needs) (λ c. search methods-next) (λ c. search methods-refused))

@@ -6,6 +6,7 @@ use Rattle.typecheck.proofs.BodyLaws.{bodies-classes, bodies-main}
 
 pub bodies-spec : {M : Type 1} → statement M
 bodies-spec =
-    tie.close (tie.spec (λ c. search needs) (λ c κs. search needs) (λ c. search needs) (λ c κs. search needs) (λ c. search needs)
+    tie.close (tie.spec (λ c. search needs) (λ c κs. search needs) (λ c κs. search needs) (λ c. search needs) (λ c κs. search needs)
+    (λ c. search needs)
     (λ c. search needs) (λ c κs. search needs) (λ c κs. search needs) (λ c. search needs) (λ c. search bodies-classes)
     (λ c. search bodies-main))

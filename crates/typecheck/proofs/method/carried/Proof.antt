@@ -6,6 +6,7 @@ use Rattle.typecheck.proofs.BodyLaws.{carried-value, carried-refused}
 
 pub carried-spec : {M : Type 1} → statement M
 carried-spec =
-    tie.close (tie.spec (λ c. search needs) (λ c κs. search needs) (λ c κs. search needs) (λ c. search needs) (λ c κs. search needs)
+    tie.close (tie.spec (λ c κs. search needs) (λ c. search needs) (λ c κs. search needs) (λ c κs. search needs) (λ c. search needs)
+    (λ c κs. search needs)
     (λ c κs. search needs) (λ c. search needs) (λ c κs. search needs) (λ c κs. search needs) (λ c. search needs)
     (λ c. search carried-value) (λ c. search carried-refused))

@@ -16,12 +16,13 @@ expression-requires c κs =
 returns : tie.Need-returns
 returns c =
     let d = c .before .before .before .before .before .before in
-    let e = d .before .before .before .before .before in
+    let e = d .before .before in
     let g = e .before .before .before in
-    method-wrote (g .before .word .ensures .0) (g .word2 .ensures .0) (e .before .before .word3 .ensures .0) (e .list .ensures)
-    (d .before .before .word4 .ensures .0) (d .expression .ensures) (c .before .before .put .ensures)
+    let h = g .before .before in
+    method-wrote (h .before .before .before .word .ensures .0) (h .before .before .word2 .ensures .0) (h .part .ensures)
+    (g .list .ensures) (e .part2 .ensures) (d .expression .ensures) (c .before .before .put .ensures)
 
 pub method-spec : {M : Type 1} → statement M
 method-spec =
-    tie.close (tie.spec (λ c κs. search needs) (λ c κs. search needs) (λ c. search needs) (λ c κs. search needs)
-    list-requires (λ c. search needs) (λ c κs. search needs) expression-requires (λ c κs. search needs) (λ c. search needs) returns)
+    tie.close (tie.spec (λ c κs. search needs) (λ c κs. search needs) (λ c. search needs) (λ c κs. search needs) list-requires
+    (λ c κs. search needs) expression-requires (λ c κs. search needs) (λ c. search needs) returns)
