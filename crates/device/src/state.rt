@@ -13,6 +13,9 @@ ghost use Rattle.base.specs.Codes.{registersCount};
 ghost use Rattle.device.specs.Device as Device;
 ghost use Rattle.device.specs.contracts.Holding.{held, deviceOf, registersOf, Rests, Alters, Looks, LesserOf};
 
+// How many registers there are.
+pub const REGISTERS: usize = 16;
+
 // The registers that the device itself sets: the flags, the mask, the last sample.
 const FLAGS: usize = 0;
 
