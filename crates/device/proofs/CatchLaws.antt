@@ -11,7 +11,7 @@ use lib.Dec.{leb}
 use Rattle.device.specs.Device as Device
 use Rattle.device.specs.Device.{Device}
 use Rattle.device.specs.laws.Samples.{samples, withTape, samples-past, samples-seen, samples-end}
-use Rattle.device.specs.contracts.Holding.{Held, held, deviceOf, CaughtUp, Looks, LesserOf}
+use Rattle.device.specs.contracts.Holding.{Held, heldIn, deviceOf, CaughtUp, Looks, LesserOf}
 use Rattle.device.proofs.StateLaws.{flags, flagged}
 
 pub least-first : {a b : ℕ} → a < b → LesserOf a b a
@@ -29,11 +29,11 @@ module _ (t : List ℕ) (d : Held) (due last : ℕ) (h : d .taken ≤ due) (w : 
   abbrev after : ℕ → List ℕ → Device
   after k r = samples k (withTape r (deviceOf t d))
 
-  none-read : last ≤ d .taken → CaughtUp t due d (held (d .strip) due)
+  none-read : last ≤ d .taken → CaughtUp t due d (heldIn (d .strip) due)
   unfolding samples
   none-read l = record { taken = refl; is = go (w .one) }
     where
-      go : (last ≡ due) ⊎ (last ≡ length t) → deviceOf t (held (d .strip) due) ≡ samples (due - d .taken) (deviceOf t d)
+      go : (last ≡ due) ⊎ (last ≡ length t) → deviceOf t (heldIn (d .strip) due) ≡ samples (due - d .taken) (deviceOf t d)
       go (inl e) =
           let q : due ≡ d .taken = omega (arith, e, l, h) in
           let z : 0 ≡ due - d .taken = omega (arith, q) in
@@ -45,7 +45,7 @@ module _ (t : List ℕ) (d : Held) (due last : ℕ) (h : d .taken ≤ due) (w : 
 
   -- the device of such a strip
   read-is : (s : List ℕ) (l : Bool) (b : ℕ) → length s ≡ 16
-      → deviceOf t (held (reading s l b) due)
+      → deviceOf t (heldIn (reading s l b) due)
       ≡ record { arrived = true; lost = l; mask = getD s 1 0; reading = b; others = drop 3 s; tape = drop due t }
   read-is [] l b e = absurd (omega (arith, e))
   read-is (f ∷ []) l b e = absurd (omega (arith, e))
@@ -84,7 +84,7 @@ module _ (t : List ℕ) (d : Held) (due last : ℕ) (h : d .taken ≤ due) (w : 
 
     last-read : {x : Bool} {b : ℕ} → length (d .strip) ≡ 16
         → x ≡ ((deviceOf t d .lost || deviceOf t d .arrived) || leb 1 more) → b ≡ getD t (last - 1) 0
-        → CaughtUp t due d (held (reading (d .strip) x b) due)
+        → CaughtUp t due d (heldIn (reading (d .strip) x b) due)
     last-read {x} {b} n e v =
         record {
           taken = refl;
@@ -102,17 +102,17 @@ module _ (t : List ℕ) (d : Held) (due last : ℕ) (h : d .taken ≤ due) (w : 
 
 -- where no sample is due that was taken before
 module _ {t s : List ℕ} {taken due last : ℕ} (w : LesserOf due (length t) last) where
-  pub looks-none : last ≤ taken → Looks t due (held s taken) (held s due)
-  looks-none l = record { says = λ h. none-read t (held s taken) due last h w l }
+  pub looks-none : last ≤ taken → Looks t due (heldIn s taken) (heldIn s due)
+  looks-none l = record { says = λ h. none-read t (heldIn s taken) due last h w l }
 
   pub looks-last : {b : ℕ} {x arrived lost : Bool} {s₁ : List ℕ} → taken < last → length s ≡ 16 → lost ≡ Device.bit 1 (getD s 0 0)
       → arrived ≡ Device.bit 0 (getD s 0 0) → x ≡ ((lost || arrived) || leb 1 (last - taken - 1)) → b ≡ getD t (last - 1) 0
-      → s₁ ≡ set s 0 (flags true x) → Looks t due (held s taken) (held (set s₁ 2 b) due)
+      → s₁ ≡ set s 0 (flags true x) → Looks t due (heldIn s taken) (heldIn (set s₁ 2 b) due)
   looks-last {b} {x} {s₁ = s₁} l n p q e v f =
       let y : x ≡ ((Device.bit 1 (getD s 0 0) || Device.bit 0 (getD s 0 0)) || leb 1 (last - taken - 1)) =
       e ∙ ap₂ (λ (l a : Bool). (l || a) || leb 1 (last - taken - 1)) p q in
       record {
         says = λ h.
-            subst (λ (r : List ℕ). CaughtUp t due (held s taken) (held (set r 2 b) due)) (sym f)
-            (last-read t (held s taken) due last h w l n y v);
+            subst (λ (r : List ℕ). CaughtUp t due (heldIn s taken) (heldIn (set r 2 b) due)) (sym f)
+            (last-read t (heldIn s taken) due last h w l n y v);
       }

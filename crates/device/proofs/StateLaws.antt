@@ -10,7 +10,7 @@ use borrow.Author.Tests.{ne-eqb}
 use Rattle.base.specs.Choice.{if_then_else_}
 use Rattle.device.specs.Device as Device
 use Rattle.device.specs.Device.{Device}
-use Rattle.device.specs.contracts.Holding.{Held, held, deviceOf, registersOf, Rests, Alters}
+use Rattle.device.specs.contracts.Holding.{Held, heldIn, deviceOf, registersOf, Rests, Alters}
 
 -- FLAGS
 
@@ -65,18 +65,18 @@ status-is d r e f g p q w =
 
 -- THE STRIP
 
-pub rests : {s : List ℕ} {n : ℕ} → n ≡ 16 → s ≡ replicate n 0 → Rests (held s 0)
-rests {s} e q = record { taken = refl; is = λ t. ap (λ (l : List ℕ). deviceOf t (held l 0)) (q ∙ ap (λ (k : ℕ). replicate k 0) e) }
+pub rests : {s : List ℕ} {n : ℕ} → n ≡ 16 → s ≡ replicate n 0 → Rests (heldIn s 0)
+rests {s} e q = record { taken = refl; is = λ t. ap (λ (l : List ℕ). deviceOf t (heldIn l 0)) (q ∙ ap (λ (k : ℕ). replicate k 0) e) }
 
 -- other flags
 pub flagged : (s : List ℕ) (a l : Bool) → 0 < length s → (t : List ℕ) (n : ℕ)
-    → deviceOf t (held (set s 0 (flags a l)) n) ≡ Device.withFlags a l (deviceOf t (held s n))
+    → deviceOf t (heldIn (set s 0 (flags a l)) n) ≡ Device.withFlags a l (deviceOf t (heldIn s n))
 flagged [] a l h t n = absurd (omega (arith, h))
 flagged (f ∷ s) a l h t n =
-    ap₂ (λ (a l : Bool). Device.withFlags a l (deviceOf t (held (f ∷ s) n))) (flag-0 a l) (flag-1 a l)
+    ap₂ (λ (a l : Bool). Device.withFlags a l (deviceOf t (heldIn (f ∷ s) n))) (flag-0 a l) (flag-1 a l)
 
 -- register 0 as it is shown
-pub completed : (s : List ℕ) {v : ℕ} → length s ≡ 16 → v ≡ Device.status (deviceOf [] (held s 0)) → set s 0 v ≡ registersOf (held s 0)
+pub completed : (s : List ℕ) {v : ℕ} → length s ≡ 16 → v ≡ Device.status (deviceOf [] (heldIn s 0)) → set s 0 v ≡ registersOf (heldIn s 0)
 completed [] e q = absurd (omega (arith, e))
 completed (f ∷ []) e q = absurd (omega (arith, e))
 completed (f ∷ m ∷ []) e q = absurd (omega (arith, e))
@@ -85,14 +85,14 @@ completed (f ∷ m ∷ r ∷ o) e q = ap (λ (v : ℕ). v ∷ m ∷ r ∷ o) q
 -- REGISTERS BY NUMBER
 
 module _ (s : List ℕ) (e : length s ≡ 16) where
-  pub value-status : (n : ℕ) {r : ℕ} → n ≡ 0 → r ≡ Device.status (deviceOf [] (held s 0)) → r ≡ getD (registersOf (held s 0)) n 0
-  value-status n z q = q ∙ ap (λ (n : ℕ). getD (registersOf (held s 0)) n 0) (sym z)
+  pub value-status : (n : ℕ) {r : ℕ} → n ≡ 0 → r ≡ Device.status (deviceOf [] (heldIn s 0)) → r ≡ getD (registersOf (heldIn s 0)) n 0
+  value-status n z q = q ∙ ap (λ (n : ℕ). getD (registersOf (heldIn s 0)) n 0) (sym z)
 
   -- any other stands in the strip
-  pub value-there : (n : ℕ) → (n ≡ 0 → ⊥) → getD s n 0 ≡ getD (registersOf (held s 0)) n 0
+  pub value-there : (n : ℕ) → (n ≡ 0 → ⊥) → getD s n 0 ≡ getD (registersOf (heldIn s 0)) n 0
   value-there n z = by s e n z
     where
-      by : (s : List ℕ) → length s ≡ 16 → (n : ℕ) → (n ≡ 0 → ⊥) → getD s n 0 ≡ getD (registersOf (held s 0)) n 0
+      by : (s : List ℕ) → length s ≡ 16 → (n : ℕ) → (n ≡ 0 → ⊥) → getD s n 0 ≡ getD (registersOf (heldIn s 0)) n 0
       by [] e n z = absurd (omega (arith, e))
       by (f ∷ []) e n z = absurd (omega (arith, e))
       by (f ∷ m ∷ []) e n z = absurd (omega (arith, e))
@@ -107,10 +107,10 @@ module _ (s : List ℕ) (e : length s ≡ 16) where
       record {
         same = refl;
         is = λ t.
-            ap (λ (x : List ℕ). deviceOf t (held x k)) q
+            ap (λ (x : List ℕ). deviceOf t (heldIn x k)) q
             ∙ flagged s false l (omega (arith, e)) t k
-            ∙ ap (λ (b : Bool). Device.withFlags false b (deviceOf t (held s k))) f
-            ∙ ap (λ (m : ℕ). Device.afterGet m (deviceOf t (held s k))) (sym z);
+            ∙ ap (λ (b : Bool). Device.withFlags false b (deviceOf t (heldIn s k))) f
+            ∙ ap (λ (m : ℕ). Device.afterGet m (deviceOf t (heldIn s k))) (sym z);
       }
 
   pub get-other : (n : ℕ) → (n ≡ 2 → ⊥) → Alters (Device.afterGet n) s s
@@ -118,7 +118,7 @@ module _ (s : List ℕ) (e : length s ≡ 16) where
       record {
         same = refl;
         is = λ t.
-            let d = deviceOf t (held s k) in
+            let d = deviceOf t (heldIn s k) in
             ap (λ (b : Bool). if b then (λ _. Device.withFlags false (d .lost) d) else λ _. d) (sym (ne-eqb n 2 z));
       }
 
@@ -128,9 +128,9 @@ module _ (s : List ℕ) (e : length s ≡ 16) where
       record {
         same = refl;
         is = λ t.
-            ap (λ (x : List ℕ). deviceOf t (held x k)) w
+            ap (λ (x : List ℕ). deviceOf t (heldIn x k)) w
             ∙ flagged s a l (omega (arith, e)) t k
-            ∙ ap₂ (λ (a l : Bool). Device.withFlags a l (deviceOf t (held s k)))
+            ∙ ap₂ (λ (a l : Bool). Device.withFlags a l (deviceOf t (heldIn s k)))
             (ea ∙ ap (λ (x : Bool). x && not (Device.bit 0 b)) ep) (el ∙ ap (λ (x : Bool). x && not (Device.bit 1 b)) eq);
       }
 
@@ -138,14 +138,14 @@ module _ (s : List ℕ) (e : length s ≡ 16) where
   put-status n b {s′} z B = subst (λ (m : ℕ). Alters (Device.afterPut m b) s s′) (sym z) B
 
   pub put-reading : (n b : ℕ) → n ≡ 2 → Alters (Device.afterPut n b) s s
-  put-reading n b z k = record { same = refl; is = λ t. ap (λ (m : ℕ). Device.afterPut m b (deviceOf t (held s k))) (sym z) }
+  put-reading n b z k = record { same = refl; is = λ t. ap (λ (m : ℕ). Device.afterPut m b (deviceOf t (heldIn s k))) (sym z) }
 
   -- any other holds what was put
   pub put-there : (n b : ℕ) → (n ≡ 0 → ⊥) → (n ≡ 2 → ⊥) → Alters (Device.afterPut n b) s (set s n b)
   put-there n b z y k = record { same = refl; is = λ t. by t s e n z y }
     where
       by : (t s : List ℕ) → length s ≡ 16 → (n : ℕ) → (n ≡ 0 → ⊥) → (n ≡ 2 → ⊥)
-          → deviceOf t (held (set s n b) k) ≡ Device.afterPut n b (deviceOf t (held s k))
+          → deviceOf t (heldIn (set s n b) k) ≡ Device.afterPut n b (deviceOf t (heldIn s k))
       by t [] e n z y = absurd (omega (arith, e))
       by t (f ∷ []) e n z y = absurd (omega (arith, e))
       by t (f ∷ m ∷ []) e n z y = absurd (omega (arith, e))

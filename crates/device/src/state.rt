@@ -11,7 +11,7 @@ ghost use lib.ListN.{getD, set, length};
 ghost use Rattle.base.specs.Choice.{if_then_else_};
 ghost use Rattle.base.specs.Codes.{registersCount};
 ghost use Rattle.device.specs.Device as Device;
-ghost use Rattle.device.specs.contracts.Holding.{held, deviceOf, registersOf, Rests, Alters, Looks, LesserOf};
+ghost use Rattle.device.specs.contracts.Holding.{heldIn, deviceOf, registersOf, Rests, Alters, Looks, LesserOf};
 
 // How many registers there are.
 pub const REGISTERS: usize = 16;
@@ -26,7 +26,7 @@ const READING: usize = 2;
 // Every register is 0, as a run begins.
 pub fn reset(strip: &mut [u8])
     requires { ⌜ length (now strip) ≡ registersCount ⌝ }
-    ensures { λ _. ⌜ Rests (held (now (strip .exit)) 0) ⌝ }
+    ensures { λ _. ⌜ Rests (heldIn (now (strip .exit)) 0) ⌝ }
 {
     zero_bytes(strip);
 }
@@ -60,7 +60,7 @@ fn masked(flag: bool, bit: u8) -> bool
 // Bit 7 of register 0.
 fn alarm(strip: &[u8]) -> bool
     requires { ⌜ length (now strip) ≡ registersCount ⌝ }
-    ensures { λ r. ⌜ r ≡ Device.alarm (deviceOf [] (held (now (strip .entry)) 0)) ⌝ }
+    ensures { λ r. ⌜ r ≡ Device.alarm (deviceOf [] (heldIn (now (strip .entry)) 0)) ⌝ }
 {
     if masked(has_arrived(strip), strip[MASK] % 2) {
         return true;
@@ -81,7 +81,7 @@ fn weighed(flag: bool, weight: u8) -> u8
 // Register 0.
 fn status(strip: &[u8]) -> u8
     requires { ⌜ length (now strip) ≡ registersCount ⌝ }
-    ensures { λ r. ⌜ r ≡ Device.status (deviceOf [] (held (now (strip .entry)) 0)) ⌝ }
+    ensures { λ r. ⌜ r ≡ Device.status (deviceOf [] (heldIn (now (strip .entry)) 0)) ⌝ }
 {
     weighed(has_arrived(strip), 1) + weighed(has_lost(strip), 2) + weighed(alarm(strip), 128)
 }
@@ -89,7 +89,7 @@ fn status(strip: &[u8]) -> u8
 // What is got from a register.
 pub fn value(strip: &[u8], register: usize) -> u8
     requires { ⌜ (length (now strip) ≡ registersCount) × (register < registersCount) ⌝ }
-    ensures { λ r. ⌜ r ≡ getD (registersOf (held (now (strip .entry)) 0)) register 0 ⌝ }
+    ensures { λ r. ⌜ r ≡ getD (registersOf (heldIn (now (strip .entry)) 0)) register 0 ⌝ }
 {
     if register == FLAGS {
         return status(strip);
@@ -176,7 +176,7 @@ fn loses(lost: bool, arrived: bool, more: usize) -> bool
 // Takes the last sample that is due and on the tape, where so many were due before; samples past the tape's end change nothing.
 fn sample(tape: &[u8], strip: &mut [u8], taken: usize, due: usize)
     requires { ⌜ length (now strip) ≡ registersCount ⌝ }
-    ensures { λ _. ⌜ Looks (now (tape .entry)) due (held (now (strip .entry)) taken) (held (now (strip .exit)) due) ⌝ }
+    ensures { λ _. ⌜ Looks (now (tape .entry)) due (heldIn (now (strip .entry)) taken) (heldIn (now (strip .exit)) due) ⌝ }
 {
     let last = least(due, tape.len());
     if taken < last {
@@ -192,7 +192,7 @@ const PERIOD: usize = 100;
 // A look at the device after so many steps: how many samples were due by then.
 pub fn catch_up(tape: &[u8], strip: &mut [u8], taken: usize, steps: usize) -> usize
     requires { ⌜ length (now strip) ≡ registersCount ⌝ }
-    ensures { λ r. ⌜ Looks (now (tape .entry)) (steps / Device.period) (held (now (strip .entry)) taken) (held (now (strip .exit)) r) ⌝ }
+    ensures { λ r. ⌜ Looks (now (tape .entry)) (steps / Device.period) (heldIn (now (strip .entry)) taken) (heldIn (now (strip .exit)) r) ⌝ }
 {
     let due = steps / PERIOD;
     sample(tape, strip, taken, due);
@@ -202,7 +202,7 @@ pub fn catch_up(tape: &[u8], strip: &mut [u8], taken: usize, steps: usize) -> us
 // The strip at the end of a run: register 0 is completed.
 pub fn show(strip: &mut [u8])
     requires { ⌜ length (now strip) ≡ registersCount ⌝ }
-    ensures { λ _. ⌜ now (strip .exit) ≡ registersOf (held (now (strip .entry)) 0) ⌝ }
+    ensures { λ _. ⌜ now (strip .exit) ≡ registersOf (heldIn (now (strip .entry)) 0) ⌝ }
 {
     strip[FLAGS] = status(strip);
 }

@@ -12,8 +12,8 @@ pub record Held : Type 0 where
   pub strip : List ℕ
   pub taken : ℕ
 
-abbrev pub held : (strip : List ℕ) (taken : ℕ) → Held
-held s n = record { strip = s; taken = n }
+abbrev pub heldIn : (strip : List ℕ) (taken : ℕ) → Held
+heldIn s n = record { strip = s; taken = n }
 
 -- the device that the code holds: the samples that were due so far are taken from the tape
 abbrev pub deviceOf : (tape : List ℕ) → Held → Device
@@ -43,7 +43,7 @@ pub record Becomes (f : Device → Device) (before after : Held) : Type 0 where
 
 -- the same of the strip, however many samples were due
 abbrev pub Alters : (f : Device → Device) (before after : List ℕ) → Type 0
-Alters f s s′ = (taken : ℕ) → Becomes f (held s taken) (held s′ taken)
+Alters f s s′ = (taken : ℕ) → Becomes f (heldIn s taken) (heldIn s′ taken)
 
 -- after all samples that are due
 pub record CaughtUp (tape : List ℕ) (due : ℕ) (before after : Held) : Type 0 where
