@@ -15,7 +15,7 @@ ghost use Rattle.base.specs.Word.{modulus};
 ghost use Rattle.base.specs.contracts.Table.{rows};
 ghost use Rattle.base.specs.Codes.{tableLeast};
 ghost use Rattle.base.specs.contracts.Table as Table;
-ghost use Rattle.reader.specs.contracts.WalkPost.{Walkable, follower, Walks, WalksMethods, WalksClasses, WalksProgram};
+ghost use Rattle.reader.specs.contracts.WalkPost.{Walkable, follower, Walks, WalksMethods, WalksClasses, WalksProgram, nowhere, countMost};
 
 // The number of nodes, 65,535 where there are more; and the smallest position of a node that is too deep, 4,294,967,296 where none is.
 pub struct Walked {
@@ -37,7 +37,7 @@ const LAST: usize = 2047;
 
 // A sum, at most 65,535.
 fn sum(a: usize, b: usize) -> usize
-    ensures { λ r. ⌜ r ≡ min (a + b) 65535 ⌝ }
+    ensures { λ r. ⌜ r ≡ min (a + b) countMost ⌝ }
 {
     if COUNT_MOST < a {
         return COUNT_MOST;
@@ -57,7 +57,7 @@ fn least(a: usize, b: usize) -> usize
 
 // No part.
 fn nothing() -> Walked
-    ensures { λ r. ⌜ (r .count ≡ 0) × (r .place ≡ 4294967296) ⌝ }
+    ensures { λ r. ⌜ (r .count ≡ 0) × (r .place ≡ nowhere) ⌝ }
 {
     Walked {
         count: 0,
@@ -67,7 +67,7 @@ fn nothing() -> Walked
 
 // Two parts together.
 fn join(a: Walked, b: Walked) -> Walked
-    ensures { λ r. ⌜ (r .count ≡ min (a .count + b .count) 65535) × (r .place ≡ min (a .place) (b .place)) ⌝ }
+    ensures { λ r. ⌜ (r .count ≡ min (a .count + b .count) countMost) × (r .place ≡ min (a .place) (b .place)) ⌝ }
 {
     let count = sum(a.count, b.count);
     let place = least(a.place, b.place);
@@ -79,7 +79,7 @@ fn join(a: Walked, b: Walked) -> Walked
 
 // A node that is not too deep, with its parts.
 fn whole(parts: Walked) -> Walked
-    ensures { λ r. ⌜ (r .count ≡ min (1 + parts .count) 65535) × (r .place ≡ parts .place) ⌝ }
+    ensures { λ r. ⌜ (r .count ≡ min (1 + parts .count) countMost) × (r .place ≡ parts .place) ⌝ }
 {
     let count = sum(1, parts.count);
     let place = parts.place;
