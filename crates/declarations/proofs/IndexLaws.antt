@@ -1,4 +1,4 @@
--- What making the index returns meets the contracts. Clearing and entering write only to column 7 of rows that are no `if` token's, so
+-- What making the index returns meets the contracts. Clearing and entering write only to `cClass` of rows that are no `if` token's, so
 -- the tokens and the tree stay; names have one number just where they are equal, so a name is in the index just where a class of that
 -- name was entered.
 use Prim.Native.Nat.{ℕ, zero, suc, _+_, _-_, _*_, _≤_, _<_}
@@ -150,7 +150,7 @@ length-cleared zero tab = refl
 length-cleared (suc i) tab = length-wiped (cleared i tab) i ∙ length-cleared i tab
 
 module _ {n : ℕ} {ts : List Token} where
-  -- the kind of a token stands in column 0
+  -- the kind of a token stands in `cKind`
   kind-word : {tab : List ℕ} → Lexemes tab n ts → (i : ℕ) → i < n → col tab cKind i ≡ kindAt ts i
   kind-word lx i h = lx .rows i (tokenAt ts i) (get-getD ts i noMore (omega (arith, h, lx .count))) .kind
 

@@ -36,11 +36,7 @@ module _ {n i k : ℕ} {T : List ℕ} (ek : k ≡ kindInTable T n i) where
   unfolding typeFrom
   type-fixed z =
       let l = there T n i k kFixed ek z (omega arith) in
-      record {
-        kept = refl;
-        within = (omega arith, omega arith, omega arith);
-        says = λ ts h f enough. rw (is h i ek z) (met-ok refl refl);
-      }
+      record { kept = refl; within = (omega arith, omega arith, omega arith); says = λ ts h f enough. rw (is h i ek z) (met-ok refl refl) }
 
   module _ {b : Bool} {k₁ : ℕ} (eb : b ≡ beginsType k true) (t : b ≡ true) (z : k ≢ kFixed) (ek₁ : k₁ ≡ kindInTable T n (i + 1)) where
     -- what the definition reads there
@@ -231,11 +227,7 @@ module _ {n i k : ℕ} {T : List ℕ} (ek : k ≡ kindInTable T n i) where
   unfolding parametersFrom
   formals-none z =
       let l = there T n i k kClose ek z (omega arith) in
-      record {
-        kept = refl;
-        within = (omega arith, omega arith, omega arith);
-        says = λ ts h f enough. rw (is h i ek z) (met-ok refl (sym (is-none T .1)));
-      }
+      record { kept = refl; within = (omega arith, omega arith, omega arith); says = λ ts h f enough. rw (is h i ek z) (met-ok refl (sym (is-none T .1))) }
 
   pub formals-some : {T₁ : List ℕ} {r : Answer} → k ≢ kClose → DeclPost parameterList n i T r T₁ → DeclPost formals n i T r T₁
   unfolding parametersFrom

@@ -1,6 +1,6 @@
 -- What the walk over methods, classes and the program returns meets their contracts, and a turn of a loop goes on from one member to the
 -- next: a law for each.
-use Prim.Native.Nat.{ℕ, _+_, _≤_, _<_}
+use Prim.Native.Nat.{ℕ, _+_, _-_, _≤_, _<_}
 use mathlib.Core.Path.{_≡_, refl, sym, ap, _∙_, subst}
 use mathlib.Core.List.{List, [], _∷_}
 use mathlib.Core.Bool.{true, false}

@@ -97,7 +97,7 @@ fn column(table: &[u32], k: usize, row: usize) -> usize
     table[columns::ROWS * k + row] as usize
 }
 
-// The row of the member after this one in a list, 2048 where there is none. In a tree each link goes up: one that does not ends the walk.
+// The row of the member after this one in a list, ABSENT where there is none. In a tree each link goes up: one that does not ends the walk.
 fn following(table: &[u32], chain: bool, row: usize) -> usize
     requires { ⌜ (tableLeast ≤ length (now table)) × (row < rows) ⌝ }
     ensures { λ r. ⌜ r ≡ follower (now (table .entry)) chain row ⌝ }
@@ -182,7 +182,7 @@ fn classes(table: &[u32], n: usize, row: usize) -> Walked
     all
 }
 
-// The whole program: main's statement is in row 14, the first class in column 6 of row 0.
+// The whole program: main's statement is in row MAIN_STATEMENT, the first class in column NEXT of row CLASS_LIST.
 pub fn program(table: &[u32], n: usize) -> Walked
     requires { ⌜ Walkable (now table) n ⌝ }
     ensures { λ r. ⌜ WalksProgram (now (table .entry)) n r ⌝ }

@@ -1,4 +1,4 @@
--- What looking for a variable's place meets: a list is walked by column 6.
+-- What looking for a variable's place meets: a list is walked by `cNext`.
 use Prim.Native.Nat.{ℕ, _+_, _-_, _≤_, _<_}
 use native.Mathlib.Omega.{arith}
 use mathlib.Core.Path.{_≡_, refl, sym, ap, _∙_, subst}

@@ -1,5 +1,5 @@
--- What making the index of the classes ensures: column 7 of the row that is the number of a name leads to the class of that name, and the
--- table is ready for the look-ups. Only column 7 is written, and not in the rows of `if` tokens, where a part stands.
+-- What making the index of the classes ensures: `cClass` of the row that is the number of a name leads to the class of that name, and the
+-- table is ready for the look-ups. Only this column is written, and not in the rows of `if` tokens, where a part stands.
 use Rattle.base.specs.Choice.{if_then_else_}
 use Prim.Native.Nat.{ℕ, zero, suc, _≤_, _<_}
 use mathlib.Core.Path.{_≡_}
@@ -30,7 +30,7 @@ use Rattle.declarations.specs.contracts.Judgements.{FoundByName}
 
 -- CLEARING
 
--- column 7 of a row cleared, but where its token is an `if`
+-- `cClass` of a row cleared, but where its token is an `if`
 unfoldable pub wiped : List ℕ → ℕ → List ℕ
 wiped tab i = if eqb (col tab cKind i) kIf then (λ _. tab) else λ _. put tab cClass i absent
 
@@ -41,7 +41,7 @@ cleared (suc i) tab = wiped (cleared i tab) i
 
 -- ENTERING
 
--- column 7 of a row, if it is one
+-- `cClass` of a row, if it is one
 unfoldable pub indexed : List ℕ → (row class : ℕ) → List ℕ
 indexed tab row class = if ltb row absent then (λ _. put tab cClass row class) else λ _. tab
 

@@ -1,5 +1,5 @@
--- The work table while the lexer fills it: the tokens are read off it, with column 7 for a token's length, and the names stand in chains.
--- Column 5 of row b is the head of bucket b and column 6 of a row the link to the next one of its chain: a row plus one, or 0 for none.
+-- The work table while the lexer fills it: the tokens are read off it, with `cLength` for a token's length, and the names stand in chains.
+-- `cHead` of row b is the head of bucket b and `cLink` of a row the link to the next one of its chain: a row plus one, or 0 for none.
 use Prim.Native.Nat.{ℕ, zero, suc, _+_, _*_, _-_, _%_, _≤_, _<_}
 use mathlib.Core.List.{List, [], _∷_, _++_}
 use mathlib.Core.Bool.{true}

@@ -1,4 +1,4 @@
--- What the lexer leaves in the work table, one row for each token: column 0 is the token's kind, column 1 its position, and column 2 the
+-- What the lexer leaves in the work table, one row for each token: `cKind` is the token's kind, `cStart` its position, and `cNumber` the
 -- number of a name or the value of a literal. The other columns may hold anything.
 use Prim.Native.Nat.{ℕ, _+_, _≤_}
 use mathlib.Core.List.{List, [], _∷_}

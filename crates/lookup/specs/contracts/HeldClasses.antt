@@ -147,7 +147,7 @@ abbrev pub rowClass : Option Class → ℕ
 rowClass none = absent
 rowClass (some k) = k .name .row
 
--- column 7 of the row that is the number of a name leads to the class of that name
+-- `cClass` of the row that is the number of a name leads to the class of that name
 abbrev pub Indexed : List ℕ → List Token → List Class → Type 0
 Indexed tab ts G = (c : List ℕ) (number : ℕ) → NameNumber ts c number → col tab cClass number ≡ rowClass (classNamed G c)
 

@@ -134,7 +134,7 @@ module _ (tab : List ℕ) (ts : List Token) (row : ℕ) (Behind : Bound) where
 
 -- LISTS
 
--- a list goes on: its first member lies in the row itself, the rest in the row to which column 6 leads
+-- a list goes on: its first member lies in the row itself, the rest in the row to which `cNext` leads
 module _ (tab : List ℕ) (ts : List Token) (row : ℕ) where
   pub data GoesOn (First : Expression → Type 0) (Rest : Part arguments → Type 0) : Part arguments → Type 0 where
     one-more-argument : {e : Expression} {es : Part arguments} → PartAt tab ts row First e → PartAt tab ts (wordAt tab cNext row) Rest es

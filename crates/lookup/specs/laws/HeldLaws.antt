@@ -56,7 +56,7 @@ module _ {tab : List ℕ} {n : ℕ} {ts : List Token} (lx : Lexemes tab n ts) wh
   pub start-word : (i : ℕ) → i < length ts → wordAt tab cStart i ≡ startAt ts i
   start-word i h = word-in tab cStart i (omega (arith, lx .count, lx .few)) (tokens-in tab ts (lx .rows) .starts i h)
 
-  -- the number of a name stands in column 2
+  -- the number of a name stands in `cNumber`
   pub spelt : (i : ℕ) {x : List ℕ} → NameIs ts i x → NameNumber ts x (col tab cNumber i)
   spelt i {x} m =
       let g = get-getD ts i noMore (m .there) in

@@ -11,7 +11,7 @@ use borrow.Author.Tests.{ne-eqb}
 use Rattle.base.specs.laws.Lists.{get-getD}
 use Rattle.base.specs.contracts.Table.{col, cStart, cNumber, cBegin, cFirst, cSecond, cNext, cThird}
 use Rattle.base.specs.Codes.{tokensMost}
-use Rattle.lexer.specs.Kinds.{isName, kLiteral, kFixedLiteral, kTrue, kFalse, kThis, kLength, kOpenBrace, kIf, kWhile, kSystem, kPort, kNew, kNot, kDot, kOpen, kOpenBracket}
+use Rattle.lexer.specs.Kinds.{isName, kName, kLiteral, kFixedLiteral, kTrue, kFalse, kThis, kLength, kOpenBrace, kIf, kWhile, kSystem, kPort, kNew, kNot, kDot, kOpen, kOpenBracket}
 use Rattle.lexer.specs.Tokens.{Token, decimal, thousandthsOf}
 use Rattle.parser.specs.Tree.{Numeral, Numeral.intLiteral, Numeral.fixedLiteral, ElementUse, Ty.arrayOf}
 use Rattle.parser.specs.Tree.{Place, Name, Operator, Operator.and, Operator.less, Operator.plus, Operator.minus, Operator.times}
@@ -132,7 +132,7 @@ form-binary plus next third = refl
 form-binary minus next third = refl
 form-binary times next third = refl
 
-form-target : (k next : ℕ) {F : Form} → isName k ≡ true → formS 1 next ≡ F → formS k next ≡ F
+form-target : (k next : ℕ) {F : Form} → isName k ≡ true → formS kName next ≡ F → formS k next ≡ F
 unfolding formS isName
 form-target k next e f =
     rw (no-name k kOpenBrace e refl, no-name k kIf e refl, no-name k kWhile e refl, no-name k kSystem e refl, no-name k kPort e refl) f
@@ -269,35 +269,39 @@ module _ {tab : List ℕ} {n : ℕ} {ts : List Token} (lx : Lexemes tab n ts) (r
   showsS : {F H : Form} {t : Statement} → H ≡ F → ShowsS tab ts row Behind F t → ShowsS tab ts row Behind H t
   showsS {F} {H} {t} f s = subst (λ (J : Form). ShowsS tab ts row Behind J t) (sym f) s
 
+  -- the node of a statement that the kind of its first token tells
+  told : {F : Form} {r k : ℕ} → r ≡ row → TokenIs ts r k → ((next : ℕ) → formS k next ≡ F)
+      → formS (kindInTable tab n row) (kindInTable tab n (row + 1)) ≡ F
+  told {k = k} at t f = byS tab n row k (kind-of lx at (t .there) (t .is)) f
+
   -- the node of a statement whose first token is a name, by the kind of the token after it
-  target : {F : Form} {r k : ℕ} {x : List ℕ} → r ≡ row → NameIs ts r x → TokenIs ts (r + 1) k → formS 1 k ≡ F
+  target : {F : Form} {r k : ℕ} {x : List ℕ} → r ≡ row → NameIs ts r x → TokenIs ts (r + 1) k → formS kName k ≡ F
       → formS (kindInTable tab n row) (kindInTable tab n (row + 1)) ≡ F
   target at m o f =
       form-target (kindInTable tab n row) (kindInTable tab n (row + 1)) (ap isName (kind-of lx at (m .there) refl) ∙ m .named)
-      (ap (formS 1) (kind-after lx at (m .there) (o .is)) ∙ f)
+      (ap (formS kName) (kind-after lx at (m .there) (o .is)) ∙ f)
 
   seeS : (t : Statement) → rowOf t ≡ row → Holds tab t → Matches ts t → Within statement t
       → ShowsS tab ts row Behind (formS (kindInTable tab n row) (kindInTable tab n (row + 1))) t
   unfolding Holds Matches formS
   seeS (block p ss) at h m w =
       let low = m .0 .there in
-      showsS (byS tab n row kOpenBrace (kind-of lx at low (m .0 .is)) (λ x. refl))
+      showsS (told at (m .0) (λ x. refl))
       (shows-block (word lx at low cBegin (h .0 .start)) (part lx at low cFirst (h .0 .first) (h .1) (m .1) (b .of-block at w)))
   seeS (conditional p e s t) at h m w =
       let low = m .0 .there in
       let v = b .of-conditional at w in
-      showsS (byS tab n row kIf (kind-of lx at low (m .0 .is)) (λ x. refl))
+      showsS (told at (m .0) (λ x. refl))
       (shows-conditional (word lx at low cBegin (h .0 .start)) (part lx at low cFirst (h .0 .first) (h .2) (m .1) (v .0))
       (part lx at low cSecond (h .0 .second) (h .3) (m .2) (v .1)) (part lx at low cThird (h .1) (h .4) (m .3) (v .2)))
   seeS (loop p e s) at h m w =
       let low = m .0 .there in
       let v = b .of-loop at w in
-      showsS (byS tab n row kWhile (kind-of lx at low (m .0 .is)) (λ x. refl))
-      (shows-loop (word lx at low cBegin (h .0 .start)) (part lx at low cFirst (h .0 .first) (h .1) (m .1) (v .0))
-      (part lx at low cSecond (h .0 .second) (h .2) (m .2) (v .1)))
+      showsS (told at (m .0) (λ x. refl)) (shows-loop (word lx at low cBegin (h .0 .start))
+      (part lx at low cFirst (h .0 .first) (h .1) (m .1) (v .0)) (part lx at low cSecond (h .0 .second) (h .2) (m .2) (v .1)))
   seeS (print p e) at h m w =
       let low = m .0 .there in
-      showsS (byS tab n row kSystem (kind-of lx at low (m .0 .is)) (λ x. refl))
+      showsS (told at (m .0) (λ x. refl))
       (shows-print (word lx at low cBegin (h .0 .start)) (part lx at low cFirst (h .0 .first) (h .1) (m .1) (b .of-print at w)))
   seeS (assign p x e) at h m w =
       let low = m .0 .there in
@@ -313,9 +317,8 @@ module _ {tab : List ℕ} {n : ℕ} {ts : List Token} (lx : Lexemes tab n ts) (r
   seeS (portPut p i e) at h m w =
       let low = m .0 .there in
       let v = b .of-port-put at w in
-      showsS (byS tab n row kPort (kind-of lx at low (m .0 .is)) (λ x. refl))
-      (shows-port-put (word lx at low cBegin (h .0 .start)) (part lx at low cFirst (h .0 .first) (h .1) (m .1) (v .0))
-      (part lx at low cSecond (h .0 .second) (h .2) (m .2) (v .1)))
+      showsS (told at (m .0) (λ x. refl)) (shows-port-put (word lx at low cBegin (h .0 .start))
+      (part lx at low cFirst (h .0 .first) (h .1) (m .1) (v .0)) (part lx at low cSecond (h .0 .second) (h .2) (m .2) (v .1)))
 
   pub shownS : {F : Form} → formS (kindInTable tab n row) (kindInTable tab n (row + 1)) ≡ F → (t : Statement)
       → PartAt tab ts row (Within statement) t

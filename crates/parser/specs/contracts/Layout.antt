@@ -1,5 +1,5 @@
--- How a tree lies in the work table. Columns 0 to 2 hold the tokens. The row of a node's own token holds, in column 3, the position where the node begins,
--- in columns 4 and 5 the rows of its first and second part, in column 7 that of a third; column 6 leads to the next argument or statement of a list.
+-- How a tree lies in the work table. The columns before `cBegin` hold the tokens. The row of a node's own token holds, in `cBegin`, the position where the node
+-- begins, in `cFirst` and `cSecond` the rows of its first and second part, in `cThird` that of a third; `cNext` leads to the next argument or statement of a list.
 use Prim.Native.Nat.{ℕ, _+_}
 use mathlib.Core.List.{List, [], _∷_}
 use mathlib.Core.Option.{Option, none, some}
@@ -85,9 +85,9 @@ store (portPut p n e) tab = node (store e (store n tab)) (p .row) (p .start) (ro
 store noStatements tab = tab
 store (sequence s ss) tab = put (store ss (store s tab)) cNext (rowOf s) (rowOf ss)
 
--- DECLARATIONS. A variable, a method or a class lies in the row of its name: in column 3 the row of its type, of its result type or of the name of its parent;
--- in column 4 its first parameter or field, in column 5 its first local or method; column 6 leads to the next. The row after a method's name, that of its
--- `(`, holds in columns 4 and 5 its first statement and its return expression.
+-- DECLARATIONS. A variable, a method or a class lies in the row of its name: in `cType` the row of its type or of its result type, in `cParent` that of the name
+-- of its parent; in `cParameters` or `cFields` its first parameter or field, in `cLocals` or `cMethods` its first local or method; `cNext` leads to the next. The
+-- row after a method's name, that of its `(`, holds in `cBody` and `cValue` its first statement and its return expression.
 
 unfoldable pub storeVariable : Variable → List ℕ → List ℕ
 storeVariable v tab = put tab cType (v .name .row) (v .type .row)
@@ -140,6 +140,6 @@ unfoldable pub storeClasses : List Class → List ℕ → List ℕ
 storeClasses [] tab = tab
 storeClasses (k ∷ ks) tab = put (storeClasses ks (storeClass k tab)) cNext (k .name .row) (rowClasses ks)
 
--- The first class stands in column 6 of row 0, that of the first token; main's statement is in row 14, that of the token after main's head.
+-- The first class stands in `cNext` of row 0, that of the first token; main's statement is in `mainRow`.
 unfoldable pub storeProgram : Program → List ℕ → List ℕ
 storeProgram p tab = put (storeClasses (p .classes) (store (p .statement) tab)) cNext 0 (rowClasses (p .classes))

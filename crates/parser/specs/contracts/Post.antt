@@ -24,7 +24,7 @@ use Rattle.parser.specs.contracts.Layout.{rowOf, store, given, listTop}
 unfoldable pub kindInTable : List ℕ → (n i : ℕ) → ℕ
 kindInTable tab n i = if ltb i n then (λ _. col tab cKind i) else λ _. 0
 
--- columns 0 and 1 hold the kinds and the positions of these n tokens
+-- `cKind` and `cStart` hold the kinds and the positions of these n tokens
 pub record TokensIn (tab : List ℕ) (n : ℕ) (ts : List Token) : Type 0 where
   pub count : length ts ≡ n
   pub kinds : (i : ℕ) → kindInTable tab n i ≡ kindAt ts i

@@ -72,7 +72,7 @@ unfoldable pub HoldsClasses : List ℕ → List Class → Type 0
 HoldsClasses tab [] = Unit {0}
 HoldsClasses tab (k ∷ ks) = HoldsClass tab k × (col tab cNext (k .name .row) ≡ rowClasses ks) × HoldsClasses tab ks
 
--- main's statement stands in row 14; the first class in column 6 of row 0
+-- main's statement stands in `mainRow`; the first class in `cNext` of row 0
 pub record HoldsProgram (tab : List ℕ) (p : Program) : Type 0 where
   pub statement : Holds tab (p .statement)
   pub first : col tab cNext 0 ≡ rowClasses (p .classes)

@@ -131,7 +131,7 @@ pub record WalksClasses (tab : List ℕ) (n row : ℕ) (w : Walked) : Type 0 whe
       → ClassesOrdered ks
       → WalkAnswers (classesDeep ks) (classesNodes ks) w
 
--- main's statement stands in row 14, and no count is too large
+-- main's statement stands in `mainRow`, and no count is too large
 pub record ProgramOrdered (p : Program) : Type 0 where
   pub row : rowOf (p .statement) ≡ mainRow
   pub statement : Ordered 0 (p .statement)

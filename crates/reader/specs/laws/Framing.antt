@@ -25,7 +25,7 @@ nowhere k r = ⊥
 abbrev pub wholeRow : ℕ → Region
 wholeRow row k r = r ≡ row
 
--- column 6 of a member's own row, which its list writes after it: the tree itself does not read it
+-- `cNext` of a member's own row, which its list writes after it: the tree itself does not read it
 abbrev pub nextOf : ℕ → Region
 nextOf row k r = (k ≡ cNext) × (r ≡ row)
 

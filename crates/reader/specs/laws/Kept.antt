@@ -1,5 +1,5 @@
--- What a table says of a tree stands in its columns 3 to 6 and, in the rows of `if` tokens, in column 7: each row that is read is that of
--- a token which is there. So column 7 of all other rows is free for what is found out about names.
+-- What a table says of a tree stands in its columns `cBegin` to `cNext` and, in the rows of `if` tokens, in `cThird`: each row that is read is that of
+-- a token which is there. So that column of all other rows is free for what is found out about names.
 use Prim.Native.Nat.{ℕ, _+_, _≤_, _<_}
 use mathlib.Core.Path.{_≡_, _∙_}
 use mathlib.Core.List.{List, [], _∷_}
@@ -18,7 +18,7 @@ use Rattle.reader.specs.contracts.Holds.{NodeRow, Holds, HoldsVariables,
 use Rattle.reader.specs.contracts.Matches.{NumeralMatches, Matches, VariablesMatch, MethodMatches, MethodsMatch}
 use Rattle.reader.specs.contracts.Matches.{ClassMatches, ClassesMatch, ProgramMatches}
 
--- the second table has the first one's columns 3 to 6, and its column 7 in the rows of `if` tokens
+-- the second table has the first one's columns `cBegin` to `cNext`, and its `cThird` in the rows of `if` tokens
 pub record SameTree (ts : List Token) (tab tab′ : List ℕ) : Type 0 where
   pub columns : (k : ℕ) → cBegin ≤ k → k < cThird → SameColumn k tab tab′
   pub thirds : (i : ℕ) → i < rows → kindAt ts i ≡ kIf → col tab′ cThird i ≡ col tab cThird i
@@ -55,7 +55,7 @@ statement-there ts (assignElement p x i e) m = m .0 .there
 statement-there ts (portPut p n e) m = m .0 .there
 
 module _ {ts : List Token} {tab tab′ : List ℕ} (short : length ts ≤ rows) (same : SameTree ts tab tab′) where
-  -- a word of column 3, 4, 5 or 6
+  -- a word of a column from `cBegin` to `cNext`
   word : (k i : ℕ) → cBegin ≤ k → k < cThird → i < length ts → col tab′ k i ≡ col tab k i
   word k i h₃ h₇ h = same .columns k h₃ h₇ i (omega arith)
 

@@ -1,4 +1,4 @@
--- `place` meets its contract: column 1 has the positions of the tokens.
+-- `place` meets its contract: `cStart` has the positions of the tokens.
 use Prim.Native.Nat.{_+_}
 use borrow.Author.Tests.{lt-ltb, le-ltb}
 use native.Mathlib.Omega.{arith}
