@@ -198,10 +198,10 @@ module _ {tab : List ℕ} {n others before first index row t : ℕ} (e₃ : t �
           at-last : OccursEarlier tab n others before first index row x false
           at-last = subst (OccursEarlier tab n others before first index row x) fresh same-list
 
-          pub variable-fine : before + index < 32 → VariableJudged tab n others before first index row (Fine 0)
+          pub variable-fine : before + index < variablesMost → VariableJudged tab n others before first index row (Fine 0)
           variable-fine few = by-name false true at-last (lt-ltb (before + index) variablesMost few) refl
 
-          pub variable-many : 32 ≤ before + index → {p : ℕ} → p ≡ wordAt tab cStart row
+          pub variable-many : variablesMost ≤ before + index → {p : ℕ} → p ≡ wordAt tab cStart row
               → VariableJudged tab n others before first index row (Refused tooManyVariables p)
           variable-many many e₁ = by-name false false at-last (le-ltb (before + index) variablesMost many) e₁
 

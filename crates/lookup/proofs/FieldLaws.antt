@@ -10,7 +10,7 @@ use mathlib.Core.Option.{Option, none, some}
 use lib.ListN.{length, getD, set, length-append, length-set}
 use lib.Seq.{getD-set-same, getD-set-other}
 use Rattle.base.specs.Choice.{option}
-use Rattle.base.specs.Codes.{tokensMost}
+use Rattle.base.specs.Codes.{tokensMost, variablesMost}
 use Rattle.base.specs.contracts.Table.{cNumber, cNext, cType, cFields, cClass}
 use Rattle.lexer.specs.Tokens.{Token}
 use Rattle.parser.specs.Tree.{Variable, Class}
@@ -101,7 +101,7 @@ cleared-all ge h = record { stays = h .stays; empty = λ x low. h .empty x (omeg
 tells-next : {ts : List Token} (at : ℕ) (o upper : Option Slot) {t p : ℕ} → Tells ts (option o upper λ s. some (moved (at + 1) s)) t p
     → Tells ts (option (option o none λ s. some (moved 1 s)) upper λ s. some (moved at s)) t p
 tells-next at none upper h = h
-tells-next at (some s) upper {p = p} (a-field c e) = let z : p ≡ 32 + (at + (1 + s .place)) = omega (arith, e) in a-field c z
+tells-next at (some s) upper {p = p} (a-field c e) = let z : p ≡ variablesMost + (at + (1 + s .place)) = omega (arith, e) in a-field c z
 
 -- the name of the field in a row
 own-name : {tab : List ℕ} {n row w : ℕ} → w ≡ wordAt tab cNumber row → {ts : List Token} → Lexemes tab n ts
@@ -134,20 +134,20 @@ module _ {tab : List ℕ} {n left row at : ℕ} {before : List ℕ} where
 
   module _ (near : row < absent) {next : ℕ} (e₆ : next ≡ wordAt tab cNext row) {mid : List ℕ} (h : OwnHeld tab n (left - 1) next (at + 1) before mid) {w : ℕ} (word : w ≡ wordAt tab cNumber row) where
     pub own-written : w < absent → fieldsLeast ≤ length before → length mid ≡ length before → {u t : ℕ} → u ≡ wordAt tab cType row → TypeOf tab n u t
-        → {after : List ℕ} → after ≡ set (set mid w t) (slotsFrom + w) (32 + at) → OwnHeld tab n left row at before after
+        → {after : List ℕ} → after ≡ set (set mid w t) (slotsFrom + w) (variablesMost + at) → OwnHeld tab n left row at before after
     unfolding variableNamed
     own-written low large long {u} {t} e₃ typed {after} written = record { stays = λ j le. other-word j (λ z. omega arith) (λ z. omega arith) ∙ h .stays j le; says = go }
       where
         type-here : getD after w 0 ≡ t
         type-here =
-            ap (λ (l : List ℕ). getD l w 0) written ∙ getD-set-other (set mid w t) (slotsFrom + w) w (32 + at) 0 (λ z. omega arith) ∙ getD-set-same mid w t 0 (omega (arith, long))
+            ap (λ (l : List ℕ). getD l w 0) written ∙ getD-set-other (set mid w t) (slotsFrom + w) w (variablesMost + at) 0 (λ z. omega arith) ∙ getD-set-same mid w t 0 (omega (arith, long))
 
-        slot-here : getD after (slotsFrom + w) 0 ≡ 32 + at
-        slot-here = ap (λ (l : List ℕ). getD l (slotsFrom + w) 0) written ∙ getD-set-same (set mid w t) (slotsFrom + w) (32 + at) 0 (omega (arith, long, length-set mid w t))
+        slot-here : getD after (slotsFrom + w) 0 ≡ variablesMost + at
+        slot-here = ap (λ (l : List ℕ). getD l (slotsFrom + w) 0) written ∙ getD-set-same (set mid w t) (slotsFrom + w) (variablesMost + at) 0 (omega (arith, long, length-set mid w t))
 
         other-word : (j : ℕ) → (j ≡ w → ⊥) → (j ≡ slotsFrom + w → ⊥) → getD after j 0 ≡ getD mid j 0
         other-word j a b =
-            ap (λ (l : List ℕ). getD l j 0) written ∙ getD-set-other (set mid w t) (slotsFrom + w) j (32 + at) 0 b ∙ getD-set-other mid w j t 0 a
+            ap (λ (l : List ℕ). getD l j 0) written ∙ getD-set-other (set mid w t) (slotsFrom + w) j (variablesMost + at) 0 b ∙ getD-set-other mid w j t 0 a
 
         go : (ts : List Token) → Lexemes tab n ts → (vs : List Variable) → rowVariables vs ≡ row → VariablesHeld tab ts vs
             → length vs ≤ left
@@ -160,8 +160,8 @@ module _ {tab : List ℕ} {n left row at : ℕ} {before : List ℕ} where
               | yes is ↦
                   let type : Codes ts (v .type .type) t = typed .says ts lx (v .type .row) (sym (word-in tab cType (v .name .row) (omega (arith, d, near)) c₃) ∙ ap (wordAt tab cType) d ∙ sym e₃) (v .type .type) (m .type) in
                   let told : Codes ts (v .type .type) (getD after x 0) = subst (Codes ts (v .type .type)) (sym (ap (λ (i : ℕ). getD after i 0) (sym is) ∙ type-here)) type in
-                  let placed : getD after (slotsFrom + x) 0 ≡ 32 + at = ap (λ (i : ℕ). getD after (slotsFrom + i) 0) (sym is) ∙ slot-here in
-                  let first : getD after (slotsFrom + x) 0 ≡ 32 + (at + 0) = omega (arith, placed) in
+                  let placed : getD after (slotsFrom + x) 0 ≡ variablesMost + at = ap (λ (i : ℕ). getD after (slotsFrom + i) 0) (sym is) ∙ slot-here in
+                  let first : getD after (slotsFrom + x) 0 ≡ variablesMost + (at + 0) = omega (arith, placed) in
                   rw (same-names own sp is) (a-field told first)
               | no other ↦
                   let there : x < absent = row-there lx x (sp .there) in
@@ -187,7 +187,7 @@ tells-from : {ts : List Token} {at b : ℕ} → at ≡ b → (o upper : Option S
     → Tells ts (option o upper λ s. some (moved at s)) t p
     → Tells ts (option o upper λ s. some (moved b s)) t p
 tells-from e none upper h = h
-tells-from {b = b} e (some s) upper {p = p} (a-field c q) = let z : p ≡ 32 + (b + s .place) = omega (arith, e, q) in a-field c z
+tells-from {b = b} e (some s) upper {p = p} (a-field c q) = let z : p ≡ variablesMost + (b + s .place) = omega (arith, e, q) in a-field c z
 
 module _ {tab : List ℕ} {n left c : ℕ} {before : List ℕ} where
   pub climb-none-left : left ≡ 0 → FieldsClimbed tab n left c before before 0

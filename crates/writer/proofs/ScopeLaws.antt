@@ -9,7 +9,7 @@ use mathlib.Core.Option.{Option, none, some}
 use lib.ListN.{length, getD}
 use Rattle.base.specs.Choice.{if_then_else_, option}
 use Rattle.base.specs.Bytes.{same}
-use Rattle.base.specs.Codes.{tokensMost}
+use Rattle.base.specs.Codes.{tokensMost, variablesMost}
 use Rattle.lexer.specs.Tokens.{Token}
 use Rattle.parser.specs.Tree.{Variable, Class}
 use Rattle.typesystem.specs.ClassTable.{Slot, moved, Context, ofRow, ofObject, meaning, variableNamed, nearestField, chain}
@@ -32,7 +32,7 @@ use Rattle.writer.proofs.PlaceLaws.{place-below}
 -- a field by number
 abbrev objectSlot : Option Slot → ℕ
 objectSlot none = absent
-objectSlot (some s) = 32 + s .place
+objectSlot (some s) = variablesMost + s .place
 
 meaning-row : (G : List Class) (Γ : Context) (x : List ℕ) {s : Slot} → variableNamed (Γ .variables) x ≡ some s
     → meaning G Γ x ≡ some (ofRow s)

@@ -6,7 +6,7 @@ use mathlib.Core.List.{List}
 use mathlib.Core.Option.{Option, none, some}
 use lib.ListN.{length, getD}
 use Rattle.base.specs.Choice.{option}
-use Rattle.base.specs.Codes.{tokensMost}
+use Rattle.base.specs.Codes.{tokensMost, variablesMost}
 use Rattle.lexer.specs.Tokens.{Token}
 use Rattle.parser.specs.Tree.{Variable, Class}
 use Rattle.parser.specs.contracts.Layout.{rowVariables}
@@ -21,10 +21,10 @@ pub record ObjectSize (tab : List ℕ) (n left c : ℕ) (r : ℕ) : Type 0 where
 
 -- TWO WORDS FOR EACH NAME
 
--- the words say what was found of a field: its type, by number, and its slot, which is 32 and its place in the object
+-- the words say what was found of a field: its type, by number, and its slot, which is `variablesMost` and its place in the object
 pub data Tells (ts : List Token) : Option Slot → (type slot : ℕ) → Type 0 where
   no-field : {t p : ℕ} → t ≡ noType → Tells ts none t p
-  a-field : {s : Slot} {t p : ℕ} → Codes ts (s .type) t → p ≡ 32 + s .place → Tells ts (some s) t p
+  a-field : {s : Slot} {t p : ℕ} → Codes ts (s .type) t → p ≡ variablesMost + s .place → Tells ts (some s) t p
 
 -- how many words the array has at least, and where the slots begin in it
 abbrev pub fieldsLeast : ℕ

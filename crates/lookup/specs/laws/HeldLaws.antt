@@ -27,7 +27,7 @@ use Rattle.base.specs.laws.Tests.{same-of, apart-same}
 use Rattle.typing.specs.laws.Tests.{sameType-of, apart-sameType}
 use Rattle.typing.specs.laws.Chains.{class-name, all-classes}
 use Rattle.parser.specs.contracts.Layout.{absent}
-use Rattle.lookup.specs.contracts.HeldClasses.{wordAt, Lexemes, NameNumber, MaybeNumber, no-name, a-name, elementCode, code, arrayMark, noType, ElementCodes, code-int, code-boolean, code-fixed, code-class, Codes, code-plain, code-array, MethodHeld, MethodsHeld, no-methods, more-methods, ClassHeld, ClassesHeld, no-classes, more-classes, rowClass, ClassTableHeld, classOf}
+use Rattle.lookup.specs.contracts.HeldClasses.{wordAt, Lexemes, NameNumber, MaybeNumber, no-name, a-name, elementCode, code, arrayMark, noType, ElementCodes, code-int, code-boolean, code-fixed, code-class, Codes, code-plain, code-array, MethodHeld, MethodsHeld, no-methods, more-methods, ClassHeld, ClassesHeld, no-classes, more-classes, rowClass, ClassTableHeld, classOf, fixedNumber}
 
 -- a list that stands in a row, and not past the last, has a member
 pub none-left : {A : Type 0} (first : List A → ℕ) → first [] ≡ absent → (xs : List A) {row left : ℕ} → first xs ≡ row → length xs ≤ left
@@ -135,8 +135,8 @@ element-there ts i boolean m = m .there
 element-there ts i fixed m = m .there
 element-there ts i (class c) m = m .there
 
--- the number of an element type is below the mark for array
-pub element-below : {ts : List Token} {t : Element} {w : ℕ} → length ts ≤ tokensMost → ElementCodes ts t w → w < 2051
+-- the number of an element type is at most that of fixed, which is below the mark for array
+pub element-below : {ts : List Token} {t : Element} {w : ℕ} → length ts ≤ tokensMost → ElementCodes ts t w → w ≤ fixedNumber
 element-below few (code-int e) = omega arith
 element-below few (code-boolean e) = omega arith
 element-below few (code-fixed e) = omega arith
