@@ -18,7 +18,7 @@ use Rattle.base.specs.All.{All, all-nil, all-cons}
 use Rattle.base.specs.laws.Lists.{all-weaken}
 use Rattle.base.specs.laws.Tests.{and-true, and-false, and-right, or-either, or-neither, not-true, same-equal, same-of, apart-same}
 use Rattle.base.specs.Codes.{tokensMost}
-use Rattle.base.specs.contracts.Table.{cStart, cNext, cClass, rows}
+use Rattle.base.specs.contracts.Table.{cStart, cNext, cClass}
 use Rattle.lexer.specs.Tokens.{Token}
 use Rattle.parser.specs.Tree.{Name, Class}
 use Rattle.parser.specs.Stream.{tokenAt}
@@ -294,7 +294,7 @@ module _ {tab tree first next : List ℕ} {i left : ℕ} {before : List ℕ} whe
 
     pub write-next : (left ≡ 0 → ⊥) → row < absent → {p : ℕ} → p ≡ wordAt tab cStart row → {strip : List ℕ} → strip ≡ set before i p
         → {tree₁ : List ℕ} → Removed row tree tree₁
-        → {child : ℕ} → child ≡ getD first row 0 → {tree₂ : List ℕ} → Freed next rows child tree₁ tree₂ → {after : List ℕ}
+        → {child : ℕ} → child ≡ getD first row 0 → {tree₂ : List ℕ} → Freed next tokensMost child tree₁ tree₂ → {after : List ℕ}
         → {r : ℕ}
         → StripWritten tab tree₂ first next (i + 1) (left - 1) strip after r → StripWritten tab tree first next i left before after r
     unfolding overwritten positions
@@ -311,7 +311,7 @@ module _ {tab tree first next : List ℕ} {i left : ℕ} {before : List ℕ} whe
             let own = all-there (f .before) (f .behind) (subst (FoundByName G) (f .there) (t .own)) in
             let linked = all-there (f .before) (f .behind) (subst (λ (ks : List Class). ChildrenListed first next ks G) (f .there) l) in
             let facts = all-weaken (λ j h. beside G w stand own (f .may) j (h .0) (h .1 .0) (h .1 .1)) (all-zip (all-stand (t .world .classes)) (all-zip (t .own) c)) in
-            let few : length (childRows (className k) G) ≤ rows = omega (arith, child-few (className k) G, t .world .few, t .world .tokens .few) in
+            let few : length (childRows (className k) G) ≤ tokensMost = omega (arith, child-few (className k) G, t .world .few, t .world .tokens .few) in
             let free₁ = free .says (childRows (className k) G) (subst (λ (x : ℕ). RowsLinked next x (childRows (className k) G)) (ap (λ (x : ℕ). getD first x 0) (found .2) ∙ sym ec) linked) few _
             (out .says (standing w G) kept) in
             let kept₂ = keeps-same (λ r low. ap (λ (x : ℕ). elem r (childRows (className k) G) || (not (eqb x r) && standing w G r)) (sym (found .2)) ∙ sym (standing-more w k G r facts)) free₁ in
