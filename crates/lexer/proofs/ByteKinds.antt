@@ -9,7 +9,7 @@ use borrow.Author.Tests.{leb-true, lt-leb, eq-eqb, ne-eqb, eqb-true, eqb-false, 
 use Rattle.base.specs.Choice.{if_then_else_}
 use Rattle.base.specs.laws.Tests.{and-true, and-false, or-either, or-neither}
 use Rattle.lexer.specs.Bytes.{isBlank, isLetter, isDigit, isNamePart}
-use Rattle.lexer.specs.Kinds.{markKind}
+use Rattle.lexer.specs.Kinds.{markKind, kEnd}
 use Rattle.lexer.specs.ByteKinds.{bLetter, bDigit, bBlank, bMark, bOther, isMark, byteKind}
 use Rattle.lexer.specs.laws.LiteralLaws.{digit-range}
 
@@ -92,17 +92,17 @@ module _ (b : ℕ) where
 
   -- ---- of a mark and of no mark
 
-  pub mark-token : isMark b ≡ true → b ≢ 38 → markKind b ≢ 0
+  pub mark-token : isMark b ≡ true → b ≢ 38 → markKind b ≢ kEnd
   unfolding isMark
   mark-token e n z =
-      let q : isMark b ≡ false = rw (ne-eqb b 38 n, eq-eqb (markKind b) 0 z) refl in
+      let q : isMark b ≡ false = rw (ne-eqb b 38 n, eq-eqb (markKind b) kEnd z) refl in
       true≢false (sym e ∙ q)
 
-  pub no-mark : isMark b ≡ false → (b ≢ 38) × (markKind b ≡ 0)
+  pub no-mark : isMark b ≡ false → (b ≢ 38) × (markKind b ≡ kEnd)
   unfolding isMark
   no-mark e =
-      let q = or-neither (eqb b 38) (not (eqb (markKind b) 0)) e in
-      (eqb-false b 38 (q .0), eqb-true (markKind b) 0 (not-false (eqb (markKind b) 0) (q .1)))
+      let q = or-neither (eqb b 38) (not (eqb (markKind b) kEnd)) e in
+      (eqb-false b 38 (q .0), eqb-true (markKind b) kEnd (not-false (eqb (markKind b) kEnd) (q .1)))
 
 -- ---- what may stand in a name, where the kind is k
 

@@ -14,7 +14,7 @@ use lib.Dec.{eqb}
 use borrow.Author.Tests.{eq-eqb, ne-eqb, eqb-false}
 use Rattle.base.specs.Choice.{if_then_else_}
 use Rattle.lexer.specs.Bytes.{isBlank, isLetter, isDigit, isNamePart}
-use Rattle.lexer.specs.Kinds.{kLiteral, kFixedLiteral, kAnd, wordKind, markKind}
+use Rattle.lexer.specs.Kinds.{kLiteral, kFixedLiteral, kAnd, wordKind, markKind, kEnd}
 use Rattle.lexer.specs.Tokens.{gap, nothing, token, longestRun, begins, closing, comment, mark, numeral, item}
 use Rattle.lexer.specs.laws.ItemLaws.{run-front, begins-cons, chosen}
 use Rattle.lexer.specs.ByteKinds.{bLetter, bDigit, bBlank, bMark, bOther, byteKind}
@@ -166,7 +166,7 @@ module _ (s : List ℕ) (i : ℕ) (h : i < length s) where
       (q .0)
       (q .1)
       (opens 38 38 refl (ne-eqb 38 first (λ y. m (sym y))) refl)
-      ∙ ap (λ (z : Bool). if z then (λ _. nothing) else λ _. token (markKind first) (first ∷ [])) (ne-eqb (markKind first) 0 t)
+      ∙ ap (λ (z : Bool). if z then (λ _. nothing) else λ _. token (markKind first) (first ∷ [])) (ne-eqb (markKind first) kEnd t)
 
   pub at-other : byteKind first < bDigit → byteKind first ≢ bBlank → first ≢ 47 → item i (drop i s) ≡ nothing
   at-other k w n =

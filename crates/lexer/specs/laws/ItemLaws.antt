@@ -16,7 +16,7 @@ use Rattle.base.specs.Choice.{if_then_else_}
 use Rattle.base.specs.All.{All, all-nil, all-cons}
 use Rattle.base.specs.laws.Tests.{apart, and-true, and-false, or-neither, if-both}
 use Rattle.lexer.specs.Bytes.{isBlank, isLetter, isDigit, isNamePart}
-use Rattle.lexer.specs.Kinds.{Word, words, kLiteral, kFixedLiteral, kAnd, isName, kindIn, wordKind, markKind}
+use Rattle.lexer.specs.Kinds.{Word, words, kLiteral, kFixedLiteral, kAnd, isName, kindIn, wordKind, markKind, kEnd, kLess, kPlus, kMinus, kTimes, kNot, kAssign, kDot, kComma, kSemicolon, kOpen, kClose, kOpenBracket, kCloseBracket, kOpenBrace, kCloseBrace}
 use Rattle.lexer.specs.Tokens.{Item, gap, unclosed, nothing, token, longestRun, begins, closing, comment, mark, numeral, item}
 use Rattle.lexer.specs.Tokens.{wholeDigits, fractionDigits}
 
@@ -121,26 +121,26 @@ word-kind-fits t =
     let q = and-true (ltb 0 (wordKind t)) (kindFits (wordKind t)) (word-fits words t refl) in
     (ltb-true 0 (wordKind t) (q .0), kind-fits (wordKind t) (q .1))
 
--- what holds of the kind of each mark and of 0 holds of every mark's
-of-marks : (P : ℕ → Type 0) → P 25 → P 26 → P 27 → P 28 → P 29 → P 30 → P 31 → P 32 → P 33 → P 34 → P 35 → P 36 → P 37 → P 38 → P 39
-    → P 0 → (b : ℕ) → P (markKind b)
+-- what holds of the kind of each mark and of `kEnd` holds of every mark's
+of-marks : (P : ℕ → Type 0) → P kLess → P kPlus → P kMinus → P kTimes → P kNot → P kAssign → P kDot → P kComma → P kSemicolon → P kOpen → P kClose
+    → P kOpenBracket → P kCloseBracket → P kOpenBrace → P kCloseBrace → P kEnd → (b : ℕ) → P (markKind b)
 unfolding markKind
-of-marks P m₂₅ m₂₆ m₂₇ m₂₈ m₂₉ m₃₀ m₃₁ m₃₂ m₃₃ m₃₄ m₃₅ m₃₆ m₃₇ m₃₈ m₃₉ m₀ b =
-    if-both P (eqb b 60) (λ _. 25) _ m₂₅
-    (if-both P (eqb b 43) (λ _. 26) _ m₂₆
-    (if-both P (eqb b 45) (λ _. 27) _ m₂₇
-    (if-both P (eqb b 42) (λ _. 28) _ m₂₈
-    (if-both P (eqb b 33) (λ _. 29) _ m₂₉
-    (if-both P (eqb b 61) (λ _. 30) _ m₃₀
-    (if-both P (eqb b 46) (λ _. 31) _ m₃₁
-    (if-both P (eqb b 44) (λ _. 32) _ m₃₂
-    (if-both P (eqb b 59) (λ _. 33) _ m₃₃
-    (if-both P (eqb b 40) (λ _. 34) _ m₃₄
-    (if-both P (eqb b 41) (λ _. 35) _ m₃₅
-    (if-both P (eqb b 91) (λ _. 36) _ m₃₆
-    (if-both P (eqb b 93) (λ _. 37) _ m₃₇
-    (if-both P (eqb b 123) (λ _. 38) _ m₃₈
-    (if-both P (eqb b 125) (λ _. 39) _ m₃₉ m₀))))))))))))))
+of-marks P m₁ m₂ m₃ m₄ m₅ m₆ m₇ m₈ m₉ m₁₀ m₁₁ m₁₂ m₁₃ m₁₄ m₁₅ m₀ b =
+    if-both P (eqb b 60) (λ _. kLess) _ m₁
+    (if-both P (eqb b 43) (λ _. kPlus) _ m₂
+    (if-both P (eqb b 45) (λ _. kMinus) _ m₃
+    (if-both P (eqb b 42) (λ _. kTimes) _ m₄
+    (if-both P (eqb b 33) (λ _. kNot) _ m₅
+    (if-both P (eqb b 61) (λ _. kAssign) _ m₆
+    (if-both P (eqb b 46) (λ _. kDot) _ m₇
+    (if-both P (eqb b 44) (λ _. kComma) _ m₈
+    (if-both P (eqb b 59) (λ _. kSemicolon) _ m₉
+    (if-both P (eqb b 40) (λ _. kOpen) _ m₁₀
+    (if-both P (eqb b 41) (λ _. kClose) _ m₁₁
+    (if-both P (eqb b 91) (λ _. kOpenBracket) _ m₁₂
+    (if-both P (eqb b 93) (λ _. kCloseBracket) _ m₁₃
+    (if-both P (eqb b 123) (λ _. kOpenBrace) _ m₁₄
+    (if-both P (eqb b 125) (λ _. kCloseBrace) _ m₁₅ m₀))))))))))))))
 
 mark-kind-fits : (b : ℕ) → kindFits (markKind b) ≡ true
 mark-kind-fits b = of-marks (λ k. kindFits k ≡ true) refl refl refl refl refl refl refl refl refl refl refl refl refl refl refl refl b
@@ -353,7 +353,7 @@ module _ (i b : ℕ) (r : List ℕ) where
   good-chosen false false false false true x₆ e₂ e₃ e₄ e₅ e₆ = good-numeral e₅
   good-chosen false false false false false true e₂ e₃ e₄ e₅ e₆ = good-and (two 38 38 b r e₆)
   good-chosen false false false false false false e₂ e₃ e₄ e₅ e₆ =
-      good-mark (markKind b) (kind-fits (markKind b) (mark-kind-fits b)) (mark-no-name b) (eqb (markKind b) 0) refl
+      good-mark (markKind b) (kind-fits (markKind b) (mark-kind-fits b)) (mark-no-name b) (eqb (markKind b) kEnd) refl
 
 good-item : (i b : ℕ) (r : List ℕ) → Good i (b ∷ r) (item i (b ∷ r))
 unfolding item
