@@ -14,7 +14,7 @@ use Rattle.base.specs.Choice.{if_then_else_}
 use Rattle.base.specs.Codes.{literalMost}
 use Rattle.base.specs.laws.Tests.{apart}
 use Rattle.base.specs.contracts.Table.{rows}
-use Rattle.lexer.specs.Bytes.{isDigit}
+use Rattle.lexer.specs.Bytes.{bZero, isDigit}
 use Rattle.lexer.specs.Tokens.{decimal, wholeDigits, fractionDigits, thousandthsOf}
 use Rattle.lexer.specs.laws.ItemLaws.{run-front, run-short}
 use Rattle.lexer.specs.laws.LiteralLaws.{decimal-grows}
@@ -32,7 +32,7 @@ pub record Summed (before : ℕ) (t : List ℕ) (high i : ℕ) : Type 0 where
   pub small : high ≤ literalMost
   pub left : decimal before t ≡ decimal high (drop i t)
 
-module _ {before : ℕ} {t : List ℕ} {high i d : ℕ} (h : i < length t) (e : d ≡ getD t i 0 - 48) (v : Summed before t high i) where
+module _ {before : ℕ} {t : List ℕ} {high i d : ℕ} (h : i < length t) (e : d ≡ getD t i 0 - bZero) (v : Summed before t high i) where
   step : decimal before t ≡ decimal (high * 10 + d) (drop (i + 1) t)
   unfolding decimal
   step = v .left ∙ ap (decimal high) (rest t i h) ∙ ap (λ (n : ℕ). decimal (high * 10 + n) (drop (i + 1) t)) (sym e)
