@@ -10,6 +10,7 @@ use lib.ListN.{length, getD}
 use Rattle.base.specs.Choice.{if_then_else_, option}
 use Rattle.base.specs.Bytes.{same}
 use Rattle.base.specs.Codes.{tokensMost, variablesMost}
+use Rattle.base.specs.Word.{modulus}
 use Rattle.lexer.specs.Tokens.{Token}
 use Rattle.parser.specs.Tree.{Variable, Class}
 use Rattle.typesystem.specs.ClassTable.{Slot, moved, Context, ofRow, ofObject, meaning, variableNamed, nearestField, chain}
@@ -149,7 +150,7 @@ module _ {tab : List ℕ} {s : Scope} {x : ℕ} where
         tells {ts} {G} {Γ} w text sp =
             rw (w .many) (held .says ts G (w .world) (Γ .owner) (w .declarer) .says text x sp)
 
-        pub slot-held : getD names x 0 < noType → getD names (slotsFrom + x) 0 < 4294967296 → SlotPost tab s x (getD names (slotsFrom + x) 0)
+        pub slot-held : getD names x 0 < noType → getD names (slotsFrom + x) 0 < modulus → SlotPost tab s x (getD names (slotsFrom + x) 0)
         slot-held known fits =
             record {
               most = fits;
