@@ -10,12 +10,12 @@ use mathlib.Core.Option.{Option, none, some}
 use lib.ListN.{length}
 use lib.Dec.{eqb, leb}
 use borrow.Author.Tests.{eqb-true, eq-eqb, ne-eqb, le-leb, lt-leb}
-use Rattle.base.specs.Codes.{argumentCount, methodUnknown, nameUnknown, thisInMain, typeUnknown, wrongType}
+use Rattle.base.specs.Codes.{argumentCount, methodUnknown, nameUnknown, thisInMain, typeUnknown, wrongType, tokensMost}
 use Rattle.base.specs.Choice.{option}
 use Rattle.base.specs.Outcome.{Outcome, accepted, refused, _>>=_}
-use Rattle.base.specs.contracts.Table.{col}
+use Rattle.base.specs.contracts.Table.{col, cStart, cNumber, cBegin, cFirst, cSecond, cNext, cType, cParameters}
 use Rattle.base.specs.laws.Tests.{apart}
-use Rattle.lexer.specs.Kinds.{isName}
+use Rattle.lexer.specs.Kinds.{isName, kLiteral, kFixedLiteral, kFalse, kLength, kNew, kPort, kThis, kTrue, kNot, kDot, kOpenBracket}
 use Rattle.lexer.specs.Tokens.{Token}
 use Rattle.parser.specs.Tree.{Name, Sort.arguments, Part, Expression, placeE}
 use Rattle.parser.specs.Tree.{Element.int, Element.boolean, Element.fixed, Element.class, Ty, Ty.plain, Ty.arrayOf}
@@ -30,7 +30,7 @@ use Rattle.lookup.specs.declared.answer.Judged.{Judged}
 use Rattle.lookup.specs.declared.answer.Judged.the-variants.{Fine, Refused}
 use Rattle.lookup.specs.contracts.HeldClasses.{wordAt, NameNumber, MaybeNumber, no-name, a-name, noType, VariablesHeld, more-variables}
 use Rattle.lookup.specs.contracts.HeldClasses.{MethodHeld, code-int, code-boolean, code-fixed, code-class, Codes, code-plain}
-use Rattle.lookup.specs.contracts.HeldClasses.{code-array, ListedAt}
+use Rattle.lookup.specs.contracts.HeldClasses.{code-array, ListedAt, intNumber, booleanNumber, fixedNumber, arrayMark}
 use Rattle.lookup.specs.laws.HeldLaws.{word-in, row-there}
 use Rattle.lookup.specs.contracts.Lookups.{TypeOf, Knows, Fits, rowFound, FindsMethod}
 use Rattle.lookup.specs.laws.ChainLaws.{found-stands}
@@ -61,7 +61,7 @@ formed {tab} {s} {first = first} {end = end} {row = row} {r = r} e f = subst (λ
 -- ATOMS
 
 module _ {tab : List ℕ} {s : Scope} {row : ℕ} where
-  module _ {x t : ℕ} (e₂ : x ≡ wordAt tab 2 row) (h : NameTyped tab s x t) where
+  module _ {x t : ℕ} (e₂ : x ≡ wordAt tab cNumber row) (h : NameTyped tab s x t) where
     pub name-known : t < noType → NamePost tab s row (Fine t)
     name-known low =
         record {
@@ -70,17 +70,17 @@ module _ {tab : List ℕ} {s : Scope} {row : ℕ} where
               rw (w .1) (well (w .2));
         }
 
-    pub name-unknown : noType ≤ t → {at₃ : ℕ} → at₃ ≡ wordAt tab 3 row → NamePost tab s row (Refused nameUnknown at₃)
+    pub name-unknown : noType ≤ t → {at₃ : ℕ} → at₃ ≡ wordAt tab cBegin row → NamePost tab s row (Refused nameUnknown at₃)
     name-unknown high e₃ =
         record {
           says = λ ts G Γ i p y st sp. rw (typed-none (few-tokens i) high (h .says ts G Γ i y (rw e₂ sp)), e₃, st) ill;
         }
 
-  pub this-main : {at₃ : ℕ} → absent ≤ s .owner → at₃ ≡ wordAt tab 3 row → ThisPost tab s row (Refused thisInMain at₃)
+  pub this-main : {at₃ : ℕ} → absent ≤ s .owner → at₃ ≡ wordAt tab cBegin row → ThisPost tab s row (Refused thisInMain at₃)
   unfolding judge
   this-main {at₃} far e₃ = record { says = λ ts G Γ i p st. go (few-tokens i) (Γ .owner) (i .declarer) (sym st ∙ sym e₃) }
     where
-      go : {ts : List Token} → length ts ≤ 2048 → {p : ℕ} (o : Option (List ℕ)) → MaybeNumber ts o (s .owner) → p ≡ at₃
+      go : {ts : List Token} → length ts ≤ tokensMost → {p : ℕ} (o : Option (List ℕ)) → MaybeNumber ts o (s .owner) → p ≡ at₃
           → Judges ts (option o (refused thisInMain p) λ c. accepted (plain (class c))) (Refused thisInMain at₃)
       go few none (no-name q) z = rw z ill
       go few (some c) (a-name sp) z = absurd (omega (arith, sp .there))
@@ -99,52 +99,52 @@ module _ {tab : List ℕ} {s : Scope} {kind row : ℕ} {r : Judged} where
   atom : {F : Form} → F ≡ formAtom kind → ((first end : ℕ) → NodeJudged tab s F first end row r) → AtomPost tab s kind row r
   atom f g = record { says = λ first end. formed f (record { says = g first end }) .says }
 
-  pub atom-this : kind ≡ 20 → ThisPost tab s row r → AtomPost tab s kind row r
+  pub atom-this : kind ≡ kThis → ThisPost tab s row r → AtomPost tab s kind row r
   unfolding formAtom
   atom-this is f = atom (sym (ap formAtom is)) go
     where
       go : (first end : ℕ) → NodeJudged tab s aThis first end row r
       go first end ts G Γ i e (shows-this {p = p} st) = f .says ts G Γ i p st
 
-  pub atom-is-name : (kind ≡ 4 → ⊥) → (kind ≡ 44 → ⊥) → (kind ≡ 21 → ⊥) → (kind ≡ 9 → ⊥) → (kind ≡ 20 → ⊥) → NamePost tab s row r
+  pub atom-is-name : (kind ≡ kLiteral → ⊥) → (kind ≡ kFixedLiteral → ⊥) → (kind ≡ kTrue → ⊥) → (kind ≡ kFalse → ⊥) → (kind ≡ kThis → ⊥) → NamePost tab s row r
       → AtomPost tab s kind row r
   unfolding formAtom judge
   atom-is-name n₁ n₂ n₃ n₄ n₅ f =
-      atom (rw (ne-eqb kind 4 n₁, ne-eqb kind 44 n₂, ne-eqb kind 21 n₃, ne-eqb kind 9 n₄, ne-eqb kind 20 n₅)) go
+      atom (rw (ne-eqb kind kLiteral n₁, ne-eqb kind kFixedLiteral n₂, ne-eqb kind kTrue n₃, ne-eqb kind kFalse n₄, ne-eqb kind kThis n₅)) go
     where
       go : (first end : ℕ) → NodeJudged tab s aVariable first end row r
       go first end ts G Γ i e (shows-variable {p = p} {x = x} st sp) = f .says ts G Γ i p x st sp
 
-truths : {tab : List ℕ} {s : Scope} {row : ℕ} (b : Bool) (first end : ℕ) → NodeJudged tab s (aTruth b) first end row (Fine 2049)
+truths : {tab : List ℕ} {s : Scope} {row : ℕ} (b : Bool) (first end : ℕ) → NodeJudged tab s (aTruth b) first end row (Fine booleanNumber)
 unfolding judge
 truths b first end ts G Γ i e (shows-truth st) = well (code-plain (code-boolean refl))
 
 module _ {tab : List ℕ} {s : Scope} {kind row : ℕ} where
-  pub atom-literal : kind ≡ 4 → AtomPost tab s kind row (Fine 2048)
+  pub atom-literal : kind ≡ kLiteral → AtomPost tab s kind row (Fine intNumber)
   unfolding formAtom judge
   atom-literal is = atom (sym (ap formAtom is)) go
     where
-      go : (first end : ℕ) → NodeJudged tab s aLiteral first end row (Fine 2048)
+      go : (first end : ℕ) → NodeJudged tab s aLiteral first end row (Fine intNumber)
       go first end ts G Γ i e (shows-literal st v) = well (code-plain (code-int refl))
 
-  pub atom-fixed-literal : kind ≡ 44 → AtomPost tab s kind row (Fine 2050)
+  pub atom-fixed-literal : kind ≡ kFixedLiteral → AtomPost tab s kind row (Fine fixedNumber)
   unfolding formAtom judge
   atom-fixed-literal is = atom (sym (ap formAtom is)) go
     where
-      go : (first end : ℕ) → NodeJudged tab s aFixedLiteral first end row (Fine 2050)
+      go : (first end : ℕ) → NodeJudged tab s aFixedLiteral first end row (Fine fixedNumber)
       go first end ts G Γ i e (shows-fixed-literal st v) = well (code-plain (code-fixed refl))
 
-  pub atom-true : kind ≡ 21 → AtomPost tab s kind row (Fine 2049)
+  pub atom-true : kind ≡ kTrue → AtomPost tab s kind row (Fine booleanNumber)
   unfolding formAtom
   atom-true is = atom (sym (ap formAtom is)) (truths true)
 
-  pub atom-false : kind ≡ 9 → AtomPost tab s kind row (Fine 2049)
+  pub atom-false : kind ≡ kFalse → AtomPost tab s kind row (Fine booleanNumber)
   unfolding formAtom
   atom-false is = atom (sym (ap formAtom is)) (truths false)
 
 -- `new C()`
 
-module _ {tab : List ℕ} {n row x : ℕ} (e₂ : x ≡ wordAt tab 2 (row + 1)) {b : Bool} (f : Knows tab n x b) where
+module _ {tab : List ℕ} {n row x : ℕ} (e₂ : x ≡ wordAt tab cNumber (row + 1)) {b : Bool} (f : Knows tab n x b) where
   pub object-known : b ≡ true → ObjectPost tab n row (Fine x)
   unfolding judge
   object-known is =
@@ -154,7 +154,7 @@ module _ {tab : List ℕ} {n row x : ℕ} (e₂ : x ≡ wordAt tab 2 (row + 1)) 
             rw (sym (f .says ts G w (plain (class (c .text))) k) ∙ is) (well k);
       }
 
-  pub object-unknown : b ≡ false → {at₁ : ℕ} → at₁ ≡ wordAt tab 1 (row + 1) → ObjectPost tab n row (Refused typeUnknown at₁)
+  pub object-unknown : b ≡ false → {at₁ : ℕ} → at₁ ≡ wordAt tab cStart (row + 1) → ObjectPost tab n row (Refused typeUnknown at₁)
   unfolding judge
   object-unknown is e₁ =
       record {
@@ -173,10 +173,10 @@ eqb-suc i j =
 
 -- the parameters after the first
 next-variable : {tab : List ℕ} {ts : List Token} {n p p′ : ℕ} (v : Variable) (vs : List Variable) → VariablesHeld tab ts (v ∷ vs)
-    → length ts ≤ 2048 → v .name .row ≡ p → length (v ∷ vs) ≤ n → p′ ≡ wordAt tab 6 p → ListedAt tab (n - 1) ts p′ vs
+    → length ts ≤ tokensMost → v .name .row ≡ p → length (v ∷ vs) ≤ n → p′ ≡ wordAt tab cNext p → ListedAt tab (n - 1) ts p′ vs
 next-variable {tab} v vs (more-variables w c₃ c₆ st) few d most e =
     record {
-      at = sym (word-in tab 6 (v .name .row) (omega (arith, w .name .token .there)) c₆) ∙ ap (wordAt tab 6) d ∙ sym e;
+      at = sym (word-in tab cNext (v .name .row) (omega (arith, w .name .token .there)) c₆) ∙ ap (wordAt tab cNext) d ∙ sym e;
       stand = st;
       few = omega arith;
     }
@@ -205,7 +205,7 @@ module _ {tab : List ℕ} {left a p : ℕ} where
             (go ts few vs (l .at) (l .stand));
       }
     where
-      go : (ts : List Token) → length ts ≤ 2048 → (vs : List Variable) → rowVariables vs ≡ p → VariablesHeld tab ts vs
+      go : (ts : List Token) → length ts ≤ tokensMost → (vs : List Variable) → rowVariables vs ≡ p → VariablesHeld tab ts vs
           → leb absent p ≡ eqb 0 (length vs)
       go ts few [] d st = le-leb absent p (omega (arith, d))
       go ts few (v ∷ vs) d (more-variables w c₃ c₆ st) =
@@ -216,17 +216,17 @@ module _ {tab : List ℕ} {left a p : ℕ} where
     unfolding arity
     count-short far = record { says = λ ts few es h vs l. go ts few es (another near es h) vs (l .at) (l .stand) }
       where
-        go : (ts : List Token) → length ts ≤ 2048 → (es : Part arguments) → GoesOn tab ts a (λ e. Unit {0}) (λ xs. arity xs ≤ left - 1) es
+        go : (ts : List Token) → length ts ≤ tokensMost → (es : Part arguments) → GoesOn tab ts a (λ e. Unit {0}) (λ xs. arity xs ≤ left - 1) es
             → (vs : List Variable) → rowVariables vs ≡ p → VariablesHeld tab ts vs → false ≡ eqb (arity es) (length vs)
         go ts few es (one-more-argument {es = xs} x y) [] d st = sym (ne-eqb (1 + arity xs) 0 (λ z. omega arith))
         go ts few es (one-more-argument x y) (v ∷ vs) d (more-variables w c₃ c₆ st) = absurd (omega (arith, d, w .name .token .there))
 
-    pub count-next : p < absent → {a′ p′ : ℕ} {r : Bool} → a′ ≡ wordAt tab 6 a → p′ ≡ wordAt tab 6 p → SameCount tab (left - 1) a′ p′ r
+    pub count-next : p < absent → {a′ p′ : ℕ} {r : Bool} → a′ ≡ wordAt tab cNext a → p′ ≡ wordAt tab cNext p → SameCount tab (left - 1) a′ p′ r
         → SameCount tab left a p r
     unfolding arity
     count-next low {r = r} ea ep f = record { says = λ ts few es h vs l. go ts few es (another near es h) vs (l .at) (l .stand) (l .few) }
       where
-        go : (ts : List Token) → length ts ≤ 2048 → (es : Part arguments) → GoesOn tab ts a (λ e. Unit {0}) (λ xs. arity xs ≤ left - 1) es
+        go : (ts : List Token) → length ts ≤ tokensMost → (es : Part arguments) → GoesOn tab ts a (λ e. Unit {0}) (λ xs. arity xs ≤ left - 1) es
             → (vs : List Variable) → rowVariables vs ≡ p → VariablesHeld tab ts vs → length vs ≤ left → r ≡ eqb (arity es) (length vs)
         go ts few es (one-more-argument x y) [] d st g = absurd (omega (arith, d))
         go ts few es (one-more-argument {es = xs} x y) (v ∷ vs) d st g =
@@ -267,23 +267,23 @@ module _ {tab : List ℕ} {s : Scope} {first end row : ℕ} where
     unfolding formE
     expression-atom ea is f = told (rw (sym ea ∙ is)) (f .says first end)
 
-    pub expression-new : k ≡ 14 → CreationPost tab s first end row r → ExpressionPost tab s first end row r
+    pub expression-new : k ≡ kNew → CreationPost tab s first end row r → ExpressionPost tab s first end row r
     unfolding formE isAtom isName
-    expression-new is f = alone 14 is (f .says)
+    expression-new is f = alone kNew is (f .says)
 
-    pub expression-dot : k ≡ 31 → DottedPost tab s first end row r → ExpressionPost tab s first end row r
+    pub expression-dot : k ≡ kDot → DottedPost tab s first end row r → ExpressionPost tab s first end row r
     unfolding formE isAtom isName
-    expression-dot is f = alone 31 is (f .says)
+    expression-dot is f = alone kDot is (f .says)
 
-    pub expression-element : k ≡ 36 → NodePost tab s anElement first end row r → ExpressionPost tab s first end row r
+    pub expression-element : k ≡ kOpenBracket → NodePost tab s anElement first end row r → ExpressionPost tab s first end row r
     unfolding formE formCompound isAtom isName
-    expression-element is f = alone 36 is (f .says)
+    expression-element is f = alone kOpenBracket is (f .says)
 
-    pub expression-binary : {a : Bool} → a ≡ isAtom k → a ≡ false → (k ≡ 14 → ⊥) → (k ≡ 31 → ⊥) → (k ≡ 29 → ⊥) → (k ≡ 40 → ⊥)
-        → (k ≡ 36 → ⊥) → NodePost tab s aBinary first end row r → ExpressionPost tab s first end row r
+    pub expression-binary : {a : Bool} → a ≡ isAtom k → a ≡ false → (k ≡ kNew → ⊥) → (k ≡ kDot → ⊥) → (k ≡ kNot → ⊥) → (k ≡ kPort → ⊥)
+        → (k ≡ kOpenBracket → ⊥) → NodePost tab s aBinary first end row r → ExpressionPost tab s first end row r
     unfolding formE formCompound
     expression-binary ea other n₁ n₂ n₃ n₄ n₅ f =
-        told (rw (sym ea ∙ other, ne-eqb k 14 n₁, ne-eqb k 31 n₂, ne-eqb k 29 n₃, ne-eqb k 40 n₄, ne-eqb k 36 n₅)) (f .says)
+        told (rw (sym ea ∙ other, ne-eqb k kNew n₁, ne-eqb k kDot n₂, ne-eqb k kNot n₃, ne-eqb k kPort n₄, ne-eqb k kOpenBracket n₅)) (f .says)
 
 -- a last part that must fit, of a node with a type of its own
 module _ {tab : List ℕ} {s : Scope} {first end row want answer : ℕ} {v : Judged} (f : OperandPost tab s first end row want v) where
@@ -297,11 +297,11 @@ module _ {tab : List ℕ} {s : Scope} {first end row want answer : ℕ} {v : Jud
 
 -- the kinds of a node with one part, which is of its own type, and the number of that type
 pub data Unary : (kind want : ℕ) → Type 0 where
-  of-not : Unary 29 2049
-  of-get : Unary 40 2048
+  of-not : Unary kNot booleanNumber
+  of-get : Unary kPort intNumber
 
 pub expression-unary : {k′ want : ℕ} → Unary k′ want → {tab : List ℕ} {s : Scope} {first end row k : ℕ} → first ≤ row → row < end
-    → k ≡ kindInTable tab (s .tokens) row → k ≡ k′ → {part : ℕ} → part ≡ wordAt tab 4 row → {after end′ : ℕ} → after ≡ row + 1 → end′ ≡ end
+    → k ≡ kindInTable tab (s .tokens) row → k ≡ k′ → {part : ℕ} → part ≡ wordAt tab cFirst row → {after end′ : ℕ} → after ≡ row + 1 → end′ ≡ end
     → {v r : Judged} → OperandPost tab s after end′ part want v → TypedPost want v r → ExpressionPost tab s first end row r
 unfolding formE formCompound isAtom isName judge
 expression-unary {k′} u {tab} {s} {first} {end} {row} from below kind is {part} e₄ {after} {end′} low high {v} {r} f g =
@@ -327,7 +327,7 @@ module _ {tab : List ℕ} {s : Scope} {first end row want : ℕ} {v : Judged} (f
               rw (w .1, sym (g .says ts G (i .world) (i .many) (w .0) u (w .2) c) ∙ yes′);
         }
 
-    pub operand-wrong : b ≡ false → {at₃ : ℕ} → at₃ ≡ wordAt tab 3 row → OperandPost tab s first end row want (Refused wrongType at₃)
+    pub operand-wrong : b ≡ false → {at₃ : ℕ} → at₃ ≡ wordAt tab cBegin row → OperandPost tab s first end row want (Refused wrongType at₃)
     operand-wrong no′ e₃ =
         record {
           among = λ z. apart (cc);
@@ -355,7 +355,7 @@ module _ {tab : List ℕ} {s : Scope} {first end row : ℕ} {v : Judged} (f : Ex
   array-unjudged is = record { says = λ ts G Γ i e h. rw (judges-refused (f .says ts G Γ i e h) is) ill }
 
   module _ {t : ℕ} (is : v ≡ Fine t) where
-    pub array-wrong : t < 4096 → {at₃ : ℕ} → at₃ ≡ wordAt tab 3 row → ArrayPost tab s first end row (Refused wrongType at₃)
+    pub array-wrong : t < arrayMark → {at₃ : ℕ} → at₃ ≡ wordAt tab cBegin row → ArrayPost tab s first end row (Refused wrongType at₃)
     array-wrong low e₃ =
         record {
           says = λ ts G Γ i e h.
@@ -364,7 +364,7 @@ module _ {tab : List ℕ} {s : Scope} {first end row : ℕ} {v : Judged} (f : Ex
               rw (w .1, u .1, e₃, start-of i first end h) ill;
         }
 
-    pub array-right : 4096 ≤ t → ArrayPost tab s first end row (Fine (t - 4096))
+    pub array-right : arrayMark ≤ t → ArrayPost tab s first end row (Fine (t - arrayMark))
     array-right high =
         record {
           says = λ ts G Γ i e h.
@@ -375,7 +375,7 @@ module _ {tab : List ℕ} {s : Scope} {first end row : ℕ} {v : Judged} (f : Ex
 
 -- `a[i]` and `a.length`
 
-module _ {tab : List ℕ} {s : Scope} {first row left first′ until : ℕ} (e₄ : left ≡ wordAt tab 4 row) (low : first′ ≡ first)
+module _ {tab : List ℕ} {s : Scope} {first row left first′ until : ℕ} (e₄ : left ≡ wordAt tab cFirst row) (low : first′ ≡ first)
     (high : until ≡ row) {v : Judged} (f : ArrayPost tab s first′ until left v) where
   pub element-first : {n p : ℕ} → v ≡ Refused n p → {end : ℕ} → NodePost tab s anElement first end row (Refused n p)
   unfolding judge
@@ -385,8 +385,8 @@ module _ {tab : List ℕ} {s : Scope} {first row left first′ until : ℕ} (e�
       go ts G Γ i e (shows-element {a = a} {i = j} st x y) =
           judged-refused (array-refused (placeE a .start) _ (judge G Γ a) (f .says ts G Γ i a (rw (e₄, low, high) x)) is)
 
-  pub element-second : {w : ℕ} → v ≡ Fine w → {right : ℕ} → right ≡ wordAt tab 5 row → {end after end′ : ℕ} → after ≡ row + 1 → end′ ≡ end
-      → {u r : Judged} → OperandPost tab s after end′ right 2048 u → TypedPost w u r → NodePost tab s anElement first end row r
+  pub element-second : {w : ℕ} → v ≡ Fine w → {right : ℕ} → right ≡ wordAt tab cSecond row → {end after end′ : ℕ} → after ≡ row + 1 → end′ ≡ end
+      → {u r : Judged} → OperandPost tab s after end′ right intNumber u → TypedPost w u r → NodePost tab s anElement first end row r
   unfolding judge
   element-second is e₅ {end} low′ high′ {r = r} g d = record { says = go }
     where
@@ -404,24 +404,24 @@ module _ {tab : List ℕ} {s : Scope} {first row left first′ until : ℕ} (e�
       go end ts G Γ i t (shows-length {e = e} st x) =
           judged-refused (array-refused (placeE e .start) _ (judge G Γ e) (f .says ts G Γ i e (rw (e₄, low, high) x)) is)
 
-  length-fine : {w : ℕ} → v ≡ Fine w → LengthPost tab s first row (Fine 2048)
+  length-fine : {w : ℕ} → v ≡ Fine w → LengthPost tab s first row (Fine intNumber)
   unfolding judge
   length-fine is = record { says = λ end. go end }
     where
-      go : (end : ℕ) → NodeJudged tab s aLength first end row (Fine 2048)
+      go : (end : ℕ) → NodeJudged tab s aLength first end row (Fine intNumber)
       go end ts G Γ i t (shows-length {e = e} st x) =
           let w = array-fine (placeE e .start) (λ _. accepted (plain int)) (judge G Γ e) (f .says ts G Γ i e (rw (e₄, low, high) x)) is in
           judged-fine (w .1) (code-plain (code-int refl))
 
-  pub length-typed : {r : Judged} → TypedPost 2048 v r → LengthPost tab s first row r
+  pub length-typed : {r : Judged} → TypedPost intNumber v r → LengthPost tab s first row r
   length-typed (typed-fine is) = length-fine is
   length-typed (typed-refused is) = length-refused is
 
 -- `new T[e]`
 
 module _ {tab : List ℕ} {s : Scope} {end row t : ℕ} (type : TypeOf tab (s .tokens) (row + 1) t) {b : Bool} (f : Knows tab (s .tokens) t b) where
-  pub new-array-known : b ≡ true → {part : ℕ} → part ≡ wordAt tab 4 row → {after end′ : ℕ} → after ≡ row + 1 → end′ ≡ end → {v r : Judged}
-      → OperandPost tab s after end′ part 2048 v → TypedPost t v r → NewArrayPost tab s end row r
+  pub new-array-known : b ≡ true → {part : ℕ} → part ≡ wordAt tab cFirst row → {after end′ : ℕ} → after ≡ row + 1 → end′ ≡ end → {v r : Judged}
+      → OperandPost tab s after end′ part intNumber v → TypedPost t v r → NewArrayPost tab s end row r
   unfolding judge
   new-array-known is e₄ low high {r = r} g d = record { says = λ first. go first }
     where
@@ -431,7 +431,7 @@ module _ {tab : List ℕ} {s : Scope} {end row t : ℕ} (type : TypeOf tab (s .t
           rw (sym (f .says ts G (i .world) (arrayOf (u .element)) c) ∙ is)
           (last g d ts G Γ i x (rw (e₄, low, high) y) (plain int) (arrayOf (u .element)) (code-plain (code-int refl)) c)
 
-  pub new-array-unknown : b ≡ false → {at₁ : ℕ} → at₁ ≡ wordAt tab 1 (row + 1) → NewArrayPost tab s end row (Refused typeUnknown at₁)
+  pub new-array-unknown : b ≡ false → {at₁ : ℕ} → at₁ ≡ wordAt tab cStart (row + 1) → NewArrayPost tab s end row (Refused typeUnknown at₁)
   unfolding judge
   new-array-unknown is {at₁} e₁ = record { says = λ first. go first }
     where
@@ -446,7 +446,7 @@ pub data LeftFirst : Form → Type 0 where
   of-binary : LeftFirst aBinary
   of-call : LeftFirst aCall
 
-pub left-refused : {F : Form} → LeftFirst F → {tab : List ℕ} {s : Scope} {first end row left : ℕ} → left ≡ wordAt tab 4 row
+pub left-refused : {F : Form} → LeftFirst F → {tab : List ℕ} {s : Scope} {first end row left : ℕ} → left ≡ wordAt tab cFirst row
     → {first′ until : ℕ} → first′ ≡ first → until ≡ row → {v : Judged} → ExpressionPost tab s first′ until left v → {n p : ℕ} → v ≡ Refused n p → NodePost tab s F first end row (Refused n p)
 unfolding judge
 left-refused l {tab} {s} {first} {end} {row} e₄ low high f {n} {p} is = record { says = go l }
@@ -457,10 +457,10 @@ left-refused l {tab} {s} {first} {end} {row} e₄ low high f {n} {p} is = record
 
 -- OPERATIONS
 
-module _ {tab : List ℕ} {s : Scope} {first end row left first′ until : ℕ} (e₄ : left ≡ wordAt tab 4 row) (low : first′ ≡ first)
+module _ {tab : List ℕ} {s : Scope} {first end row left first′ until : ℕ} (e₄ : left ≡ wordAt tab cFirst row) (low : first′ ≡ first)
     (high : until ≡ row) {v : Judged} (f : ExpressionPost tab s first′ until left v) where
   module _ {t : ℕ} (is : v ≡ Fine t) {k : ℕ} (kind : k ≡ kindInTable tab (s .tokens) row) {answer : ℕ} (g : OperationPost k t answer) where
-    pub binary-wrong : noType ≤ answer → {at₃ : ℕ} → at₃ ≡ wordAt tab 3 left → NodePost tab s aBinary first end row (Refused wrongType at₃)
+    pub binary-wrong : noType ≤ answer → {at₃ : ℕ} → at₃ ≡ wordAt tab cBegin left → NodePost tab s aBinary first end row (Refused wrongType at₃)
     unfolding judge
     binary-wrong none′ {at₃} e₃ = record { says = go }
       where
@@ -471,7 +471,7 @@ module _ {tab : List ℕ} {s : Scope} {first end row left first′ until : ℕ} 
             let z = typed-none (few-tokens i) none′ (g .says tab (s .tokens) ts (i .world .tokens) o (kind ∙ is′) (w .0) (w .2)) in
             rw (w .1, z, e₃, start-of i first′ until h) ill
 
-    pub binary-right : answer < noType → {right : ℕ} → right ≡ wordAt tab 5 row → {after end′ : ℕ} → after ≡ row + 1 → end′ ≡ end
+    pub binary-right : answer < noType → {right : ℕ} → right ≡ wordAt tab cSecond row → {after end′ : ℕ} → after ≡ row + 1 → end′ ≡ end
         → {u r : Judged} → OperandPost tab s after end′ right t u → TypedPost answer u r → NodePost tab s aBinary first end row r
     unfolding judge
     binary-right fine e₅ low′ high′ {r = r} h d = record { says = go }
@@ -487,45 +487,45 @@ module _ {tab : List ℕ} {s : Scope} {first end row left first′ until : ℕ} 
 module _ {tab : List ℕ} {s : Scope} {first end row k : ℕ} {r : Judged} where
   -- a form of which the code has read the kind that tells it from the other
   module _ (kind : k ≡ kindInTable tab (s .tokens) (row + 2)) where
-    third : {F : Form} → formCompound 14 (kindInTable tab (s .tokens) (row + 1)) k ≡ F → NodeJudged tab s F first end row r
+    third : {F : Form} → formCompound kNew (kindInTable tab (s .tokens) (row + 1)) k ≡ F → NodeJudged tab s F first end row r
         → CreationPost tab s first end row r
-    third f g = formed (sym (ap (formCompound 14 (kindInTable tab (s .tokens) (row + 1))) (sym kind) ∙ f)) (record { says = g })
+    third f g = formed (sym (ap (formCompound kNew (kindInTable tab (s .tokens) (row + 1))) (sym kind) ∙ f)) (record { says = g })
 
-    pub creation-array : k ≡ 36 → NewArrayPost tab s end row r → CreationPost tab s first end row r
+    pub creation-array : k ≡ kOpenBracket → NewArrayPost tab s end row r → CreationPost tab s first end row r
     unfolding formCompound
-    creation-array is f = third (ap (formCompound 14 (kindInTable tab (s .tokens) (row + 1))) is) (f .says first)
+    creation-array is f = third (ap (formCompound kNew (kindInTable tab (s .tokens) (row + 1))) is) (f .says first)
 
-    pub creation-object : (k ≡ 36 → ⊥) → ObjectPost tab (s .tokens) row r → CreationPost tab s first end row r
+    pub creation-object : (k ≡ kOpenBracket → ⊥) → ObjectPost tab (s .tokens) row r → CreationPost tab s first end row r
     unfolding formCompound
-    creation-object other f = third (rw (ne-eqb k 36 other)) go
+    creation-object other f = third (rw (ne-eqb k kOpenBracket other)) go
       where
         go : NodeJudged tab s aNewObject first end row r
         go ts G Γ i t (shows-new-object {p = p} {c = c} st x y) = f .says ts G (i .world) Γ p c x y
 
   module _ (kind : k ≡ kindInTable tab (s .tokens) (row + 1)) where
-    second : {F : Form} → formCompound 31 k (kindInTable tab (s .tokens) (row + 2)) ≡ F → NodeJudged tab s F first end row r
+    second : {F : Form} → formCompound kDot k (kindInTable tab (s .tokens) (row + 2)) ≡ F → NodeJudged tab s F first end row r
         → DottedPost tab s first end row r
     second f g =
-        formed (sym (ap (λ (j : ℕ). formCompound 31 j (kindInTable tab (s .tokens) (row + 2))) (sym kind) ∙ f)) (record { says = g })
+        formed (sym (ap (λ (j : ℕ). formCompound kDot j (kindInTable tab (s .tokens) (row + 2))) (sym kind) ∙ f)) (record { says = g })
 
-    pub dotted-length : k ≡ 12 → LengthPost tab s first row r → DottedPost tab s first end row r
+    pub dotted-length : k ≡ kLength → LengthPost tab s first row r → DottedPost tab s first end row r
     unfolding formCompound
-    dotted-length is f = second (ap (λ (j : ℕ). formCompound 31 j (kindInTable tab (s .tokens) (row + 2))) is) (f .says end)
+    dotted-length is f = second (ap (λ (j : ℕ). formCompound kDot j (kindInTable tab (s .tokens) (row + 2))) is) (f .says end)
 
-    pub dotted-call : (k ≡ 12 → ⊥) → NodePost tab s aCall first end row r → DottedPost tab s first end row r
+    pub dotted-call : (k ≡ kLength → ⊥) → NodePost tab s aCall first end row r → DottedPost tab s first end row r
     unfolding formCompound
-    dotted-call other f = second (rw (ne-eqb k 12 other)) (f .says)
+    dotted-call other f = second (rw (ne-eqb k kLength other)) (f .says)
 
 -- CALLS
 
-module _ {tab : List ℕ} {s : Scope} {first end row left first′ until : ℕ} (e₄ : left ≡ wordAt tab 4 row) (low : first′ ≡ first)
+module _ {tab : List ℕ} {s : Scope} {first end row left first′ until : ℕ} (e₄ : left ≡ wordAt tab cFirst row) (low : first′ ≡ first)
     (high : until ≡ row) {v : Judged} (f : ExpressionPost tab s first′ until left v) where
   module _ {t : ℕ} (is : v ≡ Fine t) where
-    pub call-plain : 2048 ≤ t → {at₃ : ℕ} → at₃ ≡ wordAt tab 3 left → NodePost tab s aCall first end row (Refused wrongType at₃)
+    pub call-plain : intNumber ≤ t → {at₃ : ℕ} → at₃ ≡ wordAt tab cBegin left → NodePost tab s aCall first end row (Refused wrongType at₃)
     unfolding judge
     call-plain other {at₃} e₃ = record { says = go }
       where
-        pick : (ts : List Token) → length ts ≤ 2048 → (e : Expression) → placeE e .start ≡ at₃ → (u : Ty) → Codes ts u t
+        pick : (ts : List Token) → length ts ≤ tokensMost → (e : Expression) → placeE e .start ≡ at₃ → (u : Ty) → Codes ts u t
             → (k : List ℕ → Outcome Ty)
             → Judges ts (receiver e u k) (Refused wrongType at₃)
         pick ts few e z (plain int) c k = rw z ill
@@ -540,7 +540,7 @@ module _ {tab : List ℕ} {s : Scope} {first end row left first′ until : ℕ} 
             let w = judges-fine (f .says ts G Γ i e h) is in
             rw (w .1) (pick ts (few-tokens i) e (sym (start-of i first′ until h) ∙ sym e₃) (w .0) (w .2) _)
 
-    pub call-object : t < 2048 → {after end′ : ℕ} → after ≡ row + 1 → end′ ≡ end → {r : Judged} → InvocationPost tab s after end′ row t r
+    pub call-object : t < intNumber → {after end′ : ℕ} → after ≡ row + 1 → end′ ≡ end → {r : Judged} → InvocationPost tab s after end′ row t r
         → NodePost tab s aCall first end row r
     unfolding judge
     call-object near low′ high′ {r} g = record { says = go }
@@ -568,7 +568,7 @@ few-arguments (argument e es) first end h =
 
 -- what is known of the method that is looked for, and of its parameters
 module _ (tab : List ℕ) (s : Scope) (first end row c x f : ℕ) {ts : List Token} {G : List Class} {Γ : Context} (i : InScope tab ts G Γ s) where
-  looked : x ≡ wordAt tab 2 (row + 1) → FindsMethod tab (s .tokens) (s .classes) c x f → (m : Name) (es : Part arguments)
+  looked : x ≡ wordAt tab cNumber (row + 1) → FindsMethod tab (s .tokens) (s .classes) c x f → (m : Name) (es : Part arguments)
       → Invoked tab ts first end row m es → (name : List ℕ) → NameNumber ts name c → f ≡ rowFound (methodOf G name (m .text))
   unfolding methodOf chain
   looked e₂ finds m es h name sp = rw (i .many) (finds .says ts G (i .world) (some name) (a-name sp) (m .text) (rw e₂ (h .number)))
@@ -577,16 +577,16 @@ module _ (tab : List ℕ) (s : Scope) (first end row c x f : ℕ) {ts : List Tok
   unfolding methodOf chain
   stands name y z = found-stands (i .world) (length G) (some name) y z
 
-  module _ (taken : ℕ) (near : f < absent) (e₄ : taken ≡ wordAt tab 4 f) (F : Found) (z : f ≡ F .method .name .row)
+  module _ (taken : ℕ) (near : f < absent) (e₄ : taken ≡ wordAt tab cParameters f) (F : Found) (z : f ≡ F .method .name .row)
       (st : MethodHeld tab (s .tokens) ts (F .method)) where
     -- a column of the method's row
     column : (k : ℕ) {v w : ℕ} → col tab k (F .method .name .row) ≡ v → w ≡ wordAt tab k f → v ≡ w
     column k e d = sym (word-in tab k (F .method .name .row) (omega (arith, z, near)) e) ∙ ap (wordAt tab k) (sym z) ∙ sym d
 
     taken-at : ListedAt tab (s .tokens) ts taken (F .method .parameters)
-    taken-at = record { at = column 4 (st .first) e₄; stand = st .parameters; few = st .few-parameters }
+    taken-at = record { at = column cParameters (st .first) e₄; stand = st .parameters; few = st .few-parameters }
 
-    counts : (given : ℕ) → given ≡ wordAt tab 5 row → end ≤ s .tokens → {b : Bool} → SameCount tab (s .tokens) given taken b → (m : Name)
+    counts : (given : ℕ) → given ≡ wordAt tab cSecond row → end ≤ s .tokens → {b : Bool} → SameCount tab (s .tokens) given taken b → (m : Name)
         (es : Part arguments) → Invoked tab ts first end row m es → b ≡ eqb (arity es) (length (F .method .parameters))
     counts given e₅ most same m es h =
         let a = h .given in
@@ -594,13 +594,13 @@ module _ (tab : List ℕ) (s : Scope) (first end row c x f : ℕ) {ts : List Tok
         same .says ts (few-tokens i) es (record { at = a .at ∙ sym e₅; holds = a .holds; matches = a .matches; within = omega arith })
         (F .method .parameters) taken-at
 
-    result-code : {t r : ℕ} → t ≡ wordAt tab 3 f → TypeOf tab (s .tokens) t r → Codes ts (F .method .result .type) r
+    result-code : {t r : ℕ} → t ≡ wordAt tab cType f → TypeOf tab (s .tokens) t r → Codes ts (F .method .result .type) r
     result-code e₃ type =
-        type .says ts (i .world .tokens) (F .method .result .row) (column 3 (st .result) e₃) (F .method .result .type) (st .head .type)
+        type .says ts (i .world .tokens) (F .method .result .row) (column cType (st .result) e₃) (F .method .result .type) (st .head .type)
 
-module _ {tab : List ℕ} {s : Scope} {first end row c x f : ℕ} (e₂ : x ≡ wordAt tab 2 (row + 1))
+module _ {tab : List ℕ} {s : Scope} {first end row c x f : ℕ} (e₂ : x ≡ wordAt tab cNumber (row + 1))
     (finds : FindsMethod tab (s .tokens) (s .classes) c x f) where
-  pub invocation-unknown : absent ≤ f → {at₁ : ℕ} → at₁ ≡ wordAt tab 1 (row + 1)
+  pub invocation-unknown : absent ≤ f → {at₁ : ℕ} → at₁ ≡ wordAt tab cStart (row + 1)
       → InvocationPost tab s first end row c (Refused methodUnknown at₁)
   invocation-unknown far {at₁} e₁ =
       record {
@@ -636,9 +636,9 @@ module _ {tab : List ℕ} {s : Scope} {first end row c x f : ℕ} (e₂ : x ≡ 
       go ts G Γ i m es h none st z = absurd (omega (arith, z))
       go ts G Γ i m es h (some F) st z = g ts G Γ i m es h F z (st F refl)
 
-  module _ (near : f < absent) {given taken : ℕ} (e₅ : given ≡ wordAt tab 5 row) (e₄ : taken ≡ wordAt tab 4 f) {b : Bool}
+  module _ (near : f < absent) {given taken : ℕ} (e₅ : given ≡ wordAt tab cSecond row) (e₄ : taken ≡ wordAt tab cParameters f) {b : Bool}
       (same : SameCount tab (s .tokens) given taken b) (most : end ≤ s .tokens) where
-    pub invocation-count : b ≡ false → {at₁ : ℕ} → at₁ ≡ wordAt tab 1 (row + 1) → InvocationPost tab s first end row c (Refused argumentCount at₁)
+    pub invocation-count : b ≡ false → {at₁ : ℕ} → at₁ ≡ wordAt tab cStart (row + 1) → InvocationPost tab s first end row c (Refused argumentCount at₁)
     invocation-count no′ {at₁} e₁ =
         found near (Refused argumentCount at₁) λ ts G Γ i m es h F z st.
         let q = sym (counts tab s first end row c x f i taken near e₄ F z st given e₅ most same m es h) ∙ no′ in
@@ -657,7 +657,7 @@ module _ {tab : List ℕ} {s : Scope} {first end row c x f : ℕ} (e₂ : x ≡ 
                 (eqb-true (arity es) (length (F .method .parameters)) q),
           )
 
-      invocation-fine : {w : ℕ} → v ≡ Fine w → {t r : ℕ} → t ≡ wordAt tab 3 f → TypeOf tab (s .tokens) t r
+      invocation-fine : {w : ℕ} → v ≡ Fine w → {t r : ℕ} → t ≡ wordAt tab cType f → TypeOf tab (s .tokens) t r
           → InvocationPost tab s first end row c (Fine r)
       invocation-fine is {r = r} e₃ type =
           found near (Fine r) λ ts G Γ i m es h F z st.
@@ -671,7 +671,7 @@ module _ {tab : List ℕ} {s : Scope} {first end row c x f : ℕ} (e₂ : x ≡ 
           let q = answered i m es h F z st in
           rw (q .0, asJudged-refused (judge G Γ es (F .method .parameters)) (q .1) is) ill
 
-      pub invocation-typed : {t u : ℕ} → t ≡ wordAt tab 3 f → TypeOf tab (s .tokens) t u → {r : Judged} → TypedPost u v r
+      pub invocation-typed : {t u : ℕ} → t ≡ wordAt tab cType f → TypeOf tab (s .tokens) t u → {r : Judged} → TypedPost u v r
           → InvocationPost tab s first end row c r
       invocation-typed e₃ type (typed-fine is) = invocation-fine is e₃ type
       invocation-typed e₃ type (typed-refused is) = invocation-refused is
@@ -688,7 +688,7 @@ module _ {tab : List ℕ} {s : Scope} {first end row parameter : ℕ} where
       }
 
   module _ (near : row < absent) where
-    module _ {t want : ℕ} (e₃ : t ≡ wordAt tab 3 parameter) (type : TypeOf tab (s .tokens) t want) {v : Judged}
+    module _ {t want : ℕ} (e₃ : t ≡ wordAt tab cType parameter) (type : TypeOf tab (s .tokens) t want) {v : Judged}
         (f : OperandPost tab s first end row want v) where
       -- the first argument and its parameter
       one : {ts : List Token} {G : List Class} {Γ : Context} → InScope tab ts G Γ s → (e : Expression) → PartIn tab ts row first end e
@@ -697,7 +697,7 @@ module _ {tab : List ℕ} {s : Scope} {first end row parameter : ℕ} where
       one {ts} {G} {Γ} i e h w vs d (more-variables x c₃ c₆ st) =
           let there = row-there (i .world .tokens) (w .name .row) (x .name .token .there) in
           f .says ts G Γ i e h (w .type .type)
-          (type .says ts (i .world .tokens) (w .type .row) (sym (word-in tab 3 (w .name .row) there c₃) ∙ ap (wordAt tab 3) d ∙ sym e₃)
+          (type .says ts (i .world .tokens) (w .type .row) (sym (word-in tab cType (w .name .row) there c₃) ∙ ap (wordAt tab cType) d ∙ sym e₃)
           (w .type .type) (x .type))
 
       pub arguments-refused : {n p : ℕ} → v ≡ Refused n p → ArgumentsPost tab s first end row parameter (Refused n p)
@@ -712,7 +712,7 @@ module _ {tab : List ℕ} {s : Scope} {first end row parameter : ℕ} where
           go ts G Γ i es (one-more-argument {e = e} {es = xs} x y) (w ∷ vs) d st a =
               rw (halts (judge G Γ e) (must G e (w .type .type)) (judge G Γ xs vs) (one i e x w vs d st) is)
 
-      pub arguments-next : {w : ℕ} → v ≡ Fine w → {next p : ℕ} → next ≡ wordAt tab 6 row → p ≡ wordAt tab 6 parameter → {after end′ : ℕ}
+      pub arguments-next : {w : ℕ} → v ≡ Fine w → {next p : ℕ} → next ≡ wordAt tab cNext row → p ≡ wordAt tab cNext parameter → {after end′ : ℕ}
           → after ≡ row + 1 → end′ ≡ end → {r : Judged} → ArgumentsPost tab s after end′ next p r
           → ArgumentsPost tab s first end row parameter r
       unfolding judge arity

@@ -4,13 +4,13 @@ use mathlib.Core.Path.{_≡_, refl, sym, ap, _∙_, subst}
 use mathlib.Core.List.{List, [], _∷_}
 use lib.Dec.{eqb}
 use Rattle.base.specs.Choice.{if_then_else_}
-use Rattle.lexer.specs.Kinds.{kAnd, kLess, kPlus, kMinus}
+use Rattle.lexer.specs.Kinds.{kAnd, kLess, kPlus, kMinus, kTimes}
 use Rattle.lexer.specs.Tokens.{Token}
 use Rattle.parser.specs.Tree.{Operator, Operator.and, Operator.less, Operator.plus, Operator.minus, Operator.times}
 use Rattle.parser.specs.Tree.{Element.int, Element.fixed, Ty, Ty.plain}
 use Rattle.reader.specs.contracts.Matches.{operatorKind}
 use Rattle.typesystem.specs.Operators.{line, resultIn, operation}
-use Rattle.lookup.specs.contracts.HeldClasses.{Lexemes, noType, code-int, code-boolean, code-fixed, Codes, code-plain}
+use Rattle.lookup.specs.contracts.HeldClasses.{Lexemes, noType, code-int, code-boolean, code-fixed, Codes, code-plain, intNumber, booleanNumber, fixedNumber}
 use Rattle.lookup.specs.contracts.Lookups.{LookedUp, untyped, typed}
 use Rattle.lookup.specs.laws.HeldLaws.{same-codes, other-codes}
 use Rattle.bodies.specs.contracts.OperatorPost.{LinePost, has-line, no-line, NumericPost, int-line, fixed-line, OperationPost}
@@ -63,22 +63,22 @@ module _ {k left r : ℕ} where
             (f tab n ts lx t c);
       }
 
-  pub conjoined : k ≡ 24 → LinePost left 2049 2049 r → OperationPost k left r
+  pub conjoined : k ≡ kAnd → LinePost left booleanNumber booleanNumber r → OperationPost k left r
   conjoined is f = only and is (λ tab n ts lx t c. one-line lx (code-plain (code-boolean refl)) (code-plain (code-boolean refl)) f t c)
 
-  pub compared : k ≡ 25 → NumericPost left 2049 2049 r → OperationPost k left r
+  pub compared : k ≡ kLess → NumericPost left booleanNumber booleanNumber r → OperationPost k left r
   compared is f = only less is (λ tab n ts lx t c. two-lines lx (code-plain (code-boolean refl)) (code-plain (code-boolean refl)) f t c)
 
-  pub added : k ≡ 26 → NumericPost left 2048 2050 r → OperationPost k left r
+  pub added : k ≡ kPlus → NumericPost left intNumber fixedNumber r → OperationPost k left r
   added is f = only plus is (λ tab n ts lx t c. two-lines lx (code-plain (code-int refl)) (code-plain (code-fixed refl)) f t c)
 
-  pub subtracted : k ≡ 27 → NumericPost left 2048 2050 r → OperationPost k left r
+  pub subtracted : k ≡ kMinus → NumericPost left intNumber fixedNumber r → OperationPost k left r
   subtracted is f = only minus is (λ tab n ts lx t c. two-lines lx (code-plain (code-int refl)) (code-plain (code-fixed refl)) f t c)
 
-  pub multiplied : k ≡ 28 → NumericPost left 2048 2050 r → OperationPost k left r
+  pub multiplied : k ≡ kTimes → NumericPost left intNumber fixedNumber r → OperationPost k left r
   multiplied is f = only times is (λ tab n ts lx t c. two-lines lx (code-plain (code-int refl)) (code-plain (code-fixed refl)) f t c)
 
-pub no-operator : {k left : ℕ} → (k ≡ 24 → ⊥) → (k ≡ 25 → ⊥) → (k ≡ 26 → ⊥) → (k ≡ 27 → ⊥) → (k ≡ 28 → ⊥) → OperationPost k left noType
+pub no-operator : {k left : ℕ} → (k ≡ kAnd → ⊥) → (k ≡ kLess → ⊥) → (k ≡ kPlus → ⊥) → (k ≡ kMinus → ⊥) → (k ≡ kTimes → ⊥) → OperationPost k left noType
 no-operator {k} {left} n₁ n₂ n₃ n₄ n₅ = record { says = λ tab n ts lx o is t c. absurd (go o is) }
   where
     go : (o : Operator) → k ≡ operatorKind o → ⊥

@@ -7,6 +7,8 @@ use mathlib.Core.List.{List}
 use lib.ListN.{length}
 use Rattle.base.specs.Outcome.{Outcome, accepted, refused, _>>=_}
 use Rattle.base.specs.laws.Tests.{apart}
+use Rattle.base.specs.Codes.{tokensMost}
+use Rattle.base.specs.contracts.Table.{cBegin}
 use Rattle.lexer.specs.Tokens.{Token}
 use Rattle.parser.specs.Tree.{Sort, Sort.arguments, Sort.statements, Part, Expression, Statement, placeE}
 use Rattle.parser.specs.Tree.{Element, Ty, Ty.plain, Ty.arrayOf, Class}
@@ -18,7 +20,7 @@ use Rattle.typesystem.specs.ClassTable.{Context}
 use Rattle.typesystem.specs.Judge.{ofArray}
 use Rattle.lookup.specs.declared.answer.Judged.{Judged}
 use Rattle.lookup.specs.declared.answer.Judged.the-variants.{Fine, Refused}
-use Rattle.lookup.specs.contracts.HeldClasses.{wordAt, ElementCodes, Codes, code-plain, code-array}
+use Rattle.lookup.specs.contracts.HeldClasses.{wordAt, ElementCodes, Codes, code-plain, code-array, arrayMark}
 use Rattle.lookup.specs.laws.HeldLaws.{element-below}
 use Rattle.lookup.specs.contracts.Answers.{asJudged, asJudged-fine, asJudged-refused, Judges, well, ill}
 use Rattle.lookup.specs.contracts.Shows.{Form, formAt, formS, GoesOn, GoesOnS}
@@ -62,15 +64,15 @@ halts o test next {n = n} {p = p} e is = bind-assoc o test (λ _. next) ∙ rest
 
 -- ARRAYS, by the number of a type
 
-pub plain-code : {ts : List Token} {t : Ty} {w : ℕ} → Codes ts t w → w < 4096 → (s : Element) × (t ≡ plain s)
+pub plain-code : {ts : List Token} {t : Ty} {w : ℕ} → Codes ts t w → w < arrayMark → (s : Element) × (t ≡ plain s)
 plain-code (code-plain {t = s} c) low = (s, refl)
 plain-code (code-array c e) low = absurd (omega arith)
 
-pub array-code : {ts : List Token} {t : Ty} {w : ℕ} → length ts ≤ 2048 → Codes ts t w → 4096 ≤ w
-    → (s : Element) × (t ≡ arrayOf s) × Codes ts (plain s) (w - 4096)
+pub array-code : {ts : List Token} {t : Ty} {w : ℕ} → length ts ≤ tokensMost → Codes ts t w → arrayMark ≤ w
+    → (s : Element) × (t ≡ arrayOf s) × Codes ts (plain s) (w - arrayMark)
 array-code few (code-plain c) high = absurd (omega (arith, element-below few c))
 array-code {ts} {w = w} few (code-array {t = s} {v = v} c e) high =
-    (s, refl, let z : v ≡ w - 4096 = omega arith in code-plain (subst (ElementCodes ts s) z c))
+    (s, refl, let z : v ≡ w - arrayMark = omega arith in code-plain (subst (ElementCodes ts s) z c))
 
 -- the answer for a part that must be an array, and what follows
 module _ {A : Type 0} {ts : List Token} (p : ℕ) (k : Element → Outcome A) {v : Judged} where
@@ -138,7 +140,7 @@ module _ (first end row : ℕ) where
 
 -- WHAT A ROW SHOWS
 
-pub few-tokens : {tab : List ℕ} {ts : List Token} {G : List Class} {Γ : Context} {s : Scope} → InScope tab ts G Γ s → length ts ≤ 2048
+pub few-tokens : {tab : List ℕ} {ts : List Token} {G : List Class} {Γ : Context} {s : Scope} → InScope tab ts G Γ s → length ts ≤ tokensMost
 few-tokens i = omega (arith, i .world .tokens .count, i .world .tokens .few)
 
 module _ {tab : List ℕ} {ts : List Token} {G : List Class} {Γ : Context} {s : Scope} (i : InScope tab ts G Γ s) (first end : ℕ)
@@ -152,5 +154,5 @@ module _ {tab : List ℕ} {ts : List Token} {G : List Class} {Γ : Context} {s :
   seen-inS f t h = shownS (i .world .tokens) row _ _ (rangesS first end row) f t h
 
   -- where an expression that lies in a row begins
-  pub start-of : {e : Expression} → PartIn tab ts row first end e → wordAt tab 3 row ≡ placeE e .start
+  pub start-of : {e : Expression} → PartIn tab ts row first end e → wordAt tab cBegin row ≡ placeE e .start
   start-of {e} h = starts (seen-in refl e h)

@@ -7,12 +7,14 @@ use mathlib.Core.List.{List}
 use mathlib.Core.Option.{Option, none, some}
 use lib.ListN.{length, getD}
 use Rattle.base.specs.Choice.{option}
+use Rattle.base.specs.Codes.{tokensMost}
 use Rattle.lexer.specs.Tokens.{Token}
 use Rattle.parser.specs.Tree.{Variable, Class}
+use Rattle.parser.specs.contracts.Layout.{absent}
 use Rattle.typesystem.specs.ClassTable.{Slot, Context, ofObject, variableNamed, chain, nearestField, meaning}
 use Rattle.lookup.specs.contracts.HeldClasses.{Lexemes, NameNumber, noType, chainFrom, ListedAt}
 use Rattle.lookup.specs.contracts.Lookups.{SlotTyped, untyped, typed, VariableTyped}
-use Rattle.lookup.specs.contracts.Fields.{Tells, no-field, a-field, FieldsHeld}
+use Rattle.lookup.specs.contracts.Fields.{Tells, no-field, a-field, FieldsHeld, slotsFrom}
 use Rattle.lookup.specs.laws.VariableLaws.{typed-some, typed-none, variable-left, variable-right}
 use Rattle.bodies.specs.declared.scope.Scope.{Scope}
 use Rattle.bodies.specs.contracts.Scoping.{InScope, Means, NameTyped}
@@ -58,7 +60,7 @@ module _ {tab : List ℕ} {s : Scope} {x t : ℕ} (first : VariableTyped tab (s 
     both : {ts : List Token} {G : List Class} {Γ : Context} → InScope tab ts G Γ s → (text : List ℕ) → NameNumber ts text x
         → SlotTyped ts (variableNamed (Γ .variables) text) u
     both {ts} i text sp =
-        let few : length ts ≤ 2048 = omega (arith, i .world .tokens .count, i .world .tokens .few) in
+        let few : length ts ≤ tokensMost = omega (arith, i .world .tokens .count, i .world .tokens .few) in
         rw (i .seen)
         (variable-right (i .given) (i .own) text (typed-none few high (listed (s .parameters) first (i .world .tokens) (i .given-listed) text sp))
         (listed (s .locals) second (i .world .tokens) (i .own-listed) text sp))
@@ -68,7 +70,7 @@ module _ {tab : List ℕ} {s : Scope} {x t : ℕ} (first : VariableTyped tab (s 
 
     module _ (far : noType ≤ u) where
       -- a number of no name means nothing
-      pub name-past : 2048 ≤ x → NameTyped tab s x noType
+      pub name-past : absent ≤ x → NameTyped tab s x noType
       name-past high′ =
           record { says = λ ts G Γ i text sp. absurd (omega (arith, sp .there, i .world .tokens .count, i .world .tokens .few)) }
 
@@ -76,6 +78,6 @@ module _ {tab : List ℕ} {s : Scope} {x t : ℕ} (first : VariableTyped tab (s 
       name-field {fields} h =
           record {
             says = λ ts G Γ i text sp.
-                let few : length ts ≤ 2048 = omega (arith, i .world .tokens .count, i .world .tokens .few) in
-                field-means G Γ text {p = getD fields (2048 + x) 0} (typed-none few far (both i text sp)) (rw (i .many) (h .says ts G (i .world) (Γ .owner) (i .declarer) .says text x sp));
+                let few : length ts ≤ tokensMost = omega (arith, i .world .tokens .count, i .world .tokens .few) in
+                field-means G Γ text {p = getD fields (slotsFrom + x) 0} (typed-none few far (both i text sp)) (rw (i .many) (h .says ts G (i .world) (Γ .owner) (i .declarer) .says text x sp));
           }

@@ -9,7 +9,9 @@ use borrow.Author.Tests.{ne-eqb}
 use Rattle.base.specs.Codes.{wrongType}
 use Rattle.base.specs.Outcome.{_>>=_}
 use Rattle.base.specs.laws.Tests.{apart}
+use Rattle.base.specs.contracts.Table.{cBegin, cFirst, cSecond, cNext, cThird}
 use Rattle.lexer.specs.Tokens.{Token}
+use Rattle.lexer.specs.Kinds.{kIf, kPort, kSystem, kWhile, kOpenBracket, kOpenBrace}
 use Rattle.parser.specs.Tree.{Sort.statements, Part, Element.int, Element.boolean, Ty, Ty.plain, Class}
 use Rattle.parser.specs.contracts.Layout.{absent}
 use Rattle.parser.specs.contracts.Post.{kindInTable}
@@ -20,7 +22,7 @@ use Rattle.typesystem.specs.Judge.{judge, must}
 use Rattle.typesystem.specs.Operators.{printable}
 use Rattle.lookup.specs.declared.answer.Judged.{Judged}
 use Rattle.lookup.specs.declared.answer.Judged.the-variants.{Fine, Refused}
-use Rattle.lookup.specs.contracts.HeldClasses.{wordAt, Lexemes, code-int, code-boolean, code-fixed, Codes, code-plain}
+use Rattle.lookup.specs.contracts.HeldClasses.{wordAt, Lexemes, code-int, code-boolean, code-fixed, Codes, code-plain, intNumber, booleanNumber, fixedNumber, arrayMark}
 use Rattle.lookup.specs.laws.HeldLaws.{same-codes, other-codes}
 use Rattle.lookup.specs.contracts.Answers.{asJudged, goes-on, stops}
 use Rattle.lookup.specs.contracts.Shows.{Form, aBlock, aConditional, aLoop, aPrint, anAssignment, anElementStore, aPortPut, formS}
@@ -38,8 +40,8 @@ use Rattle.bodies.proofs.PartLaws.{one-moreS, seen-inS, start-of}
 
 -- ASSIGNMENTS
 
-module _ {tab : List ℕ} {s : Scope} {first end row index want : ℕ} (e₄ : index ≡ wordAt tab 4 row) {v : Judged}
-    (f : OperandPost tab s first end index 2048 v) where
+module _ {tab : List ℕ} {s : Scope} {first end row index want : ℕ} (e₄ : index ≡ wordAt tab cFirst row) {v : Judged}
+    (f : OperandPost tab s first end index intNumber v) where
   pub value-first : {n p : ℕ} → v ≡ Refused n p → ValuePost tab s first end row want (Refused n p)
   value-first is =
       record {
@@ -48,7 +50,7 @@ module _ {tab : List ℕ} {s : Scope} {first end row index want : ℕ} (e₄ : i
             (f .says ts G Γ sc i (rw e₄ x) (plain int) (code-plain (code-int refl))) is);
       }
 
-  pub value-second : {w : ℕ} → v ≡ Fine w → {second : ℕ} → second ≡ wordAt tab 5 row → {r : Judged}
+  pub value-second : {w : ℕ} → v ≡ Fine w → {second : ℕ} → second ≡ wordAt tab cSecond row → {r : Judged}
       → OperandPost tab s first end second want r → ValuePost tab s first end row want r
   value-second is e₅ g =
       record {
@@ -74,7 +76,7 @@ module _ {tab : List ℕ} {s : Scope} {first end row : ℕ} {v : Judged} (f : Na
       go ts G Γ sc t (shows-element-store {p = q} {x = x} st sp y z) = rw (judges-refused (f .says ts G Γ sc q x st sp) is)
 
   module _ {target : ℕ} (is : v ≡ Fine target) where
-    pub assignment-value : {value : ℕ} → value ≡ wordAt tab 4 row → {r : Judged} → OperandPost tab s first end value target r
+    pub assignment-value : {value : ℕ} → value ≡ wordAt tab cFirst row → {r : Judged} → OperandPost tab s first end value target r
         → StatementNodePost tab s anAssignment first end row r
     unfolding judge
     assignment-value e₄ {r} g = record { says = go }
@@ -84,7 +86,7 @@ module _ {tab : List ℕ} {s : Scope} {first end row : ℕ} {v : Judged} (f : Na
             let d = judges-fine (f .says ts G Γ sc q x st sp) is in
             rw (d .1) (g .says ts G Γ sc e (rw e₄ y) (d .0) (d .2))
 
-    pub element-value : 4096 ≤ target → {r : Judged} → ValuePost tab s first end row (target - 4096) r
+    pub element-value : arrayMark ≤ target → {r : Judged} → ValuePost tab s first end row (target - arrayMark) r
         → StatementNodePost tab s anElementStore first end row r
     unfolding judge
     element-value high {r} g = record { says = go }
@@ -95,7 +97,7 @@ module _ {tab : List ℕ} {s : Scope} {first end row : ℕ} {v : Judged} (f : Na
             let u = array-code (few-tokens sc) (d .2) high in
             rw (d .1, u .1) (g .says ts G Γ sc i e y z (plain (u .0)) (u .2))
 
-    pub element-wrong : target < 4096 → {at₃ : ℕ} → at₃ ≡ wordAt tab 3 row
+    pub element-wrong : target < arrayMark → {at₃ : ℕ} → at₃ ≡ wordAt tab cBegin row
         → StatementNodePost tab s anElementStore first end row (Refused wrongType at₃)
     unfolding judge
     element-wrong low {at₃} e₃ = record { says = go }
@@ -110,23 +112,23 @@ module _ {tab : List ℕ} {s : Scope} {first end row : ℕ} {v : Judged} (f : Na
 
 -- int and fixed are printed, by the numbers of types
 module _ {tab : List ℕ} {n : ℕ} {ts : List Token} (lx : Lexemes tab n ts) {t : Ty} {w : ℕ} (c : Codes ts t w) where
-  int-printed : w ≡ 2048 → printable t ≡ true
+  int-printed : w ≡ intNumber → printable t ≡ true
   unfolding printable
   int-printed e = rw (same-codes lx (code-plain (code-int refl)) c (sym e))
 
-  module _ (other : w ≡ 2048 → ⊥) where
+  module _ (other : w ≡ intNumber → ⊥) where
     not-int : sameType (plain int) t ≡ false
     not-int = other-codes lx (code-plain (code-int refl)) c (λ z. other (sym z))
 
-    fixed-printed : w ≡ 2050 → printable t ≡ true
+    fixed-printed : w ≡ fixedNumber → printable t ≡ true
     unfolding printable
     fixed-printed e = rw (not-int, same-codes lx (code-plain (code-fixed refl)) c (sym e))
 
-    not-printed : (w ≡ 2050 → ⊥) → printable t ≡ false
+    not-printed : (w ≡ fixedNumber → ⊥) → printable t ≡ false
     unfolding printable
     not-printed f = rw (not-int, other-codes lx (code-plain (code-fixed refl)) c (λ z. f (sym z)))
 
-module _ {tab : List ℕ} {s : Scope} {first end row part : ℕ} (e₄ : part ≡ wordAt tab 4 row) {v : Judged}
+module _ {tab : List ℕ} {s : Scope} {first end row part : ℕ} (e₄ : part ≡ wordAt tab cFirst row) {v : Judged}
     (f : ExpressionPost tab s first end part v) where
   pub print-refused : {n p : ℕ} → v ≡ Refused n p → StatementNodePost tab s aPrint first end row (Refused n p)
   unfolding judge
@@ -147,14 +149,14 @@ module _ {tab : List ℕ} {s : Scope} {first end row part : ℕ} (e₄ : part �
             let d = judges-fine (f .says ts G Γ sc e (rw e₄ x)) is in
             rw (d .1, by ts (s .tokens) (sc .world .tokens) (d .0) (d .2))
 
-    pub print-int : w ≡ 2048 → StatementNodePost tab s aPrint first end row (Fine 0)
+    pub print-int : w ≡ intNumber → StatementNodePost tab s aPrint first end row (Fine 0)
     print-int e = fine (λ ts n lx u c. int-printed lx c e)
 
-    module _ (other : w ≡ 2048 → ⊥) where
-      pub print-fixed : w ≡ 2050 → StatementNodePost tab s aPrint first end row (Fine 0)
+    module _ (other : w ≡ intNumber → ⊥) where
+      pub print-fixed : w ≡ fixedNumber → StatementNodePost tab s aPrint first end row (Fine 0)
       print-fixed e = fine (λ ts n lx u c. fixed-printed lx c other e)
 
-      pub print-wrong : (w ≡ 2050 → ⊥) → {at₃ : ℕ} → at₃ ≡ wordAt tab 3 part
+      pub print-wrong : (w ≡ fixedNumber → ⊥) → {at₃ : ℕ} → at₃ ≡ wordAt tab cBegin part
           → StatementNodePost tab s aPrint first end row (Refused wrongType at₃)
       unfolding judge
       print-wrong rest {at₃} e₃ = record { says = go }
@@ -167,12 +169,12 @@ module _ {tab : List ℕ} {s : Scope} {first end row part : ℕ} (e₄ : part �
 
 -- BRANCHES AND LOOPS
 
-module _ {tab : List ℕ} {s : Scope} {first end row second : ℕ} (e₅ : second ≡ wordAt tab 5 row) {v : Judged}
+module _ {tab : List ℕ} {s : Scope} {first end row second : ℕ} (e₅ : second ≡ wordAt tab cSecond row) {v : Judged}
     (f : StatementPost tab s first end second v) where
   pub branches-first : {n p : ℕ} → v ≡ Refused n p → BranchesPost tab s first end row (Refused n p)
   branches-first is = record { says = λ ts G Γ sc a b x y. rw (stops (judge G Γ a) (λ _. judge G Γ b) (f .says ts G Γ sc a (rw e₅ x)) is) }
 
-  pub branches-second : {w : ℕ} → v ≡ Fine w → {third : ℕ} → third ≡ wordAt tab 7 row → {r : Judged}
+  pub branches-second : {w : ℕ} → v ≡ Fine w → {third : ℕ} → third ≡ wordAt tab cThird row → {r : Judged}
       → StatementPost tab s first end third r
       → BranchesPost tab s first end row r
   branches-second is e₇ g =
@@ -181,8 +183,8 @@ module _ {tab : List ℕ} {s : Scope} {first end row second : ℕ} (e₅ : secon
             rw (goes-on (judge G Γ a) (λ _. judge G Γ b) (f .says ts G Γ sc a (rw e₅ x)) is) (g .says ts G Γ sc b (rw e₇ y));
       }
 
-module _ {tab : List ℕ} {s : Scope} {first end row test : ℕ} (e₄ : test ≡ wordAt tab 4 row) {v : Judged}
-    (f : OperandPost tab s first end test 2049 v) where
+module _ {tab : List ℕ} {s : Scope} {first end row test : ℕ} (e₄ : test ≡ wordAt tab cFirst row) {v : Judged}
+    (f : OperandPost tab s first end test booleanNumber v) where
   pub conditional-refused : {n p : ℕ} → v ≡ Refused n p → StatementNodePost tab s aConditional first end row (Refused n p)
   unfolding judge
   conditional-refused {n} {p} is = record { says = go }
@@ -210,7 +212,7 @@ module _ {tab : List ℕ} {s : Scope} {first end row test : ℕ} (e₄ : test �
       go ts G Γ sc t (shows-loop {e = e} {s = a} st x y) =
           rw (halts (judge G Γ e) (must G e (plain boolean)) (judge G Γ a) (f .says ts G Γ sc e (rw e₄ x) (plain boolean) (code-plain (code-boolean refl))) is)
 
-  pub loop-body : {w : ℕ} → v ≡ Fine w → {body : ℕ} → body ≡ wordAt tab 5 row → {r : Judged} → StatementPost tab s first end body r
+  pub loop-body : {w : ℕ} → v ≡ Fine w → {body : ℕ} → body ≡ wordAt tab cSecond row → {r : Judged} → StatementPost tab s first end body r
       → StatementNodePost tab s aLoop first end row r
   unfolding judge
   loop-body is e₅ {r} g = record { says = go }
@@ -249,44 +251,44 @@ module _ {tab : List ℕ} {s : Scope} {first end row : ℕ} where
         → StatementPost tab s first end row r
     alone k′ is g = told (ap (λ (j : ℕ). formS j (kindInTable tab (s .tokens) (row + 1))) is) g
 
-    pub statement-block : k ≡ 38 → {part : ℕ} → part ≡ wordAt tab 4 row → ListPost tab s after end′ part r
+    pub statement-block : k ≡ kOpenBrace → {part : ℕ} → part ≡ wordAt tab cFirst row → ListPost tab s after end′ part r
         → StatementPost tab s first end row r
     unfolding formS judge
-    statement-block is e₄ f = alone 38 is go
+    statement-block is e₄ f = alone kOpenBrace is go
       where
         go : StatementJudged tab s aBlock after end′ row r
         go ts G Γ sc t (shows-block {ss = ss} st x) = f .says ts G Γ sc ss (rw e₄ x)
 
-    pub statement-if : k ≡ 10 → StatementNodePost tab s aConditional after end′ row r → StatementPost tab s first end row r
+    pub statement-if : k ≡ kIf → StatementNodePost tab s aConditional after end′ row r → StatementPost tab s first end row r
     unfolding formS
-    statement-if is f = alone 10 is (f .says)
+    statement-if is f = alone kIf is (f .says)
 
-    pub statement-while : k ≡ 23 → StatementNodePost tab s aLoop after end′ row r → StatementPost tab s first end row r
+    pub statement-while : k ≡ kWhile → StatementNodePost tab s aLoop after end′ row r → StatementPost tab s first end row r
     unfolding formS
-    statement-while is f = alone 23 is (f .says)
+    statement-while is f = alone kWhile is (f .says)
 
-    pub statement-print : k ≡ 19 → StatementNodePost tab s aPrint after end′ row r → StatementPost tab s first end row r
+    pub statement-print : k ≡ kSystem → StatementNodePost tab s aPrint after end′ row r → StatementPost tab s first end row r
     unfolding formS
-    statement-print is f = alone 19 is (f .says)
+    statement-print is f = alone kSystem is (f .says)
 
-    pub statement-put : k ≡ 40 → ValuePost tab s after end′ row 2048 r → StatementPost tab s first end row r
+    pub statement-put : k ≡ kPort → ValuePost tab s after end′ row intNumber r → StatementPost tab s first end row r
     unfolding formS judge
-    statement-put is f = alone 40 is go
+    statement-put is f = alone kPort is go
       where
         go : StatementJudged tab s aPortPut after end′ row r
         go ts G Γ sc t (shows-port-put {n = n} {e = e} st x y) = f .says ts G Γ sc n e x y (plain int) (code-plain (code-int refl))
 
-    module _ (n₁ : k ≡ 38 → ⊥) (n₂ : k ≡ 10 → ⊥) (n₃ : k ≡ 23 → ⊥) (n₄ : k ≡ 19 → ⊥) (n₅ : k ≡ 40 → ⊥) {k′ : ℕ}
+    module _ (n₁ : k ≡ kOpenBrace → ⊥) (n₂ : k ≡ kIf → ⊥) (n₃ : k ≡ kWhile → ⊥) (n₄ : k ≡ kSystem → ⊥) (n₅ : k ≡ kPort → ⊥) {k′ : ℕ}
         (next : k′ ≡ kindInTable tab (s .tokens) (row + 1)) where
-      pub statement-element : k′ ≡ 36 → StatementNodePost tab s anElementStore after end′ row r → StatementPost tab s first end row r
+      pub statement-element : k′ ≡ kOpenBracket → StatementNodePost tab s anElementStore after end′ row r → StatementPost tab s first end row r
       unfolding formS
       statement-element is f =
-          told (rw (ne-eqb k 38 n₁, ne-eqb k 10 n₂, ne-eqb k 23 n₃, ne-eqb k 19 n₄, ne-eqb k 40 n₅, sym next ∙ is)) (f .says)
+          told (rw (ne-eqb k kOpenBrace n₁, ne-eqb k kIf n₂, ne-eqb k kWhile n₃, ne-eqb k kSystem n₄, ne-eqb k kPort n₅, sym next ∙ is)) (f .says)
 
-      pub statement-assignment : (k′ ≡ 36 → ⊥) → StatementNodePost tab s anAssignment after end′ row r → StatementPost tab s first end row r
+      pub statement-assignment : (k′ ≡ kOpenBracket → ⊥) → StatementNodePost tab s anAssignment after end′ row r → StatementPost tab s first end row r
       unfolding formS
       statement-assignment other f =
-          told (rw (ne-eqb k 38 n₁, ne-eqb k 10 n₂, ne-eqb k 23 n₃, ne-eqb k 19 n₄, ne-eqb k 40 n₅, sym next, ne-eqb k′ 36 other))
+          told (rw (ne-eqb k kOpenBrace n₁, ne-eqb k kIf n₂, ne-eqb k kWhile n₃, ne-eqb k kSystem n₄, ne-eqb k kPort n₅, sym next, ne-eqb k′ kOpenBracket other))
           (f .says)
 
 -- LISTS
@@ -320,7 +322,7 @@ module _ {tab : List ℕ} {s : Scope} {first end row : ℕ} where
           go ts G Γ sc ss (one-more-statement {t = t} {ss = xs} x y) =
               rw (stops (judge G Γ t) (λ _. judge G Γ xs) (f .says ts G Γ sc t x) is)
 
-      pub list-next : {w : ℕ} → v ≡ Fine w → {next : ℕ} → next ≡ wordAt tab 6 row → {after end′ : ℕ} → after ≡ row + 1 → end′ ≡ end
+      pub list-next : {w : ℕ} → v ≡ Fine w → {next : ℕ} → next ≡ wordAt tab cNext row → {after end′ : ℕ} → after ≡ row + 1 → end′ ≡ end
           → {r : Judged} → ListPost tab s after end′ next r → ListPost tab s first end row r
       unfolding judge
       list-next is e₆ low high {r} g = record { says = λ ts G Γ sc ss h. go ts G Γ sc ss (one-moreS first end row near ss h) }

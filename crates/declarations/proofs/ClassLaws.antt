@@ -13,7 +13,7 @@ use Rattle.base.specs.Codes.{parentUnknown}
 use Rattle.base.specs.Choice.{option}
 use Rattle.base.specs.All.{all-cons}
 use Rattle.base.specs.Outcome.{Outcome, accepted, refused, _>>=_}
-use Rattle.base.specs.contracts.Table.{col}
+use Rattle.base.specs.contracts.Table.{col, cStart, cNumber, cNext, cParent, cFields, cMethods, cClass}
 use Rattle.lexer.specs.Tokens.{Token}
 use Rattle.parser.specs.Tree.{Name, Class}
 use Rattle.parser.specs.contracts.Layout.{absent, rowParent, rowClasses}
@@ -44,7 +44,7 @@ class-word {tab} lx k at s j e c =
 pub record FirstClass (tab : List ℕ) (n : ℕ) (ts : List Token) (k : Class) (ks : List Class) (left row : ℕ) : Type 0 where
   pub near : row < absent
   pub stands : ClassHeld tab n ts k
-  pub rest : {next : ℕ} → next ≡ wordAt tab 6 row → (left ≡ 0 → ⊥) → ClassesAt tab n ts ks (left - 1) next
+  pub rest : {next : ℕ} → next ≡ wordAt tab cNext row → (left ≡ 0 → ⊥) → ClassesAt tab n ts ks (left - 1) next
 
 pub first-class : {tab : List ℕ} {n : ℕ} {ts : List Token} → Lexemes tab n ts → {k : Class} {ks : List Class} {left row : ℕ}
     → ClassesAt tab n ts (k ∷ ks) left row
@@ -55,24 +55,24 @@ first-class {tab} {n} {ts} lx {k} {ks} {left} {row} a = go (a .stand)
     go (more-classes s c₆ h) = record {
       near = omega (arith, a .here, row-there lx (k .name .row) (s .named .token .there));
       stands = s;
-      rest = λ e₆ more. record { here = sym (class-word lx k (a .here) s 6 e₆ c₆); stand = h; few = omega (arith, a .few) };
+      rest = λ e₆ more. record { here = sym (class-word lx k (a .here) s cNext e₆ c₆); stand = h; few = omega (arith, a .few) };
     }
 
 -- PARENTS
 
-module _ {tab : List ℕ} {class p : ℕ} (e₃ : p ≡ wordAt tab 3 class) where
+module _ {tab : List ℕ} {class p : ℕ} (e₃ : p ≡ wordAt tab cParent class) where
   pub orphan-none : absent ≤ p → OrphanAt tab class false
   unfolding ParentMatches
-  orphan-none far = record { says = λ n ts G w k at s. go n ts G w (k .parent) (s .parent-matches) (class-word (w .tokens) k at s 3 e₃ (s .above)) }
+  orphan-none far = record { says = λ n ts G w k at s. go n ts G w (k .parent) (s .parent-matches) (class-word (w .tokens) k at s cParent e₃ (s .above)) }
     where
       go : (n : ℕ) (ts : List Token) (G : List Class) → ClassTableHeld tab n ts G → (q : Option Name) → ParentMatches ts q
           → p ≡ rowParent q → false ≡ orphaned G q
       go n ts G w none m e = refl
       go n ts G w (some q) m e = absurd (omega (arith, e, row-there (w .tokens) (q .row) (m .token .there)))
 
-  pub orphan-is : p < absent → {x c : ℕ} → x ≡ wordAt tab 2 p → c ≡ wordAt tab 7 x → OrphanAt tab class (leb absent c)
+  pub orphan-is : p < absent → {x c : ℕ} → x ≡ wordAt tab cNumber p → c ≡ wordAt tab cClass x → OrphanAt tab class (leb absent c)
   unfolding ParentMatches
-  orphan-is near {x} {c} e₂ e₇ = record { says = λ n ts G w k at s. go n ts G w (k .parent) (s .parent-matches) (class-word (w .tokens) k at s 3 e₃ (s .above)) }
+  orphan-is near {x} {c} e₂ e₇ = record { says = λ n ts G w k at s. go n ts G w (k .parent) (s .parent-matches) (class-word (w .tokens) k at s cParent e₃ (s .above)) }
     where
       found : (n : ℕ) (ts : List Token) (G : List Class) (q : Name) → ClassAt tab n ts G (some (q .text)) x c
           → leb absent c ≡ orphaned G (some q)
@@ -83,7 +83,7 @@ module _ {tab : List ℕ} {class p : ℕ} (e₃ : p ≡ wordAt tab 3 class) wher
           → p ≡ rowParent q → leb absent c ≡ orphaned G q
       go n ts G w none m e = absurd (omega (arith, e))
       go n ts G w (some q) m e =
-          found n ts G q (class-at w (some (q .text)) x c (a-name (subst (NameNumber ts (q .text)) (ap (wordAt tab 2) (sym e) ∙ sym e₂) (name-word (w .tokens) (q .row) (m .token)))) e₇)
+          found n ts G q (class-at w (some (q .text)) x c (a-name (subst (NameNumber ts (q .text)) (ap (wordAt tab cNumber) (sym e) ∙ sym e₂) (name-word (w .tokens) (q .row) (m .token)))) e₇)
 
 -- 21 by the class that a parent's name finds
 abbrev parentBy : Option Class → (start : ℕ) → Outcome (Unit {0})
@@ -111,7 +111,7 @@ module _ {tab : List ℕ} {left row : ℕ} where
       go n ts G w (k ∷ ks) a = absurd (omega (arith, first-class (w .tokens) a .near))
 
   module _ (near : row < absent) {b : Bool} (h : OrphanAt tab row b) where
-    pub parents-orphan : b ≡ true → {p q : ℕ} → p ≡ wordAt tab 3 row → q ≡ wordAt tab 1 p
+    pub parents-orphan : b ≡ true → {p q : ℕ} → p ≡ wordAt tab cParent row → q ≡ wordAt tab cStart p
         → ParentsJudged tab left row (Refused parentUnknown q)
     unfolding knownParents ParentMatches
     parents-orphan is {p} {q} e₃ e₁ = record { says = λ n ts G w ks a. go n ts G w ks a }
@@ -122,16 +122,16 @@ module _ {tab : List ℕ} {left row : ℕ} where
         parent n ts G w none m e r = absurd (true≢false r)
         parent n ts G w (some x) m e r =
             unknown (classNamed G (x .text)) (x .start) r
-            ∙ ap (λ (i : ℕ). refused parentUnknown i) (sym (e₁ ∙ ap (wordAt tab 1) e ∙ start-word (w .tokens) (x .row) (m .token .there) ∙ m .start))
+            ∙ ap (λ (i : ℕ). refused parentUnknown i) (sym (e₁ ∙ ap (wordAt tab cStart) e ∙ start-word (w .tokens) (x .row) (m .token .there) ∙ m .start))
 
         go : (n : ℕ) (ts : List Token) (G : List Class) → ClassTableHeld tab n ts G → (ks : List Class) → ClassesAt tab n ts ks left row
             → Refused parentUnknown q ≡ asJudged (knownParents G ks)
         go n ts G w [] a = absurd (omega (arith, a .here))
         go n ts G w (k ∷ ks) a =
             let s = first-class (w .tokens) a .stands in
-            rw (parent n ts G w (k .parent) (s .parent-matches) (class-word (w .tokens) k (a .here) s 3 e₃ (s .above)) (sym is ∙ h .says n ts G w k (a .here) s))
+            rw (parent n ts G w (k .parent) (s .parent-matches) (class-word (w .tokens) k (a .here) s cParent e₃ (s .above)) (sym is ∙ h .says n ts G w k (a .here) s))
 
-    pub parents-next : (left ≡ 0 → ⊥) → b ≡ false → {next : ℕ} {r : Judged} → next ≡ wordAt tab 6 row
+    pub parents-next : (left ≡ 0 → ⊥) → b ≡ false → {next : ℕ} {r : Judged} → next ≡ wordAt tab cNext row
         → ParentsJudged tab (left - 1) next r → ParentsJudged tab left row r
     unfolding knownParents
     parents-next more is {next} {r} e₆ h′ = record { says = λ n ts G w ks a. go n ts G w ks a }
@@ -154,12 +154,12 @@ fields-below : {tab : List ℕ} {n stamp first : ℕ} {before mid : List ℕ} {f
     → FieldsJudged tab n n stamp first before mid f → StampsBelow (stamp + 1) mid
 fields-below {stamp = stamp} new h = h .below (stamp + 1) (omega arith) (below-more (omega arith) new)
 
-module _ {tab : List ℕ} {n stamp class first : ℕ} (e₄ : first ≡ wordAt tab 4 class) {before mid : List ℕ} (new : StampsBelow stamp before)
+module _ {tab : List ℕ} {n stamp class first : ℕ} (e₄ : first ≡ wordAt tab cFields class) {before mid : List ℕ} (new : StampsBelow stamp before)
     {f : Judged} (h : FieldsJudged tab n n stamp first before mid f) where
   own-fields : {ts : List Token} {G : List Class} → ClassTableHeld tab n ts G → (k : Class) → k .name .row ≡ class → ClassHeld tab n ts k
       → f ≡ asJudged (fields G [] (k .fields))
   own-fields {ts} {G} w k at s =
-      h .says ts G w [] (k .fields) (record { here = sym (class-word (w .tokens) k at s 4 e₄ (s .first)); stand = s .fields; few = s .few-fields; marked = none-marked new })
+      h .says ts G w [] (k .fields) (record { here = sym (class-word (w .tokens) k at s cFields e₄ (s .first)); stand = s .fields; few = s .few-fields; marked = none-marked new })
 
   pub members-stop : {classes number p : ℕ} → f ≡ Refused number p → MembersJudged tab n classes stamp class mid (Refused number p)
   members-stop is = record {
@@ -167,14 +167,14 @@ module _ {tab : List ℕ} {n stamp class first : ℕ} (e₄ : first ≡ wordAt t
     says = λ ts G w l k at s own. ap asJudged (sym (stops (fields G [] (k .fields)) (λ _. heads G k [] (k .methods)) (own-fields w k at s) is));
   }
 
-  pub members-next : {classes u : ℕ} → f ≡ Fine u → {methods p : ℕ} {after : List ℕ} {r : Judged} → methods ≡ wordAt tab 5 class
+  pub members-next : {classes u : ℕ} → f ≡ Fine u → {methods p : ℕ} {after : List ℕ} {r : Judged} → methods ≡ wordAt tab cMethods class
       → Above tab class p
       → HeadsJudged tab n classes n p (stamp + 1) methods mid after r → MembersJudged tab n classes stamp class after r
   members-next is {methods} {p} {after} {r} e₅ up h′ = record {
     below = h′ .below (stamp + 2) (omega arith) (below-more (omega arith) (fields-below new h));
     says = λ ts G w l k at s own.
         h′ .says ts G w l k (record { own = own; above = up .says n ts (w .tokens) k at s }) [] (k .methods)
-        (record { here = sym (class-word (w .tokens) k at s 5 e₅ (s .second)); stand = s .methods; few = s .few-methods; marked = none-marked (fields-below new h) })
+        (record { here = sym (class-word (w .tokens) k at s cMethods e₅ (s .second)); stand = s .methods; few = s .few-methods; marked = none-marked (fields-below new h) })
         ∙ ap asJudged (sym (goes-on (fields G [] (k .fields)) (λ _. heads G k [] (k .methods)) (own-fields w k at s) is));
   }
 
@@ -211,7 +211,7 @@ module _ {tab : List ℕ} {n classes left row : ℕ} where
             ∙ stops (fields G [] (k .fields) >>= λ _. heads G k [] (k .methods)) (λ _. declarations G ks)
             (h .says ts G w l k (a .here) (first-class (w .tokens) a .stands) own) is))
 
-    pub declarations-next : (left ≡ 0 → ⊥) → {u : ℕ} → o ≡ Fine u → {next : ℕ} {r : Judged} → next ≡ wordAt tab 6 row
+    pub declarations-next : (left ≡ 0 → ⊥) → {u : ℕ} → o ≡ Fine u → {next : ℕ} {r : Judged} → next ≡ wordAt tab cNext row
         → DeclarationsJudged tab n classes (left - 1) next r → DeclarationsJudged tab n classes left row r
     declarations-next more is {next} {r} e₆ h′ = record { says = λ ts G w l ks a own. go ts G w l ks a own }
       where

@@ -7,7 +7,7 @@ use mathlib.Core.List.{List, [], _∷_, _++_, map, map-append, append-assoc, app
 use mathlib.Core.Bool.{Bool, true, false, _||_}
 use lib.ListN.{length, length-append, length-map}
 use Rattle.base.specs.Bytes.{same}
-use Rattle.base.specs.contracts.Table.{col}
+use Rattle.base.specs.contracts.Table.{col, cStart, cNumber, cNext, cType}
 use Rattle.lexer.specs.Tokens.{Token}
 use Rattle.parser.specs.Tree.{Ty, Ty.plain, Ty.arrayOf, Variable, Method}
 use Rattle.parser.specs.contracts.Layout.{absent, rowVariables, rowMethods, headOf}
@@ -56,19 +56,19 @@ type-there ts i (arrayOf t) m = element-there ts i t (m .0)
 -- what the words of a row tell of the variable, or the method's head, that is declared there
 pub record DeclaredAt (tab : List ℕ) (ts : List Token) (v : Variable) (row : ℕ) : Type 0 where
   pub matches : VariableMatches ts v
-  pub type : wordAt tab 3 row ≡ v .type .row
-  pub type-start : wordAt tab 1 (v .type .row) ≡ v .type .start
-  pub number : NameNumber ts (v .name .text) (wordAt tab 2 row)
-  pub start : wordAt tab 1 row ≡ v .name .start
+  pub type : wordAt tab cType row ≡ v .type .row
+  pub type-start : wordAt tab cStart (v .type .row) ≡ v .type .start
+  pub number : NameNumber ts (v .name .text) (wordAt tab cNumber row)
+  pub start : wordAt tab cStart row ≡ v .name .start
 
 module _ {tab : List ℕ} {n : ℕ} {ts : List Token} (lx : Lexemes tab n ts) where
-  declared-at : (v : Variable) {row : ℕ} → v .name .row ≡ row → VariableMatches ts v → col tab 3 (v .name .row) ≡ v .type .row
+  declared-at : (v : Variable) {row : ℕ} → v .name .row ≡ row → VariableMatches ts v → col tab cType (v .name .row) ≡ v .type .row
       → DeclaredAt tab ts v row
   declared-at v {row} at m c₃ =
       let there = m .name .token .there in
       subst (DeclaredAt tab ts v) at (record {
         matches = m;
-        type = word-in tab 3 (v .name .row) (row-there lx (v .name .row) there) c₃;
+        type = word-in tab cType (v .name .row) (row-there lx (v .name .row) there) c₃;
         type-start = start-word lx (v .type .row) (type-there ts (v .type .row) (v .type .type) (m .type)) ∙ m .start;
         number = name-word lx (v .name .row) (m .name .token);
         start = start-word lx (v .name .row) there ∙ m .name .start;
@@ -116,7 +116,7 @@ module _ {tab : List ℕ} {n : ℕ} {ts : List Token} (lx : Lexemes tab n ts) {f
       h .says ts (map textOf us) (subst (λ (i : ℕ). Names tab ts i (map textOf us)) (a .begins) (variable-names lx us (v ∷ vs) (a .stand)))
       (length-map us textOf ∙ a .before) text sp
 
-  pub variable-step : {next : ℕ} → next ≡ wordAt tab 6 row → Along tab ts (us ++ v ∷ []) vs first (index + 1) next
+  pub variable-step : {next : ℕ} → next ≡ wordAt tab cNext row → Along tab ts (us ++ v ∷ []) vs first (index + 1) next
   variable-step {next} e₆ = go (variables-from us (v ∷ vs) (a .stand))
     where
       go : VariablesHeld tab ts (v ∷ vs) → Along tab ts (us ++ v ∷ []) vs first (index + 1) next
@@ -124,7 +124,7 @@ module _ {tab : List ℕ} {n : ℕ} {ts : List Token} (lx : Lexemes tab n ts) {f
         stand = subst (VariablesHeld tab ts) (sym (append-assoc us (v ∷ []) vs)) (a .stand);
         begins = ap rowVariables (append-assoc us (v ∷ []) vs) ∙ a .begins;
         before = length-append us (v ∷ []) ∙ ap (λ (i : ℕ). i + 1) (a .before);
-        here = sym (word-in tab 6 (v .name .row) (row-there lx (v .name .row) (m .name .token .there)) c₆) ∙ ap (wordAt tab 6) (a .here) ∙ sym e₆;
+        here = sym (word-in tab cNext (v .name .row) (row-there lx (v .name .row) (m .name .token .there)) c₆) ∙ ap (wordAt tab cNext) (a .here) ∙ sym e₆;
       }
 
 -- THE FIRST OF A LIST
@@ -133,7 +133,7 @@ module _ {tab : List ℕ} {n : ℕ} {ts : List Token} (lx : Lexemes tab n ts) {f
 pub record First (tab : List ℕ) (ts : List Token) (v : Variable) (vs : List Variable) (row : ℕ) : Type 0 where
   pub near : row < absent
   pub declared : DeclaredAt tab ts v row
-  pub next : wordAt tab 6 row ≡ rowVariables vs
+  pub next : wordAt tab cNext row ≡ rowVariables vs
   pub rest : VariablesHeld tab ts vs
 
 pub first-of : {tab : List ℕ} {n : ℕ} {ts : List Token} → Lexemes tab n ts → {v : Variable} {vs : List Variable} {row : ℕ}
@@ -141,13 +141,13 @@ pub first-of : {tab : List ℕ} {n : ℕ} {ts : List Token} → Lexemes tab n ts
     → First tab ts v vs row
 first-of {tab} lx {v} {vs} at (more-variables m c₃ c₆ s) =
     let there = row-there lx (v .name .row) (m .name .token .there) in
-    record { near = omega (arith, at, there); declared = declared-at lx v at m c₃; next = ap (wordAt tab 6) (sym at) ∙ word-in tab 6 (v .name .row) there c₆; rest = s }
+    record { near = omega (arith, at, there); declared = declared-at lx v at m c₃; next = ap (wordAt tab cNext) (sym at) ∙ word-in tab cNext (v .name .row) there c₆; rest = s }
 
 -- and the method
 pub record FirstMethod (tab : List ℕ) (n : ℕ) (ts : List Token) (m : Method) (ms : List Method) (row : ℕ) : Type 0 where
   pub near : row < absent
   pub stands : MethodHeld tab n ts m
-  pub next : wordAt tab 6 row ≡ rowMethods ms
+  pub next : wordAt tab cNext row ≡ rowMethods ms
   pub rest : MethodsHeld tab n ts ms
 
 pub first-method : {tab : List ℕ} {n : ℕ} {ts : List Token} → Lexemes tab n ts → {m : Method} {ms : List Method} {row : ℕ}
@@ -155,7 +155,7 @@ pub first-method : {tab : List ℕ} {n : ℕ} {ts : List Token} → Lexemes tab 
     → FirstMethod tab n ts m ms row
 first-method {tab} lx {m} {ms} at (more-methods h c₆ s) =
     let there = row-there lx (m .name .row) (h .head .name .token .there) in
-    record { near = omega (arith, at, there); stands = h; next = ap (wordAt tab 6) (sym at) ∙ word-in tab 6 (m .name .row) there c₆; rest = s }
+    record { near = omega (arith, at, there); stands = h; next = ap (wordAt tab cNext) (sym at) ∙ word-in tab cNext (m .name .row) there c₆; rest = s }
 
 pub method-declared : {tab : List ℕ} {n : ℕ} {ts : List Token} → Lexemes tab n ts → (m : Method) {row : ℕ} → m .name .row ≡ row
     → MethodHeld tab n ts m

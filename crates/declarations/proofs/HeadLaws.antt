@@ -13,6 +13,7 @@ use Rattle.base.specs.Codes.{badRedeclaration, methodRepeated, typeUnknown}
 use Rattle.base.specs.Choice.{option}
 use Rattle.base.specs.Outcome.{Outcome, accepted, refused, _>>=_}
 use Rattle.base.specs.laws.Tests.{apart}
+use Rattle.base.specs.contracts.Table.{cStart, cNumber, cNext, cType, cParameters}
 use Rattle.lexer.specs.Tokens.{Token}
 use Rattle.parser.specs.Tree.{Variable, Method, Class}
 use Rattle.parser.specs.contracts.Layout.{absent, rowVariables, rowMethods}
@@ -38,7 +39,7 @@ use Rattle.declarations.proofs.VariableLaws.{declared-known, type-place
 
 -- the number of the type of the variable of a row
 type-code : {tab : List ℕ} {n : ℕ} {ts : List Token} → Lexemes tab n ts → {v : Variable} {row t p : ℕ} → DeclaredAt tab ts v row
-    → t ≡ wordAt tab 3 row → TypeOf tab n t p
+    → t ≡ wordAt tab cType row → TypeOf tab n t p
     → Codes ts (v .type .type) p
 type-code {ts = ts} lx {v} d e₃ h = h .says ts lx (v .type .row) (sym (d .type) ∙ sym e₃) (v .type .type) (d .matches .type)
 
@@ -68,7 +69,7 @@ module _ {tab : List ℕ} {n left a b : ℕ} where
         go ts lx (v ∷ vs) [] d f r = refl
         go ts lx (v ∷ vs) (w ∷ ws) d f r = absurd (omega (arith, first-of lx f r .near))
 
-    module _ (near′ : b < absent) {t p u q : ℕ} (e₃ : t ≡ wordAt tab 3 a) (h : TypeOf tab n t p) (e₃′ : u ≡ wordAt tab 3 b) (h′ : TypeOf tab n u q) where
+    module _ (near′ : b < absent) {t p u q : ℕ} (e₃ : t ≡ wordAt tab cType a) (h : TypeOf tab n t p) (e₃′ : u ≡ wordAt tab cType b) (h′ : TypeOf tab n u q) where
       pub types-differ : (p ≡ q → ⊥) → TypesCompared tab n left a b false
       unfolding sameTypes
       types-differ other = record { says = λ ts lx vs ws d s f r few few′. go ts lx vs ws d s f r }
@@ -83,7 +84,7 @@ module _ {tab : List ℕ} {n left a b : ℕ} where
               let c′ = type-code lx (first-of lx f r .declared) e₃′ h′ in
               rw (other-codes lx c c′ other)
 
-      pub types-next : p ≡ q → {next next′ : ℕ} {o : Bool} → next ≡ wordAt tab 6 a → next′ ≡ wordAt tab 6 b
+      pub types-next : p ≡ q → {next next′ : ℕ} {o : Bool} → next ≡ wordAt tab cNext a → next′ ≡ wordAt tab cNext b
           → TypesCompared tab n (left - 1) next next′ o
           → TypesCompared tab n left a b o
       unfolding sameTypes
@@ -104,12 +105,12 @@ module _ {tab : List ℕ} {n left a b : ℕ} where
 
 -- where a method's parameters begin
 parameters-word : {tab : List ℕ} {n : ℕ} {ts : List Token} → Lexemes tab n ts → (m : Method) {row w : ℕ} → m .name .row ≡ row
-    → MethodHeld tab n ts m → w ≡ wordAt tab 4 row
+    → MethodHeld tab n ts m → w ≡ wordAt tab cParameters row
     → rowVariables (m .parameters) ≡ w
 parameters-word {tab} lx m at s e₄ =
-    sym (word-in tab 4 (m .name .row) (row-there lx (m .name .row) (s .head .name .token .there)) (s .first)) ∙ ap (wordAt tab 4) at ∙ sym e₄
+    sym (word-in tab cParameters (m .name .row) (row-there lx (m .name .row) (s .head .name .token .there)) (s .first)) ∙ ap (wordAt tab cParameters) at ∙ sym e₄
 
-module _ {tab : List ℕ} {n lower upper v w : ℕ} (e₄ : v ≡ wordAt tab 4 lower) (e₄′ : w ≡ wordAt tab 4 upper) {b : Bool} (h : TypesCompared tab n n v w b) where
+module _ {tab : List ℕ} {n lower upper v w : ℕ} (e₄ : v ≡ wordAt tab cParameters lower) (e₄′ : w ≡ wordAt tab cParameters upper) {b : Bool} (h : TypesCompared tab n n v w b) where
   same-parameters : {ts : List Token} → Lexemes tab n ts → (l u : Method) → l .name .row ≡ lower → MethodHeld tab n ts l
       → u .name .row ≡ upper → MethodHeld tab n ts u
       → sameTypes (l .parameters) (u .parameters) ≡ b
@@ -120,7 +121,7 @@ module _ {tab : List ℕ} {n lower upper v w : ℕ} (e₄ : v ≡ wordAt tab 4 l
   pub redeclares-not : {classes : ℕ} → b ≡ false → RedeclaresAt tab n classes lower upper false
   redeclares-not is = record { says = λ ts G world k l u at s at′ s′. rw (same-parameters (world .tokens) l u at s at′ s′ ∙ is) }
 
-  pub redeclares-fits : {classes : ℕ} → b ≡ true → {p s q t : ℕ} → p ≡ wordAt tab 3 lower → TypeOf tab n p s → q ≡ wordAt tab 3 upper
+  pub redeclares-fits : {classes : ℕ} → b ≡ true → {p s q t : ℕ} → p ≡ wordAt tab cType lower → TypeOf tab n p s → q ≡ wordAt tab cType upper
       → TypeOf tab n q t → {r : Bool} → Fits tab n classes s t r
       → RedeclaresAt tab n classes lower upper r
   redeclares-fits {classes} is e₃ f e₃′ f′ {r} k = record { says = λ ts G world c l u at s at′ s′. go ts G world c l u at s at′ s′ }
@@ -154,7 +155,7 @@ module _ {tab : List ℕ} {n classes parent row : ℕ} where
       go [] k m l own = absurd (none-some refl own)
       go (j ∷ G) k m l own = absurd (omega arith)
 
-  module _ (more : classes ≡ 0 → ⊥) {x u : ℕ} (e₂ : x ≡ wordAt tab 2 row) (h : FindsMethod tab n (classes - 1) parent x u) where
+  module _ (more : classes ≡ 0 → ⊥) {x u : ℕ} (e₂ : x ≡ wordAt tab cNumber row) (h : FindsMethod tab n (classes - 1) parent x u) where
     -- the method that is found, and the answer by it
     found-above : {ts : List Token} {G : List Class} → ClassTableHeld tab n ts G → length G ≡ classes → (k : Class)
         → Parented ts G k parent → (m : Method) → m .name .row ≡ row
@@ -190,8 +191,8 @@ module _ {tab : List ℕ} {n classes parent row : ℕ} where
 
 -- ONE HEAD
 
-module _ {tab : List ℕ} {n stamp row t : ℕ} {before : List ℕ} (e₃ : t ≡ wordAt tab 3 row) {b : Bool} (k : KnownAt tab n t b) where
-  pub opening-unknown : b ≡ false → {p : ℕ} → p ≡ wordAt tab 1 t → OpeningJudged tab n stamp row before before (Refused typeUnknown p)
+module _ {tab : List ℕ} {n stamp row t : ℕ} {before : List ℕ} (e₃ : t ≡ wordAt tab cType row) {b : Bool} (k : KnownAt tab n t b) where
+  pub opening-unknown : b ≡ false → {p : ℕ} → p ≡ wordAt tab cStart t → OpeningJudged tab n stamp row before before (Refused typeUnknown p)
   unfolding judgedHead
   opening-unknown is {p} e₁ = record { below = λ bound high b. b; says = go; marks = λ e. apart (cc) }
     where
@@ -202,13 +203,13 @@ module _ {tab : List ℕ} {n stamp row t : ℕ} {before : List ℕ} (e₃ : t �
           let d = method-declared (w .tokens) m (a .here) (a .stand) in
           rw (declared-known k e₃ w d ∙ is) (ap (Refused typeUnknown) (type-place e₃ e₁ d))
 
-  module _ (is : b ≡ true) {x : ℕ} (e₂ : x ≡ wordAt tab 2 row) {after : List ℕ} {c : Bool} (h : MarkPost x stamp before after c) where
+  module _ (is : b ≡ true) {x : ℕ} (e₂ : x ≡ wordAt tab cNumber row) {after : List ℕ} {c : Bool} (h : MarkPost x stamp before after c) where
     -- the number of the method's name
     number : {ts : List Token} → Lexemes tab n ts → {earlier : List (List ℕ)} (m : Method) → MethodAt tab n ts before stamp earlier m row
         → NameNumber ts (methodName m) x
     number {ts} lx m a = subst (NameNumber ts (methodName m)) (sym e₂) (method-declared lx m (a .here) (a .stand) .number)
 
-    pub opening-repeated : c ≡ true → {p : ℕ} → p ≡ wordAt tab 1 row → OpeningJudged tab n stamp row before after (Refused methodRepeated p)
+    pub opening-repeated : c ≡ true → {p : ℕ} → p ≡ wordAt tab cStart row → OpeningJudged tab n stamp row before after (Refused methodRepeated p)
     unfolding judgedHead
     opening-repeated again {p} e₁ = record { below = h .below; says = go; marks = λ e. apart (cc) }
       where
@@ -230,7 +231,7 @@ module _ {tab : List ℕ} {n stamp row t : ℕ} {before : List ℕ} (e₃ : t �
             let d = method-declared (w .tokens) m (a .here) (a .stand) in
             rw (declared-known k e₃ w d ∙ is, marked-is (w .tokens) h (number (w .tokens) m a) (a .marked) ∙ new)
 
-module _ {tab : List ℕ} {n row first : ℕ} {v : Judged} (e₄ : first ≡ wordAt tab 4 row) (h : VariablesJudged tab n n 2048 0 first 0 first v) where
+module _ {tab : List ℕ} {n row first : ℕ} {v : Judged} (e₄ : first ≡ wordAt tab cParameters row) (h : VariablesJudged tab n n absent 0 first 0 first v) where
   own-parameters : {ts : List Token} {G : List Class} → ClassTableHeld tab n ts G → (m : Method) → m .name .row ≡ row
       → MethodHeld tab n ts m → v ≡ asJudged (variables G [] (m .parameters))
   own-parameters {ts} {G} w m at s =
@@ -254,7 +255,7 @@ module _ {tab : List ℕ} {n row first : ℕ} {v : Judged} (e₄ : first ≡ wor
     rest-fine well =
         record { says = λ ts G w l k p m at s. ap asJudged (sym (closed-by w l k p m at s ∙ ap (λ (a : Bool). redeclared a m) well)) }
 
-    pub rest-bad : b ≡ false → {p : ℕ} → p ≡ wordAt tab 1 row → RestJudged tab n classes parent row (Refused badRedeclaration p)
+    pub rest-bad : b ≡ false → {p : ℕ} → p ≡ wordAt tab cStart row → RestJudged tab n classes parent row (Refused badRedeclaration p)
     rest-bad ill e₁ = record {
       says = λ ts G w l k p m at s.
           ap (Refused badRedeclaration) (e₁ ∙ method-declared (w .tokens) m at s .start) ∙ ap asJudged (sym (closed-by w l k p m at s ∙ ap (λ (a : Bool). redeclared a m) ill));
@@ -301,7 +302,7 @@ head-of lx a = record { here = a .here; stand = first-method lx (a .here) (a .st
 -- the methods after it
 heads-rest : {tab : List ℕ} {n : ℕ} {ts : List Token} → Lexemes tab n ts
     → {before mid : List ℕ} {stamp left row next : ℕ} {earlier : List (List ℕ)} {m : Method} {ms : List Method}
-    → MethodsAt tab n ts before stamp earlier (m ∷ ms) left row → next ≡ wordAt tab 6 row → Marked ts mid stamp (methodName m ∷ earlier)
+    → MethodsAt tab n ts before stamp earlier (m ∷ ms) left row → next ≡ wordAt tab cNext row → Marked ts mid stamp (methodName m ∷ earlier)
     → MethodsAt tab n ts mid stamp (methodName m ∷ earlier) ms (left - 1) next
 heads-rest lx a e₆ marked =
     let f = first-method lx (a .here) (a .stand) in
@@ -333,7 +334,7 @@ module _ {tab : List ℕ} {n classes left parent stamp row : ℕ} {before : List
             ap asJudged (sym (heads-more G k earlier m ms
             ∙ stops (judgedHead G earlier m >>= λ _. closed G k m) (λ _. heads G k (methodName m ∷ earlier) ms) (h .says ts G w l k q earlier m (head-of (w .tokens) a)) is))
 
-    pub heads-next : {u : ℕ} → o ≡ Fine u → {next : ℕ} {after : List ℕ} {r : Judged} → next ≡ wordAt tab 6 row
+    pub heads-next : {u : ℕ} → o ≡ Fine u → {next : ℕ} {after : List ℕ} {r : Judged} → next ≡ wordAt tab cNext row
         → HeadsJudged tab n classes (left - 1) parent stamp next mid after r
         → HeadsJudged tab n classes left parent stamp row before after r
     heads-next {u} is {next} {after} {r} e₆ h′ = record { below = λ bound high b. h′ .below bound high (h .below bound high b); says = go }

@@ -13,6 +13,7 @@ use lib.Dec.{leb}
 use borrow.Author.Tests.{le-leb, lt-leb, leb-true, leb-false}
 use Rattle.base.specs.Codes.{chainEndless}
 use Rattle.base.specs.Choice.{option}
+use Rattle.base.specs.contracts.Table.{cStart, cNumber, cNext, cClass}
 use Rattle.lexer.specs.Tokens.{Token}
 use Rattle.parser.specs.Tree.{Name, Class}
 use Rattle.parser.specs.contracts.Layout.{absent, rowClasses}
@@ -67,7 +68,7 @@ record Parent (ts : List Token) (G : List Class) (name : List ℕ) (p : ℕ) : T
   spelt : NameNumber ts text p
   ends : (left : ℕ) → endsWithin (suc left) G name ≡ endsWithin left G text
 
-module _ {tab : List ℕ} {c class : ℕ} (index : class ≡ wordAt tab 7 c) where
+module _ {tab : List ℕ} {c class : ℕ} (index : class ≡ wordAt tab cClass c) where
   unknown-height : absent ≤ class → Height tab c 1
   unfolding endsWithin
   unknown-height far = record { says = λ n ts G w name h. one (λ (i : ℕ). endsWithin i G name) refl (go n ts G name (class-at w (some name) c class (a-name h) index)) }
@@ -145,7 +146,7 @@ module _ {tab heights : List ℕ} (right : HeightsRight tab heights) {left c : �
     says = λ n ts G w name sp. right .says c (λ e. omega (arith, e)) .says n ts G w name sp left ∙ lt-leb (getD heights c 0) left high;
   })
 
-  module _ (some-left : left ≡ 0 → ⊥) {class : ℕ} (index : class ≡ wordAt tab 7 c) where
+  module _ (some-left : left ≡ 0 → ⊥) {class : ℕ} (index : class ≡ wordAt tab cClass c) where
     only : Height tab c 1 → HeightClimbed tab left c heights 1
     only tall = record { most = omega arith; right = right; height = λ n. tall; higher = λ e. absurd (omega (arith, e)) }
 
@@ -155,7 +156,7 @@ module _ {tab heights : List ℕ} (right : HeightsRight tab heights) {left c : �
     pub height-top : class < absent → {p : ℕ} → Above tab class p → absent ≤ p → HeightClimbed tab left c heights 1
     height-top near a far = only (top-height index near a far)
 
-module _ {tab : List ℕ} {left c class p : ℕ} (some-left : left ≡ 0 → ⊥) (index : class ≡ wordAt tab 7 c) (near : class < absent) (a : Above tab class p) (low : p < absent)
+module _ {tab : List ℕ} {left c class p : ℕ} (some-left : left ≡ 0 → ⊥) (index : class ≡ wordAt tab cClass c) (near : class < absent) (a : Above tab class p) (low : p < absent)
     {heights : List ℕ} {q : ℕ} (h : HeightClimbed tab (left - 1) p heights q) where
   pub height-endless : q ≡ 0 → HeightClimbed tab left c heights 0
   height-endless e = stopped (h .right) (next-higher index near a low some-left (h .higher e))
@@ -170,14 +171,14 @@ module _ {tab : List ℕ} {left c class p : ℕ} (some-left : left ≡ 0 → ⊥
 
 -- the place of a class's name, and its number
 class-place : {tab : List ℕ} {n : ℕ} {ts : List Token} → Lexemes tab n ts → (k : Class) {row p : ℕ} → k .name .row ≡ row
-    → ClassHeld tab n ts k → p ≡ wordAt tab 1 row → p ≡ k .name .start
-class-place {tab} lx k at s e₁ = e₁ ∙ ap (wordAt tab 1) (sym at) ∙ start-word lx (k .name .row) (s .named .token .there) ∙ s .named .start
+    → ClassHeld tab n ts k → p ≡ wordAt tab cStart row → p ≡ k .name .start
+class-place {tab} lx k at s e₁ = e₁ ∙ ap (wordAt tab cStart) (sym at) ∙ start-word lx (k .name .row) (s .named .token .there) ∙ s .named .start
 
 class-number : {tab : List ℕ} {n : ℕ} {ts : List Token} → Lexemes tab n ts → (k : Class) {row x : ℕ} → k .name .row ≡ row
-    → ClassHeld tab n ts k → x ≡ wordAt tab 2 row
+    → ClassHeld tab n ts k → x ≡ wordAt tab cNumber row
     → NameNumber ts (k .name .text) x
 class-number {tab} {ts = ts} lx k at s e₂ =
-    subst (NameNumber ts (k .name .text)) (ap (wordAt tab 2) at ∙ sym e₂) (name-word lx (k .name .row) (s .named .token))
+    subst (NameNumber ts (k .name .text)) (ap (wordAt tab cNumber) at ∙ sym e₂) (name-word lx (k .name .row) (s .named .token))
 
 module _ {tab : List ℕ} {classes left row : ℕ} where
   pub chains-none-left : row < absent → left ≡ 0 → {number p : ℕ} → ChainsJudged tab classes left row (Refused number p)
@@ -192,8 +193,8 @@ module _ {tab : List ℕ} {classes left row : ℕ} where
       go n ts G w [] a = refl
       go n ts G w (k ∷ ks) a = absurd (omega (arith, first-class (w .tokens) a .near))
 
-  module _ (near : row < absent) {x : ℕ} (e₂ : x ≡ wordAt tab 2 row) {heights : List ℕ} {h : ℕ} (up : HeightClimbed tab classes x heights h) where
-    pub chains-endless : h ≡ 0 → {p : ℕ} → p ≡ wordAt tab 1 row → ChainsJudged tab classes left row (Refused chainEndless p)
+  module _ (near : row < absent) {x : ℕ} (e₂ : x ≡ wordAt tab cNumber row) {heights : List ℕ} {h : ℕ} (up : HeightClimbed tab classes x heights h) where
+    pub chains-endless : h ≡ 0 → {p : ℕ} → p ≡ wordAt tab cStart row → ChainsJudged tab classes left row (Refused chainEndless p)
     unfolding endingChains
     chains-endless is {p} e₁ = record { says = λ n ts G w l ks a. go n ts G w l ks a }
       where
@@ -206,7 +207,7 @@ module _ {tab : List ℕ} {classes left row : ℕ} where
             let e = ap (λ (i : ℕ). endsWithin i G (k .name .text)) l ∙ up .higher is .says n ts G w (k .name .text) (class-number (w .tokens) k (a .here) s e₂) in
             rw e (ap (Refused chainEndless) (class-place (w .tokens) k (a .here) s e₁))
 
-    pub chains-next : (left ≡ 0 → ⊥) → (h ≡ 0 → ⊥) → {next : ℕ} {r : Judged} → next ≡ wordAt tab 6 row
+    pub chains-next : (left ≡ 0 → ⊥) → (h ≡ 0 → ⊥) → {next : ℕ} {r : Judged} → next ≡ wordAt tab cNext row
         → ChainsJudged tab classes (left - 1) next r → ChainsJudged tab classes left row r
     unfolding endingChains
     chains-next some-left is {next} {r} e₆ h′ = record { says = λ n ts G w l ks a. go n ts G w l ks a }

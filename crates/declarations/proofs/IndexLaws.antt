@@ -1,4 +1,4 @@
--- What making the index returns meets the contracts. Clearing and entering write only to column 7 of rows that are no `if` token's, so
+-- What making the index returns meets the contracts. Clearing and entering write only to `cClass` of rows that are no `if` token's, so
 -- the tokens and the tree stay; names have one number just where they are equal, so a name is in the index just where a class of that
 -- name was entered.
 use Prim.Native.Nat.{ℕ, zero, suc, _+_, _-_, _*_, _≤_, _<_}
@@ -11,13 +11,13 @@ use mathlib.Core.Option.{Option, none, some}
 use lib.ListN.{length, getD, set}
 use lib.Dec.{eqb}
 use borrow.Author.Tests.{eqb-true, eqb-false, eq-eqb, ne-eqb, lt-ltb, le-ltb}
-use Rattle.base.specs.Codes.{classRepeated}
+use Rattle.base.specs.Codes.{classRepeated, tableLeast}
 use Rattle.base.specs.Bytes.{same}
 use Rattle.base.specs.Choice.{if_then_else_, option}
 use Rattle.base.specs.All.{all-nil, all-cons}
 use Rattle.base.specs.laws.Lists.{all-append, get-below, get-getD, getD-get}
 use Rattle.base.specs.Outcome.{accepted, refused}
-use Rattle.base.specs.contracts.Table.{rows, col, put, length-put, col-put-same, col-put-other, put-columns}
+use Rattle.base.specs.contracts.Table.{rows, col, put, length-put, col-put-same, col-put-other, put-columns, cKind, cStart, cNumber, cNext, cThird, cClass, cell}
 use Rattle.lexer.specs.Kinds.{kIf, isName}
 use Rattle.lexer.specs.Tokens.{Token}
 use Rattle.lexer.specs.contracts.Rows.{firstNamed}
@@ -59,11 +59,11 @@ kept-then : {ts : List Token} {a b c : List ℕ} → ColumnsKept ts a b → Colu
 kept-then p q =
     record { columns = λ k h i hi. q .columns k h i hi ∙ p .columns k h i hi; thirds = λ i hi e. q .thirds i hi e ∙ p .thirds i hi e }
 
-kept-put : (ts : List Token) (tab : List ℕ) (j v : ℕ) → j < rows → (kindAt ts j ≡ kIf → ⊥) → ColumnsKept ts tab (put tab 7 j v)
+kept-put : (ts : List Token) (tab : List ℕ) (j v : ℕ) → j < rows → (kindAt ts j ≡ kIf → ⊥) → ColumnsKept ts tab (put tab cClass j v)
 kept-put ts tab j v hj n =
     record {
-      columns = λ k h. put-columns tab k 7 j v (omega arith) hj;
-      thirds = λ i hi e. col-put-other tab 7 i 7 j hi hj (λ _ z. n (rw z at e)) v;
+      columns = λ k h. put-columns tab k cClass j v (omega arith) hj;
+      thirds = λ i hi e. col-put-other tab cThird i cClass j hi hj (λ _ z. n (rw z at e)) v;
     }
 
 kept-tree : {ts : List Token} {tab tab′ : List ℕ} → ColumnsKept ts tab tab′ → SameTree ts tab tab′
@@ -78,11 +78,11 @@ kept-lexemes {ts = ts} p lx =
           let o = lx .rows i t g in
           let hi = row-there lx i (get-below ts i g) in
           record {
-            kind = p .columns 0 (omega arith) i hi ∙ o .kind;
-            start = p .columns 1 (omega arith) i hi ∙ o .start;
-            name = λ e. p .columns 2 (omega arith) i hi ∙ o .name e;
-            literal = λ e. p .columns 2 (omega arith) i hi ∙ o .literal e;
-            fixed = λ e. p .columns 2 (omega arith) i hi ∙ o .fixed e;
+            kind = p .columns cKind (omega arith) i hi ∙ o .kind;
+            start = p .columns cStart (omega arith) i hi ∙ o .start;
+            name = λ e. p .columns cNumber (omega arith) i hi ∙ o .name e;
+            literal = λ e. p .columns cNumber (omega arith) i hi ∙ o .literal e;
+            fixed = λ e. p .columns cNumber (omega arith) i hi ∙ o .fixed e;
           };
     }
 
@@ -90,7 +90,7 @@ kept-named : {n : ℕ} {ts : List Token} {tab tab′ : List ℕ} → Lexemes tab
     → ClassesNamed tab ts ks → ClassesNamed tab′ ts ks
 kept-named lx p none-named = none-named
 kept-named lx p (more-named {k = k} m c₆ h) =
-    more-named m (p .columns 6 (omega arith) (k .name .row) (row-there lx (k .name .row) (m .token .there)) ∙ c₆) (kept-named lx p h)
+    more-named m (p .columns cNext (omega arith) (k .name .row) (row-there lx (k .name .row) (m .token .there)) ∙ c₆) (kept-named lx p h)
 
 -- the number of a name is the row of a name
 name-no-if : {ts : List Token} {c : List ℕ} {number : ℕ} → NameNumber ts c number → kindAt ts number ≡ kIf → ⊥
@@ -103,22 +103,22 @@ name-no-if {ts} {c} {number} s e =
 
 -- CLEARING
 
-kind-read : (tab : List ℕ) (i : ℕ) → col tab 0 i ≡ getD tab i 0
+kind-read : (tab : List ℕ) (i : ℕ) → col tab cKind i ≡ getD tab i 0
 unfolding col
-kind-read tab i = let z : 2048 * 0 + i ≡ i = omega arith in ap (λ (j : ℕ). getD tab j 0) z
+kind-read tab i = let z : cell cKind i ≡ i = omega arith in ap (λ (j : ℕ). getD tab j 0) z
 
-pub wipe-not : (tab : List ℕ) (row : ℕ) → getD tab row 0 ≡ 10 → tab ≡ wiped tab row
+pub wipe-not : (tab : List ℕ) (row : ℕ) → getD tab row 0 ≡ kIf → tab ≡ wiped tab row
 unfolding wiped
-wipe-not tab row h = rw (eq-eqb (col tab 0 row) 10 (kind-read tab row ∙ h))
+wipe-not tab row h = rw (eq-eqb (col tab cKind row) kIf (kind-read tab row ∙ h))
 
-pub wipe-row : (tab : List ℕ) (row : ℕ) → (getD tab row 0 ≡ 10 → ⊥) → set tab (14336 + row) 2048 ≡ wiped tab row
+pub wipe-row : (tab : List ℕ) (row : ℕ) → (getD tab row 0 ≡ kIf → ⊥) → set tab (cell cClass row) absent ≡ wiped tab row
 unfolding wiped put
-wipe-row tab row h = rw (ne-eqb (col tab 0 row) 10 (λ z. h (sym (kind-read tab row) ∙ z)))
+wipe-row tab row h = rw (ne-eqb (col tab cKind row) kIf (λ z. h (sym (kind-read tab row) ∙ z)))
 
 length-wiped : (tab : List ℕ) (i : ℕ) → length (wiped tab i) ≡ length tab
 unfolding wiped
 length-wiped tab i =
-    by-test (λ (t : List ℕ). length t ≡ length tab) (eqb (col tab 0 i) kIf) _ _ (λ _. refl) (λ _. length-put tab 7 i absent)
+    by-test (λ (t : List ℕ). length t ≡ length tab) (eqb (col tab cKind i) kIf) _ _ (λ _. refl) (λ _. length-put tab cClass i absent)
 
 -- after i turns the first i rows are cleared
 pub record Clearing (before : List ℕ) (n : ℕ) (tab : List ℕ) (i : ℕ) : Type 0 where
@@ -150,15 +150,15 @@ length-cleared zero tab = refl
 length-cleared (suc i) tab = length-wiped (cleared i tab) i ∙ length-cleared i tab
 
 module _ {n : ℕ} {ts : List Token} where
-  -- the kind of a token stands in column 0
-  kind-word : {tab : List ℕ} → Lexemes tab n ts → (i : ℕ) → i < n → col tab 0 i ≡ kindAt ts i
+  -- the kind of a token stands in `cKind`
+  kind-word : {tab : List ℕ} → Lexemes tab n ts → (i : ℕ) → i < n → col tab cKind i ≡ kindAt ts i
   kind-word lx i h = lx .rows i (tokenAt ts i) (get-getD ts i noMore (omega (arith, h, lx .count))) .kind
 
   kept-wiped : {tab : List ℕ} → Lexemes tab n ts → (i : ℕ) → i < n → ColumnsKept ts tab (wiped tab i)
   unfolding wiped
   kept-wiped {tab} lx i h =
-      by-test (ColumnsKept ts tab) (eqb (col tab 0 i) kIf) _ _ (λ _. kept-same)
-      (λ f. kept-put ts tab i absent (omega (arith, h, lx .few)) (λ z. eqb-false (col tab 0 i) kIf f (kind-word lx i h ∙ z)))
+      by-test (ColumnsKept ts tab) (eqb (col tab cKind i) kIf) _ _ (λ _. kept-same)
+      (λ f. kept-put ts tab i absent (omega (arith, h, lx .few)) (λ z. eqb-false (col tab cKind i) kIf f (kind-word lx i h ∙ z)))
 
   module _ {tab : List ℕ} (lx : Lexemes tab n ts) where
     pub kept-cleared : (i : ℕ) → i ≤ n → ColumnsKept ts tab (cleared i tab)
@@ -169,7 +169,7 @@ module _ {n : ℕ} {ts : List Token} where
         kept-then p (kept-wiped (kept-lexemes p lx) i (omega arith))
 
     -- no class is in the cleared index
-    empty : 16384 ≤ length tab → (j : ℕ) → j ≤ n → (i : ℕ) → i < j → (kindAt ts i ≡ kIf → ⊥) → col (cleared j tab) 7 i ≡ absent
+    empty : tableLeast ≤ length tab → (j : ℕ) → j ≤ n → (i : ℕ) → i < j → (kindAt ts i ≡ kIf → ⊥) → col (cleared j tab) cClass i ≡ absent
     unfolding cleared wiped
     empty big zero h i l no-if = absurd (omega arith)
     empty big (suc j) h i l no-if =
@@ -177,22 +177,22 @@ module _ {n : ℕ} {ts : List Token} where
         let few = lx .few in
         let kind = kind-word (kept-lexemes (kept-cleared j (omega arith)) lx) j (omega arith) in
         elim (ℕ-discrete i j) [
-          | yes e ↦ by-test (λ (u : List ℕ). col u 7 i ≡ absent) (eqb (col t 0 j) kIf) _ _
-              (λ f. absurd (no-if (ap (kindAt ts) e ∙ sym kind ∙ eqb-true (col t 0 j) kIf f)))
-              (λ f. ap (col (put t 7 j absent) 7) e ∙ col-put-same t 7 j absent (omega (arith, length-cleared j tab, big)))
+          | yes e ↦ by-test (λ (u : List ℕ). col u cClass i ≡ absent) (eqb (col t cKind j) kIf) _ _
+              (λ f. absurd (no-if (ap (kindAt ts) e ∙ sym kind ∙ eqb-true (col t cKind j) kIf f)))
+              (λ f. ap (col (put t cClass j absent) cClass) e ∙ col-put-same t cClass j absent (omega (arith, length-cleared j tab, big)))
           | no e ↦
               let before = empty big j (omega arith) i (omega arith) no-if in
-              by-test (λ (u : List ℕ). col u 7 i ≡ absent) (eqb (col t 0 j) kIf) _ _ (λ f. before)
-              (λ f. col-put-other t 7 i 7 j (omega arith) (omega arith) (λ _ z. e z) absent ∙ before)
+              by-test (λ (u : List ℕ). col u cClass i ≡ absent) (eqb (col t cKind j) kIf) _ _ (λ f. before)
+              (λ f. col-put-other t cClass i cClass j (omega arith) (omega arith) (λ _ z. e z) absent ∙ before)
         ]
 
-    pub index-cleared : 16384 ≤ length tab → Indexed (cleared n tab) ts []
+    pub index-cleared : tableLeast ≤ length tab → Indexed (cleared n tab) ts []
     unfolding classNamed
     index-cleared big c number s = empty big n (omega arith) number (omega (arith, s .there, lx .count)) (name-no-if s)
 
 -- ENTERING
 
-pub enter-row : (tab : List ℕ) (row class : ℕ) → row < absent → set tab (14336 + row) class ≡ indexed tab row class
+pub enter-row : (tab : List ℕ) (row class : ℕ) → row < absent → set tab (cell cClass row) class ≡ indexed tab row class
 unfolding indexed put
 enter-row tab row class h = rw (lt-ltb row absent h)
 
@@ -229,9 +229,9 @@ last-none none = refl
 last-none (some k) = refl
 
 -- the index with one more class, of a new name
-index-more : {tab : List ℕ} {n : ℕ} {ts : List Token} → Lexemes tab n ts → 16384 ≤ length tab → (js : List Class) → Indexed tab ts js
+index-more : {tab : List ℕ} {n : ℕ} {ts : List Token} → Lexemes tab n ts → tableLeast ≤ length tab → (js : List Class) → Indexed tab ts js
     → (k : Class) (x : ℕ) → NameNumber ts (className k) x
-    → classNamed js (className k) ≡ none → Indexed (put tab 7 x (k .name .row)) ts (js ++ k ∷ [])
+    → classNamed js (className k) ≡ none → Indexed (put tab cClass x (k .name .row)) ts (js ++ k ∷ [])
 index-more {tab} {ts = ts} lx big js h k x sp new c number s =
     let hx = row-there lx x (sp .there) in
     let hn = row-there lx number (s .there) in
@@ -239,13 +239,13 @@ index-more {tab} {ts = ts} lx big js h k x sp new c number s =
       | yes e ↦
           let name : className k ≡ c = one-name sp s (sym e) in
           let last : classNamed (js ++ k ∷ []) (className k) ≡ some k = named-last js k (className k) ∙ rw (new, same-refl (className k)) in
-          ap (col (put tab 7 x (k .name .row)) 7) e
-          ∙ col-put-same tab 7 x (k .name .row) (omega arith)
+          ap (col (put tab cClass x (k .name .row)) cClass) e
+          ∙ col-put-same tab cClass x (k .name .row) (omega arith)
           ∙ ap rowClass (sym last)
           ∙ ap (λ (d : List ℕ). rowClass (classNamed (js ++ k ∷ []) d)) name
       | no e ↦
           let others : classNamed (js ++ k ∷ []) c ≡ classNamed js c = named-last js k c ∙ rw (other-names sp s (λ z. e (sym z))) (last-none (classNamed js c)) in
-          col-put-other tab 7 number 7 x hn hx (λ _ z. e z) (k .name .row) ∙ h c number s ∙ ap rowClass (sym others)
+          col-put-other tab cClass number cClass x hn hx (λ _ z. e z) (k .name .row) ∙ h c number s ∙ ap rowClass (sym others)
     ]
 
 -- what the index tells of a name
@@ -273,14 +273,14 @@ module _ {tab : List ℕ} {main left row : ℕ} where
 
 -- the class of a row: its name's number, and where it stands
 class-spells : {tab : List ℕ} {n : ℕ} {ts : List Token} → Lexemes tab n ts → (k : Class) {row x : ℕ} → k .name .row ≡ row
-    → NameMatches ts (k .name) → x ≡ wordAt tab 2 row
+    → NameMatches ts (k .name) → x ≡ wordAt tab cNumber row
     → NameNumber ts (className k) x
 class-spells {tab} {ts = ts} lx k at m e₂ =
-    subst (NameNumber ts (className k)) (ap (wordAt tab 2) at ∙ sym e₂) (name-word lx (k .name .row) (m .token))
+    subst (NameNumber ts (className k)) (ap (wordAt tab cNumber) at ∙ sym e₂) (name-word lx (k .name .row) (m .token))
 
 class-start : {tab : List ℕ} {n : ℕ} {ts : List Token} → Lexemes tab n ts → (k : Class) {row p : ℕ} → k .name .row ≡ row
-    → NameMatches ts (k .name) → p ≡ wordAt tab 1 row → p ≡ k .name .start
-class-start {tab} lx k at m e₁ = e₁ ∙ ap (wordAt tab 1) (sym at) ∙ start-word lx (k .name .row) (m .token .there) ∙ m .start
+    → NameMatches ts (k .name) → p ≡ wordAt tab cStart row → p ≡ k .name .start
+class-start {tab} lx k at m e₁ = e₁ ∙ ap (wordAt tab cStart) (sym at) ∙ start-word lx (k .name .row) (m .token .there) ∙ m .start
 
 -- a refusal of the first class
 refused-first : (earlier : List (List ℕ)) (k : Class) (ks : List Class) {p : ℕ} → occurs (className k) earlier ≡ true → p ≡ k .name .start
@@ -305,9 +305,9 @@ earlier-occurs top c js =
     ∙ ap (λ (b : Bool). b || occurs c (map className js)) (or-false (same top c))
     ∙ ap (λ (b : Bool). same top c || b) (named-occurs js c)
 
-module _ {tab : List ℕ} {main left row x p : ℕ} (near : row < absent) (e₂ : x ≡ wordAt tab 2 row) where
+module _ {tab : List ℕ} {main left row x p : ℕ} (near : row < absent) (e₂ : x ≡ wordAt tab cNumber row) where
   -- refused where the name of the class of the row occurs earlier
-  repeats : p ≡ wordAt tab 1 row
+  repeats : p ≡ wordAt tab cStart row
       → ((n : ℕ) (ts : List Token) → Lexemes tab n ts → (top : List ℕ) → NameNumber ts top main → (js : List Class) → Shown tab ts js → (c : List ℕ) → NameNumber ts c x
       → occurs c (onto (top ∷ []) (map className js)) ≡ true)
       → EntriesMade main left row tab (Refused classRepeated p) tab
@@ -323,18 +323,18 @@ module _ {tab : List ℕ} {main left row x p : ℕ} (near : row < absent) (e₂ 
           let w = refused-first (onto (top ∷ []) (map className js)) k ks o (class-start lx k d m e₁) in
           (w .0, λ z. absurd (refused-accepted (sym (w .1) ∙ z)))
 
-  pub entries-main : x ≡ main → p ≡ wordAt tab 1 row → EntriesMade main left row tab (Refused classRepeated p) tab
+  pub entries-main : x ≡ main → p ≡ wordAt tab cStart row → EntriesMade main left row tab (Refused classRepeated p) tab
   entries-main is e₁ = repeats e₁ λ n ts lx top t js h c sp. earlier-occurs top c js ∙ rw (same-names t sp (sym is))
 
-  pub entries-twice : {y : ℕ} → y ≡ wordAt tab 7 x → y < absent → p ≡ wordAt tab 1 row
+  pub entries-twice : {y : ℕ} → y ≡ wordAt tab cClass x → y < absent → p ≡ wordAt tab cStart row
       → EntriesMade main left row tab (Refused classRepeated p) tab
   entries-twice {y} e₇ low e₁ = repeats e₁ λ n ts lx top t js h c sp.
-      let at : y ≡ rowClass (classNamed js c) = e₇ ∙ word-in tab 7 x (row-there lx x (sp .there)) (h .index c x sp) in
+      let at : y ≡ rowClass (classNamed js c) = e₇ ∙ word-in tab cClass x (row-there lx x (sp .there)) (h .index c x sp) in
       earlier-occurs top c js ∙ ap (λ (b : Bool). same top c || b) (index-some (classNamed js c) at low) ∙ or-true (same top c)
 
-pub entries-next : {tab tab₁ after : List ℕ} {main left row x y next : ℕ} {r : Judged} → 16384 ≤ length tab → (left ≡ 0 → ⊥)
-    → row < absent → x ≡ wordAt tab 2 row → (x ≡ main → ⊥)
-    → y ≡ wordAt tab 7 x → absent ≤ y → tab₁ ≡ indexed tab x row → next ≡ wordAt tab₁ 6 row → EntriesMade main (left - 1) next tab₁ r after
+pub entries-next : {tab tab₁ after : List ℕ} {main left row x y next : ℕ} {r : Judged} → tableLeast ≤ length tab → (left ≡ 0 → ⊥)
+    → row < absent → x ≡ wordAt tab cNumber row → (x ≡ main → ⊥)
+    → y ≡ wordAt tab cClass x → absent ≤ y → tab₁ ≡ indexed tab x row → next ≡ wordAt tab₁ cNext row → EntriesMade main (left - 1) next tab₁ r after
     → EntriesMade main left row tab r after
 unfolding distinctClasses indexed
 entries-next {tab} {tab₁} {after} {main} {left} {row} {x} {y} {next} {r} big more near e₂ other e₇ high e e₆ h′ =
@@ -350,18 +350,18 @@ entries-next {tab} {tab₁} {after} {main} {left} {row} {x} {y} {next} {r} big m
         let c = className k in
         let sp = class-spells lx k d m e₂ in
         let hx = row-there lx x (sp .there) in
-        let none-yet : classNamed js c ≡ none = index-none (classNamed js c) (e₇ ∙ word-in tab 7 x hx (h .index c x sp)) high (λ j z. all-classes c (h .rows) z) in
+        let none-yet : classNamed js c ≡ none = index-none (classNamed js c) (e₇ ∙ word-in tab cClass x hx (h .index c x sp)) high (λ j z. all-classes c (h .rows) z) in
         let new : occurs c (onto (top ∷ []) (map className js)) ≡ false = earlier-occurs top c js ∙ rw (other-names t sp (λ z. other (sym z)), none-yet) in
-        let written : tab₁ ≡ put tab 7 x (k .name .row) = e ∙ rw (lt-ltb x absent hx) (ap (put tab 7 x) (sym d)) in
+        let written : tab₁ ≡ put tab cClass x (k .name .row) = e ∙ rw (lt-ltb x absent hx) (ap (put tab cClass x) (sym d)) in
         let kept : ColumnsKept ts tab tab₁ = subst (ColumnsKept ts tab) (sym written) (kept-put ts tab x (k .name .row) hx (name-no-if sp)) in
         let lx₁ = kept-lexemes kept lx in
         let there = row-there lx (k .name .row) (m .token .there) in
-        let c₆′ : col tab₁ 6 (k .name .row) ≡ rowClasses ks = kept .columns 6 (omega arith) (k .name .row) there ∙ c₆ in
+        let c₆′ : col tab₁ cNext (k .name .row) ≡ rowClasses ks = kept .columns cNext (omega arith) (k .name .row) there ∙ c₆ in
         let shown : Shown tab₁ ts (js ++ k ∷ []) = record {
           index = subst (λ (u : List ℕ). Indexed u ts (js ++ k ∷ [])) (sym written) (index-more lx big js (h .index) k x sp none-yet);
           rows = all-append (h .rows) (all-cons there all-nil);
         } in
-        let w = h′ .says n ts lx₁ top t (js ++ k ∷ []) shown ks (sym (word-in tab₁ 6 (k .name .row) there c₆′) ∙ ap (wordAt tab₁ 6) d ∙ sym e₆) (kept-named lx kept named) (omega arith) in
+        let w = h′ .says n ts lx₁ top t (js ++ k ∷ []) shown ks (sym (word-in tab₁ cNext (k .name .row) there c₆′) ∙ ap (wordAt tab₁ cNext) d ∙ sym e₆) (kept-named lx kept named) (omega arith) in
         let names : onto (top ∷ []) (map className (js ++ k ∷ [])) ≡ c ∷ onto (top ∷ []) (map className js) = onto-next className (top ∷ []) js k in
         rw new (
           w .0 ∙ ap (λ (earlier : List (List ℕ)). asJudged (distinctClasses earlier ks)) names,
@@ -418,7 +418,7 @@ module _ {n : ℕ} {before : List ℕ} (rd : Reading) (f : Filling before rd) (c
         row = facts .row;
       }
 
-  module _ (big : 16384 ≤ length before) {main first : ℕ} (e₂ : main ≡ wordAt (cleared n before) 2 1) (e₆ : first ≡ wordAt (cleared n before) 6 0) where
+  module _ (big : tableLeast ≤ length before) {main first : ℕ} (e₂ : main ≡ wordAt (cleared n before) cNumber 1) (e₆ : first ≡ wordAt (cleared n before) cNext 0) where
     made : {r : Judged} {after : List ℕ} → EntriesMade main n first (cleared n before) r after
         → (r ≡ asJudged (distinctClasses (p .main .text ∷ []) (p .classes))) × (distinctClasses (p .main .text ∷ []) (p .classes) ≡ accepted tt → Ready after n ts p)
     made {r} {after} h =
@@ -427,15 +427,15 @@ module _ {n : ℕ} {before : List ℕ} (rd : Reading) (f : Filling before rd) (c
         let lx = kept-lexemes k lexemes in
         let token : NameIs ts 1 (p .main .text) = subst (λ (i : ℕ). NameIs ts i (p .main .text)) (facts .main) (match .main .token) in
         let w = h .says n ts lx (p .main .text) (subst (NameNumber ts (p .main .text)) (sym e₂) (name-word lx 1 token)) []
-        (record { index = index-cleared lexemes big; rows = all-nil }) (p .classes) (sym (e₆ ∙ word-in tab 6 0 (omega arith) (held-on k .first)))
+        (record { index = index-cleared lexemes big; rows = all-nil }) (p .classes) (sym (e₆ ∙ word-in tab cNext 0 (omega arith) (held-on k .first)))
         (classes-named (p .classes) (match .classes) (held-on k .classes)) (omega (arith, count, facts .few-classes)) in
         (w .0, λ d. let v = w .1 d in ready (kept-then k (v .0)) (v .1) d)
 
-pub index-is : {n main first : ℕ} {before tab after : List ℕ} {r : Judged} → 16384 ≤ length before → tab ≡ cleared n before
-    → main ≡ wordAt tab 2 1 → first ≡ wordAt tab 6 0
+pub index-is : {n main first : ℕ} {before tab after : List ℕ} {r : Judged} → tableLeast ≤ length before → tab ≡ cleared n before
+    → main ≡ wordAt tab cNumber 1 → first ≡ wordAt tab cNext 0
     → EntriesMade main n first tab r after → IndexMade n before r after
 index-is {n} {main} {first} {before} {after = after} {r = r} big e e₂ e₆ h =
     record {
       says = λ rd f count.
-          made rd f count big (e₂ ∙ ap (λ (u : List ℕ). wordAt u 2 1) e) (e₆ ∙ ap (λ (u : List ℕ). wordAt u 6 0) e) (subst (λ (u : List ℕ). EntriesMade main n first u r after) e h);
+          made rd f count big (e₂ ∙ ap (λ (u : List ℕ). wordAt u cNumber 1) e) (e₆ ∙ ap (λ (u : List ℕ). wordAt u cNext 0) e) (subst (λ (u : List ℕ). EntriesMade main n first u r after) e h);
     }

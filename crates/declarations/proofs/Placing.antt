@@ -8,7 +8,7 @@ use lib.ListN.{length}
 use Rattle.lexer.specs.Tokens.{Token}
 use Rattle.parser.specs.Measure.{nodes}
 use Rattle.parser.specs.Tree.{Sort.statement, Variable, Method, Class, Program}
-use Rattle.parser.specs.contracts.Layout.{rowOf}
+use Rattle.parser.specs.contracts.Layout.{rowOf, mainRow}
 use Rattle.parser.specs.Grammar.{DerivesMethod, DerivesMethods, DerivesClass, DerivesClasses, DerivesProgram}
 use Rattle.parser.specs.Grammar.{DerivesMethod.a-method, DerivesMethods.no-method, DerivesMethods.more-methods, DerivesClass.a-class-declaration, DerivesClasses.no-class, DerivesClasses.more-classes, DerivesProgram.a-program}
 use Rattle.reader.specs.laws.Order.{first-row}
@@ -89,8 +89,8 @@ module _ {tab : List ℕ} {n : ℕ} {ts : List Token} where
 -- what a program's derivation tells
 pub record Derived (ts : List Token) (p : Program) : Type 0 where
   pub main : p .main .row ≡ 1
-  pub row : rowOf (p .statement) ≡ 14
-  pub within : Spans 14 (length ts) (p .statement)
+  pub row : rowOf (p .statement) ≡ mainRow
+  pub within : Spans mainRow (length ts) (p .statement)
   pub small : nodes (p .statement) ≤ length ts
   pub few-classes : length (p .classes) ≤ length ts
   pub from : ℕ
@@ -100,7 +100,7 @@ pub derived : {ts : List Token} {p : Program} → DerivesProgram ts p → Derive
 derived {ts} (a-program {j = j} {s = s} _ d _ _ cs) = record {
   main = refl;
   row = first-row d;
-  within = wider s 14 j 14 (length ts) (omega arith) (omega (arith, classes-count cs)) (tree-spans d);
+  within = wider s mainRow j mainRow (length ts) (omega arith) (omega (arith, classes-count cs)) (tree-spans d);
   small = omega (arith, tree-nodes d, classes-count cs);
   few-classes = omega (arith, classes-count cs);
   from = j + 2;

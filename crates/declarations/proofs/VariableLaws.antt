@@ -11,6 +11,7 @@ use lib.Dec.{ltb}
 use borrow.Author.Tests.{lt-ltb, le-ltb}
 use Rattle.base.specs.Codes.{variablesMost, fieldRepeated, tooManyVariables, typeUnknown, variableRepeated}
 use Rattle.base.specs.Outcome.{Outcome, accepted, refused, _>>=_}
+use Rattle.base.specs.contracts.Table.{cStart, cNumber, cNext, cType}
 use Rattle.lexer.specs.Tokens.{Token}
 use Rattle.parser.specs.Tree.{Variable, Class}
 use Rattle.parser.specs.contracts.Layout.{absent, rowVariables}
@@ -34,22 +35,22 @@ pub known-at : {tab : List ℕ} {n row t : ℕ} {r : Bool} → TypeOf tab n row 
 known-at h k = record { says = λ ts G w i at t m. k .says ts G w t (h .says ts (w .tokens) i at t m) }
 
 -- whether the type of the variable of a row is known
-pub declared-known : {tab : List ℕ} {n row t : ℕ} {b : Bool} → KnownAt tab n t b → t ≡ wordAt tab 3 row
+pub declared-known : {tab : List ℕ} {n row t : ℕ} {b : Bool} → KnownAt tab n t b → t ≡ wordAt tab cType row
     → {ts : List Token} {G : List Class} → ClassTableHeld tab n ts G → {v : Variable}
     → DeclaredAt tab ts v row → known G (underlying (v .type .type)) ≡ b
 declared-known k e₃ {ts} {G} w {v} d = sym (k .says ts G w (v .type .row) (sym (d .type) ∙ sym e₃) (v .type .type) (d .matches .type))
 
 -- where the type stands
-pub type-place : {tab : List ℕ} {row t p : ℕ} → t ≡ wordAt tab 3 row → p ≡ wordAt tab 1 t → {ts : List Token} {v : Variable}
+pub type-place : {tab : List ℕ} {row t p : ℕ} → t ≡ wordAt tab cType row → p ≡ wordAt tab cStart t → {ts : List Token} {v : Variable}
     → DeclaredAt tab ts v row → p ≡ v .type .start
-type-place {tab} e₃ e₁ d = e₁ ∙ ap (wordAt tab 1) (e₃ ∙ d .type) ∙ d .type-start
+type-place {tab} e₃ e₁ d = e₁ ∙ ap (wordAt tab cStart) (e₃ ∙ d .type) ∙ d .type-start
 
 -- FIELDS
 
 -- the fields after the first
 fields-rest : {tab : List ℕ} {n : ℕ} {ts : List Token} → Lexemes tab n ts
     → {before mid : List ℕ} {stamp left row next : ℕ} {earlier : List (List ℕ)} {v : Variable} {vs : List Variable}
-    → FieldsAt tab ts before stamp earlier (v ∷ vs) left row → next ≡ wordAt tab 6 row → Marked ts mid stamp (textOf v ∷ earlier)
+    → FieldsAt tab ts before stamp earlier (v ∷ vs) left row → next ≡ wordAt tab cNext row → Marked ts mid stamp (textOf v ∷ earlier)
     → FieldsAt tab ts mid stamp (textOf v ∷ earlier) vs (left - 1) next
 fields-rest lx a e₆ m =
     let f = first-of lx (a .here) (a .stand) in
@@ -80,8 +81,8 @@ module _ {tab : List ℕ} {n left stamp row : ℕ} {before : List ℕ} where
     by-first h ts G w earlier [] a = absurd (omega (arith, a .here))
     by-first h ts G w earlier (v ∷ vs) a = h ts G w earlier v vs a (first-of (w .tokens) (a .here) (a .stand) .declared)
 
-    module _ {t : ℕ} (e₃ : t ≡ wordAt tab 3 row) {b : Bool} (k : KnownAt tab n t b) where
-      pub fields-unknown : b ≡ false → {p : ℕ} → p ≡ wordAt tab 1 t
+    module _ {t : ℕ} (e₃ : t ≡ wordAt tab cType row) {b : Bool} (k : KnownAt tab n t b) where
+      pub fields-unknown : b ≡ false → {p : ℕ} → p ≡ wordAt tab cStart t
           → FieldsJudged tab n left stamp row before before (Refused typeUnknown p)
       unfolding fields
       fields-unknown is e₁ =
@@ -91,8 +92,8 @@ module _ {tab : List ℕ} {n left stamp row : ℕ} {before : List ℕ} where
                 rw (declared-known k e₃ w d ∙ is) (ap (Refused typeUnknown) (type-place e₃ e₁ d));
           }
 
-      module _ (is : b ≡ true) {x : ℕ} (e₂ : x ≡ wordAt tab 2 row) {mid : List ℕ} {c : Bool} (h : MarkPost x stamp before mid c) where
-        pub fields-repeated : c ≡ true → {p : ℕ} → p ≡ wordAt tab 1 row
+      module _ (is : b ≡ true) {x : ℕ} (e₂ : x ≡ wordAt tab cNumber row) {mid : List ℕ} {c : Bool} (h : MarkPost x stamp before mid c) where
+        pub fields-repeated : c ≡ true → {p : ℕ} → p ≡ wordAt tab cStart row
             → FieldsJudged tab n left stamp row before mid (Refused fieldRepeated p)
         unfolding fields
         fields-repeated again e₁ =
@@ -104,7 +105,7 @@ module _ {tab : List ℕ} {n left stamp row : ℕ} {before : List ℕ} where
                   (ap (Refused fieldRepeated) (e₁ ∙ d .start));
             }
 
-        pub fields-next : c ≡ false → {next : ℕ} {after : List ℕ} {r : Judged} → next ≡ wordAt tab 6 row
+        pub fields-next : c ≡ false → {next : ℕ} {after : List ℕ} {r : Judged} → next ≡ wordAt tab cNext row
             → FieldsJudged tab n (left - 1) stamp next mid after r
             → FieldsJudged tab n left stamp row before after r
         unfolding fields
@@ -137,8 +138,8 @@ earlier-many : {tab : List ℕ} {ts : List Token} {others before first index row
 earlier-many {ps = ps} {us = us} l a =
     omega (arith, onto-length (map textOf ps) (map textOf us), length-map ps textOf, length-map us textOf, l .many, a .before)
 
-module _ {tab : List ℕ} {n others before first index row t : ℕ} (e₃ : t ≡ wordAt tab 3 row) {b : Bool} (k : KnownAt tab n t b) where
-  pub variable-unknown : b ≡ false → {p : ℕ} → p ≡ wordAt tab 1 t
+module _ {tab : List ℕ} {n others before first index row t : ℕ} (e₃ : t ≡ wordAt tab cType row) {b : Bool} (k : KnownAt tab n t b) where
+  pub variable-unknown : b ≡ false → {p : ℕ} → p ≡ wordAt tab cStart t
       → VariableJudged tab n others before first index row (Refused typeUnknown p)
   unfolding newVariable
   variable-unknown is e₁ =
@@ -148,10 +149,10 @@ module _ {tab : List ℕ} {n others before first index row t : ℕ} (e₃ : t �
             rw (declared-known k e₃ w d ∙ is) (ap (Refused typeUnknown) (type-place e₃ e₁ d));
       }
 
-  module _ (is : b ≡ true) {x : ℕ} (e₂ : x ≡ wordAt tab 2 row) where
+  module _ (is : b ≡ true) {x : ℕ} (e₂ : x ≡ wordAt tab cNumber row) where
     -- the type is known: the answer is that of the tests of the name
     by-name : (again few : Bool) → OccursEarlier tab n others before first index row x again → ltb (before + index) variablesMost ≡ few
-        → {p : ℕ} → p ≡ wordAt tab 1 row
+        → {p : ℕ} → p ≡ wordAt tab cStart row
         → VariableJudged tab n others before first index row (asJudged (tests again few p (accepted tt)))
     unfolding newVariable
     by-name again few o e e₁ =
@@ -167,7 +168,7 @@ module _ {tab : List ℕ} {n others before first index row t : ℕ} (e₃ : t �
         }
 
     module _ {c : Bool} (h : Repeated tab before others x c) where
-      pub variable-other : c ≡ true → {p : ℕ} → p ≡ wordAt tab 1 row
+      pub variable-other : c ≡ true → {p : ℕ} → p ≡ wordAt tab cStart row
           → VariableJudged tab n others before first index row (Refused variableRepeated p)
       variable-other again e₁ = by-name true _ other refl e₁
         where
@@ -189,7 +190,7 @@ module _ {tab : List ℕ} {n others before first index row t : ℕ} (e₃ : t �
                   );
             }
 
-        pub variable-twice : c′ ≡ true → {p : ℕ} → p ≡ wordAt tab 1 row
+        pub variable-twice : c′ ≡ true → {p : ℕ} → p ≡ wordAt tab cStart row
             → VariableJudged tab n others before first index row (Refused variableRepeated p)
         variable-twice again e₁ = by-name true _ (subst (OccursEarlier tab n others before first index row x) again same-list) refl e₁
 
@@ -197,10 +198,10 @@ module _ {tab : List ℕ} {n others before first index row t : ℕ} (e₃ : t �
           at-last : OccursEarlier tab n others before first index row x false
           at-last = subst (OccursEarlier tab n others before first index row x) fresh same-list
 
-          pub variable-fine : before + index < 32 → VariableJudged tab n others before first index row (Fine 0)
+          pub variable-fine : before + index < variablesMost → VariableJudged tab n others before first index row (Fine 0)
           variable-fine few = by-name false true at-last (lt-ltb (before + index) variablesMost few) refl
 
-          pub variable-many : 32 ≤ before + index → {p : ℕ} → p ≡ wordAt tab 1 row
+          pub variable-many : variablesMost ≤ before + index → {p : ℕ} → p ≡ wordAt tab cStart row
               → VariableJudged tab n others before first index row (Refused tooManyVariables p)
           variable-many many e₁ = by-name false false at-last (le-ltb (before + index) variablesMost many) e₁
 
@@ -245,7 +246,7 @@ module _ {tab : List ℕ} {n left others before first index row : ℕ} where
             let earlier = onto (map textOf ps) (map textOf us) in
             rw (variables-more G earlier v vs, stops (newVariable G earlier v) (λ _. variables G (textOf v ∷ earlier) vs) (h .says ts G w ps l us v vs a) is)
 
-    pub variables-next : {u : ℕ} → o ≡ Fine u → {next : ℕ} {r : Judged} → next ≡ wordAt tab 6 row
+    pub variables-next : {u : ℕ} → o ≡ Fine u → {next : ℕ} {r : Judged} → next ≡ wordAt tab cNext row
         → VariablesJudged tab n (left - 1) others before first (index + 1) next r
         → VariablesJudged tab n left others before first index row r
     variables-next {u} is {next} {r} e₆ h′ = record { says = λ ts G w ps l us vs a few. go ts G w ps l us vs a few }

@@ -2,16 +2,17 @@
 use Prim.Native.Nat.{ℕ, suc, _+_, _-_, _≤_, _<_}
 use native.Mathlib.Omega.{arith}
 use mathlib.Core.Bool.{Bool, true, _||_}
-use mathlib.Core.List.{List}
+use mathlib.Core.List.{List, [], _∷_}
 use mathlib.Core.Logic.{_⊎_, inl, inr}
-use mathlib.Core.Path.{_≡_, refl, sym, ap, ap₂, _∙_}
-use lib.ListN.{length, getD, drop, length-drop, drop-of-length-le}
+use mathlib.Core.Path.{_≡_, refl, sym, ap, ap₂, _∙_, subst}
+use lib.ListN.{length, getD, set, drop, length-drop, drop-of-length-le}
 use lib.Seq.{drop-drop, getD-drop}
 use lib.Dec.{leb}
+use Rattle.device.specs.Device as Device
 use Rattle.device.specs.Device.{Device}
 use Rattle.device.specs.laws.Samples.{samples, withTape, samples-past, samples-seen, samples-end}
-use Rattle.device.specs.contracts.Holding.{deviceOf, CaughtUp, Looks, LesserOf}
-use Rattle.device.specs.declared.state.Held.{Held}
+use Rattle.device.specs.contracts.Holding.{Held, heldIn, deviceOf, CaughtUp, Looks, LesserOf}
+use Rattle.device.proofs.StateLaws.{flags, flagged}
 
 pub least-first : {a b : ℕ} → a < b → LesserOf a b a
 least-first h = record { below = omega arith; within = omega (arith, h); one = inl refl }
@@ -19,24 +20,20 @@ least-first h = record { below = omega arith; within = omega (arith, h); one = i
 pub least-second : {a b : ℕ} → b ≤ a → LesserOf a b b
 least-second h = record { below = h; within = omega arith; one = inr refl }
 
--- as the code makes it where no sample was on the tape
-abbrev pub unread : Held → (due : ℕ) → Held
-unread d due = record { arrived = d .arrived; lost = d .lost; mask = d .mask; reading = d .reading; others = d .others; taken = due }
-
--- and where one was
-abbrev pub read : Held → (due : ℕ) (lost : Bool) (reading : ℕ) → Held
-read d due l b = record { arrived = true; lost = l; mask = d .mask; reading = b; others = d .others; taken = due }
+-- the strip with a reading, which arrived
+abbrev pub reading : List ℕ → (lost : Bool) (byte : ℕ) → List ℕ
+reading s l b = set (set s 0 (flags true l)) 2 b
 
 module _ (t : List ℕ) (d : Held) (due last : ℕ) (h : d .taken ≤ due) (w : LesserOf due (length t) last) where
   -- the device with other tape bytes to come, after so many samples
   abbrev after : ℕ → List ℕ → Device
   after k r = samples k (withTape r (deviceOf t d))
 
-  none-read : {r : Held} → last ≤ d .taken → r ≡ unread d due → CaughtUp t due d r
+  none-read : last ≤ d .taken → CaughtUp t due d (heldIn (d .strip) due)
   unfolding samples
-  none-read {r} l q = record { taken = ap (λ (x : Held). x .taken) q; is = ap (λ (x : Held). deviceOf t x) q ∙ go (w .one) }
+  none-read l = record { taken = refl; is = go (w .one) }
     where
-      go : (last ≡ due) ⊎ (last ≡ length t) → deviceOf t (unread d due) ≡ samples (due - d .taken) (deviceOf t d)
+      go : (last ≡ due) ⊎ (last ≡ length t) → deviceOf t (heldIn (d .strip) due) ≡ samples (due - d .taken) (deviceOf t d)
       go (inl e) =
           let q : due ≡ d .taken = omega (arith, e, l, h) in
           let z : 0 ≡ due - d .taken = omega (arith, q) in
@@ -46,8 +43,18 @@ module _ (t : List ℕ) (d : Held) (due last : ℕ) (h : d .taken ≤ due) (w : 
           ∙ sym (samples-past (due - d .taken) (deviceOf t d))
           ∙ ap (λ (r : List ℕ). after (due - d .taken) r) (sym (drop-of-length-le t {i = d .taken} (omega (arith, e, l))))
 
+  -- the device of such a strip
+  read-is : (s : List ℕ) (l : Bool) (b : ℕ) → length s ≡ 16
+      → deviceOf t (heldIn (reading s l b) due)
+      ≡ record { arrived = true; lost = l; mask = getD s 1 0; reading = b; others = drop 3 s; tape = drop due t }
+  read-is [] l b e = absurd (omega (arith, e))
+  read-is (f ∷ []) l b e = absurd (omega (arith, e))
+  read-is (f ∷ m ∷ []) l b e = absurd (omega (arith, e))
+  read-is (f ∷ m ∷ r ∷ o) l b e = flagged (f ∷ m ∷ b ∷ o) true l (omega arith) t due
+
   abbrev read-device : Bool → ℕ → List ℕ → Device
-  read-device x b r = record { arrived = true; lost = x; mask = d .mask; reading = b; others = d .others; tape = r }
+  read-device x b r =
+      record { arrived = true; lost = x; mask = getD (d .strip) 1 0; reading = b; others = drop 3 (d .strip); tape = r }
 
   -- the samples that are due and were on the tape
   module _ (l : d .taken < last) where
@@ -75,29 +82,37 @@ module _ (t : List ℕ) (d : Held) (due last : ℕ) (h : d .taken ≤ due) (w : 
         ∙ drop-of-length-le t {i = d .taken + suc more} (omega (arith, e, l))
         ∙ sym (drop-of-length-le t {i = due} (omega (arith, e, w .below)))
 
-    last-read : {lost : Bool} {b : ℕ} {r : Held} → lost ≡ ((d .lost || d .arrived) || leb 1 more) → b ≡ getD t (last - 1) 0
-        → r ≡ read d due lost b → CaughtUp t due d r
-    last-read {lost} {b} e v q =
+    last-read : {x : Bool} {b : ℕ} → length (d .strip) ≡ 16
+        → x ≡ ((deviceOf t d .lost || deviceOf t d .arrived) || leb 1 more) → b ≡ getD t (last - 1) 0
+        → CaughtUp t due d (heldIn (reading (d .strip) x b) due)
+    last-read {x} {b} n e v =
         record {
-          taken = ap (λ (x : Held). x .taken) q;
+          taken = refl;
           is =
-              ap (λ (x : Held). deviceOf t x) q
+              read-is (d .strip) x b n
               ∙ sym (
               as-many (w .one)
               ∙ samples-seen more rest (deviceOf t d) on-tape
               ∙ ap (λ (x : Bool). read-device x (getD rest more 0) (drop (suc more) rest)) (sym e)
-              ∙ ap₂ (λ (b : ℕ) (r : List ℕ). read-device lost b r)
+              ∙ ap₂ (λ (b : ℕ) (r : List ℕ). read-device x b r)
               (getD-drop (d .taken) t more 0 ∙ ap (λ (k : ℕ). getD t k 0) (omega (arith, l)) ∙ sym v)
               (left-over (w .one))
               );
         }
 
 -- where no sample is due that was taken before
-pub looks-none : {t : List ℕ} {d r : Held} {due last : ℕ} → LesserOf due (length t) last → last ≤ d .taken → r ≡ unread d due
-    → Looks t due d r
-looks-none {t} {d} {r} {due} {last} w l q = record { says = λ h. none-read t d due last h w l q }
+module _ {t s : List ℕ} {taken due last : ℕ} (w : LesserOf due (length t) last) where
+  pub looks-none : last ≤ taken → Looks t due (heldIn s taken) (heldIn s due)
+  looks-none l = record { says = λ h. none-read t (heldIn s taken) due last h w l }
 
-pub looks-last : {t : List ℕ} {d r : Held} {due last b : ℕ} {lost : Bool} → LesserOf due (length t) last → d .taken < last
-    → lost ≡ ((d .lost || d .arrived) || leb 1 (last - d .taken - 1)) → b ≡ getD t (last - 1) 0 → r ≡ read d due lost b
-    → Looks t due d r
-looks-last {t} {d} {r} {due} {last} w l e v q = record { says = λ h. last-read t d due last h w l e v q }
+  pub looks-last : {b : ℕ} {x arrived lost : Bool} {s₁ : List ℕ} → taken < last → length s ≡ 16 → lost ≡ Device.bit 1 (getD s 0 0)
+      → arrived ≡ Device.bit 0 (getD s 0 0) → x ≡ ((lost || arrived) || leb 1 (last - taken - 1)) → b ≡ getD t (last - 1) 0
+      → s₁ ≡ set s 0 (flags true x) → Looks t due (heldIn s taken) (heldIn (set s₁ 2 b) due)
+  looks-last {b} {x} {s₁ = s₁} l n p q e v f =
+      let y : x ≡ ((Device.bit 1 (getD s 0 0) || Device.bit 0 (getD s 0 0)) || leb 1 (last - taken - 1)) =
+      e ∙ ap₂ (λ (l a : Bool). (l || a) || leb 1 (last - taken - 1)) p q in
+      record {
+        says = λ h.
+            subst (λ (r : List ℕ). CaughtUp t due (heldIn s taken) (heldIn (set r 2 b) due)) (sym f)
+            (last-read t (heldIn s taken) due last h w l n y v);
+      }

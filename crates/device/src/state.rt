@@ -1,40 +1,50 @@
-// The device, held by value; samples are looked after only where a lesson looks at the device, and at the end of a run.
+// The device, held in the register strip that a run is lent and in the number of the samples that were due so far. Register 0 has only its
+// flags there: bit 7 is made of them and the mask where the register is got, and at the end of a run. Samples are looked after only where a
+// lesson looks at the device, and at the end of a run.
+use base::fill::zero_bytes;
 ghost use mathlib.Core.Path.{_≡_};
-ghost use Prim.Native.Nat.{_/_, _≤_, _<_};
+ghost use Prim.Native.Nat.{_+_, _/_, _≤_, _<_};
 ghost use mathlib.Core.Bool.{true, _&&_, _||_, not};
 ghost use lib.Dec.{eqb, leb};
 ghost use mathlib.Core.List.{[]};
-ghost use lib.ListN.{getD};
+ghost use lib.ListN.{getD, set, length};
 ghost use Rattle.base.specs.Choice.{if_then_else_};
+ghost use Rattle.base.specs.Codes.{registersCount};
 ghost use Rattle.device.specs.Device as Device;
-ghost use Rattle.device.specs.contracts.Holding.{deviceOf, registersOf, Rests, Becomes, Looks, LesserOf};
+ghost use Rattle.device.specs.contracts.Holding.{heldIn, deviceOf, registersOf, Rests, Alters, Looks, LesserOf};
 
 // How many registers there are.
 pub const REGISTERS: usize = 16;
 
-// Flag bits 0 and 1 of register 0, registers 1 and 2, registers 3 to 15, and how many samples were due so far.
-pub struct Held {
-    pub arrived: bool,
-    pub lost: bool,
-    pub mask: u8,
-    pub reading: u8,
-    pub others: [u8; 13],
-    pub taken: usize,
+// The registers that the device itself sets: the flags, the mask, the last sample.
+const FLAGS: usize = 0;
+
+const MASK: usize = 1;
+
+const READING: usize = 2;
+
+// Every register is 0, as a run begins.
+pub fn reset(strip: &mut [u8])
+    requires { ⌜ length (now strip) ≡ registersCount ⌝ }
+    ensures { λ _. ⌜ Rests (heldIn (now (strip .exit)) 0) ⌝ }
+{
+    zero_bytes(strip);
 }
 
-// The device as a run begins.
-pub fn reset() -> Held
-    ensures { λ r. ⌜ Rests r ⌝ }
+// Whether a sample arrived.
+fn has_arrived(strip: &[u8]) -> bool
+    requires { ⌜ length (now strip) ≡ registersCount ⌝ }
+    ensures { λ r. ⌜ r ≡ Device.bit 0 (getD (now (strip .entry)) 0 0) ⌝ }
 {
-    let others = [0u8; 13];
-    Held {
-        arrived: false,
-        lost: false,
-        mask: 0,
-        reading: 0,
-        others,
-        taken: 0,
-    }
+    strip[FLAGS] % 2 == 1
+}
+
+// Whether one was lost.
+fn has_lost(strip: &[u8]) -> bool
+    requires { ⌜ length (now strip) ≡ registersCount ⌝ }
+    ensures { λ r. ⌜ r ≡ Device.bit 1 (getD (now (strip .entry)) 0 0) ⌝ }
+{
+    strip[FLAGS] / 2 % 2 == 1
 }
 
 // Whether a flag is set and a bit of the mask also.
@@ -48,13 +58,14 @@ fn masked(flag: bool, bit: u8) -> bool
 }
 
 // Bit 7 of register 0.
-fn alarm(d: Held) -> bool
-    ensures { λ r. ⌜ r ≡ Device.alarm (deviceOf [] d) ⌝ }
+fn alarm(strip: &[u8]) -> bool
+    requires { ⌜ length (now strip) ≡ registersCount ⌝ }
+    ensures { λ r. ⌜ r ≡ Device.alarm (deviceOf [] (heldIn (now (strip .entry)) 0)) ⌝ }
 {
-    if masked(d.arrived, d.mask % 2) {
+    if masked(has_arrived(strip), strip[MASK] % 2) {
         return true;
     }
-    masked(d.lost, d.mask / 2 % 2)
+    masked(has_lost(strip), strip[MASK] / 2 % 2)
 }
 
 // What a flag adds to its register.
@@ -68,79 +79,40 @@ fn weighed(flag: bool, weight: u8) -> u8
 }
 
 // Register 0.
-fn status(d: Held) -> u8
-    ensures { λ r. ⌜ r ≡ Device.status (deviceOf [] d) ⌝ }
+fn status(strip: &[u8]) -> u8
+    requires { ⌜ length (now strip) ≡ registersCount ⌝ }
+    ensures { λ r. ⌜ r ≡ Device.status (deviceOf [] (heldIn (now (strip .entry)) 0)) ⌝ }
 {
-    weighed(d.arrived, 1) + weighed(d.lost, 2) + weighed(alarm(d), 128)
+    weighed(has_arrived(strip), 1) + weighed(has_lost(strip), 2) + weighed(alarm(strip), 128)
 }
 
 // What is got from a register.
-pub fn value(d: Held, register: usize) -> u8
-    requires { ⌜ register < 16 ⌝ }
-    ensures { λ r. ⌜ r ≡ getD (registersOf d) register 0 ⌝ }
+pub fn value(strip: &[u8], register: usize) -> u8
+    requires { ⌜ (length (now strip) ≡ registersCount) × (register < registersCount) ⌝ }
+    ensures { λ r. ⌜ r ≡ getD (registersOf (heldIn (now (strip .entry)) 0)) register 0 ⌝ }
 {
-    match register {
-        0 => status(d),
-        1 => d.mask,
-        2 => d.reading,
-        _ => d.others[(register - 3) % 13],
+    if register == FLAGS {
+        return status(strip);
     }
+    strip[register]
 }
 
 // The device with other flags.
-fn with_flags(d: Held, arrived: bool, lost: bool) -> Held
-    ensures { λ r. ⌜ Becomes (Device.withFlags arrived lost) d r ⌝ }
+fn set_flags(strip: &mut [u8], arrived: bool, lost: bool)
+    requires { ⌜ length (now strip) ≡ registersCount ⌝ }
+    ensures { λ _. ⌜ now (strip .exit) ≡ set (now (strip .entry)) 0 (Device.bitValue 0 arrived + Device.bitValue 1 lost) ⌝ }
 {
-    let others = d.others;
-    Held {
-        arrived,
-        lost,
-        mask: d.mask,
-        reading: d.reading,
-        others,
-        taken: d.taken,
-    }
+    strip[FLAGS] = weighed(arrived, 1) + weighed(lost, 2);
 }
 
 // The device after a register is got.
-pub fn get(d: Held, register: usize) -> Held
-    ensures { λ r. ⌜ Becomes (Device.afterGet register) d r ⌝ }
+pub fn get(strip: &mut [u8], register: usize)
+    requires { ⌜ length (now strip) ≡ registersCount ⌝ }
+    ensures { λ _. ⌜ Alters (Device.afterGet register) (now (strip .entry)) (now (strip .exit)) ⌝ }
 {
-    if register == 2 {
-        return with_flags(d, false, d.lost);
-    }
-    d
-}
-
-// The device with another mask.
-fn with_mask(d: Held, mask: u8) -> Held
-    ensures { λ r. ⌜ Becomes (Device.afterPut 1 mask) d r ⌝ }
-{
-    let others = d.others;
-    Held {
-        arrived: d.arrived,
-        lost: d.lost,
-        mask,
-        reading: d.reading,
-        others,
-        taken: d.taken,
-    }
-}
-
-// The device with a byte in one of the registers from 3 on.
-fn with_other(d: Held, register: usize, byte: u8) -> Held
-    requires { ⌜ (3 ≤ register) × (register < 16) ⌝ }
-    ensures { λ r. ⌜ Becomes (Device.afterPut register byte) d r ⌝ }
-{
-    let mut others = d.others;
-    others[(register - 3) % 13] = byte;
-    Held {
-        arrived: d.arrived,
-        lost: d.lost,
-        mask: d.mask,
-        reading: d.reading,
-        others,
-        taken: d.taken,
+    if register == READING {
+        let lost = has_lost(strip);
+        set_flags(strip, false, lost);
     }
 }
 
@@ -154,50 +126,27 @@ fn cleared(flag: bool, bit: u8) -> bool
     flag
 }
 
+// The device after a byte is put to register 0.
+fn clear(strip: &mut [u8], byte: u8)
+    requires { ⌜ length (now strip) ≡ registersCount ⌝ }
+    ensures { λ _. ⌜ Alters (Device.afterPut 0 byte) (now (strip .entry)) (now (strip .exit)) ⌝ }
+{
+    let arrived = cleared(has_arrived(strip), byte % 2);
+    let lost = cleared(has_lost(strip), byte / 2 % 2);
+    set_flags(strip, arrived, lost);
+}
+
 // The device after a byte is put to a register.
-pub fn put(d: Held, register: usize, byte: u8) -> Held
-    requires { ⌜ register < 16 ⌝ }
-    ensures { λ r. ⌜ Becomes (Device.afterPut register byte) d r ⌝ }
+pub fn put(strip: &mut [u8], register: usize, byte: u8)
+    requires { ⌜ (length (now strip) ≡ registersCount) × (register < registersCount) ⌝ }
+    ensures { λ _. ⌜ Alters (Device.afterPut register byte) (now (strip .entry)) (now (strip .exit)) ⌝ }
 {
-    match register {
-        0 => with_flags(
-            d,
-            cleared(d.arrived, byte % 2),
-            cleared(d.lost, byte / 2 % 2),
-        ),
-        1 => with_mask(d, byte),
-        2 => d,
-        _ => with_other(d, register, byte),
+    if register == FLAGS {
+        clear(strip, byte);
+        return;
     }
-}
-
-// The device with so many samples due; none of them was on the tape.
-fn with_none(d: Held, due: usize) -> Held
-    ensures { λ r. ⌜ r ≡ record { arrived = d .arrived; lost = d .lost; mask = d .mask; reading = d .reading; others = d .others; taken = due } ⌝ }
-{
-    let others = d.others;
-    Held {
-        arrived: d.arrived,
-        lost: d.lost,
-        mask: d.mask,
-        reading: d.reading,
-        others,
-        taken: due,
-    }
-}
-
-// The device with so many samples due, of which the last that was on the tape is the reading.
-fn with_reading(d: Held, due: usize, lost: bool, reading: u8) -> Held
-    ensures { λ r. ⌜ r ≡ record { arrived = true; lost = lost; mask = d .mask; reading = reading; others = d .others; taken = due } ⌝ }
-{
-    let others = d.others;
-    Held {
-        arrived: true,
-        lost,
-        mask: d.mask,
-        reading,
-        others,
-        taken: due,
+    if register != READING {
+        strip[register] = byte;
     }
 }
 
@@ -224,24 +173,36 @@ fn loses(lost: bool, arrived: bool, more: usize) -> bool
     1 <= more
 }
 
-// The device after all samples that are due, past the tape's end too.
-fn sampled(tape: &[u8], d: Held, due: usize) -> Held
-    ensures { λ r. ⌜ Looks (now (tape .entry)) due d r ⌝ }
+// Takes the last sample that is due and on the tape, where so many were due before; samples past the tape's end change nothing.
+fn sample(tape: &[u8], strip: &mut [u8], taken: usize, due: usize)
+    requires { ⌜ length (now strip) ≡ registersCount ⌝ }
+    ensures { λ _. ⌜ Looks (now (tape .entry)) due (heldIn (now (strip .entry)) taken) (heldIn (now (strip .exit)) due) ⌝ }
 {
     let last = least(due, tape.len());
-    if last <= d.taken {
-        return with_none(d, due);
+    if taken < last {
+        let lost = loses(has_lost(strip), has_arrived(strip), last - taken - 1);
+        set_flags(strip, true, lost);
+        strip[READING] = tape[last - 1];
     }
-    let lost = loses(d.lost, d.arrived, last - d.taken - 1);
-    with_reading(d, due, lost, tape[last - 1])
 }
 
 // How many steps lie between two samples.
 const PERIOD: usize = 100;
 
-// A look at the device after so many steps.
-pub fn catch_up(tape: &[u8], d: Held, steps: usize) -> Held
-    ensures { λ r. ⌜ Looks (now (tape .entry)) (steps / Device.period) d r ⌝ }
+// A look at the device after so many steps: how many samples were due by then.
+pub fn catch_up(tape: &[u8], strip: &mut [u8], taken: usize, steps: usize) -> usize
+    requires { ⌜ length (now strip) ≡ registersCount ⌝ }
+    ensures { λ r. ⌜ Looks (now (tape .entry)) (steps / Device.period) (heldIn (now (strip .entry)) taken) (heldIn (now (strip .exit)) r) ⌝ }
 {
-    sampled(tape, d, steps / PERIOD)
+    let due = steps / PERIOD;
+    sample(tape, strip, taken, due);
+    due
+}
+
+// The strip at the end of a run: register 0 is completed.
+pub fn show(strip: &mut [u8])
+    requires { ⌜ length (now strip) ≡ registersCount ⌝ }
+    ensures { λ _. ⌜ now (strip .exit) ≡ registersOf (heldIn (now (strip .entry)) 0) ⌝ }
+{
+    strip[FLAGS] = status(strip);
 }

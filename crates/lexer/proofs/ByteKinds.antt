@@ -8,31 +8,37 @@ use lib.Dec.{eqb, leb}
 use borrow.Author.Tests.{leb-true, lt-leb, eq-eqb, ne-eqb, eqb-true, eqb-false, not-false}
 use Rattle.base.specs.Choice.{if_then_else_}
 use Rattle.base.specs.laws.Tests.{and-true, and-false, or-either, or-neither}
-use Rattle.lexer.specs.Bytes.{isBlank, isLetter, isDigit, isNamePart}
-use Rattle.lexer.specs.Kinds.{markKind}
+use Rattle.lexer.specs.Bytes.{bSpace, bTab, bLineFeed, bCarriageReturn, bFormFeed, bCapitalA, bCapitalZ, bSmallA, bSmallZ, bZero}
+use Rattle.lexer.specs.Bytes.{bNine, bUnderscore, bSlash, bAmpersand, isBlank, isLetter, isDigit, isNamePart}
+use Rattle.lexer.specs.Kinds.{markKind, kEnd}
 use Rattle.lexer.specs.ByteKinds.{bLetter, bDigit, bBlank, bMark, bOther, isMark, byteKind}
 use Rattle.lexer.specs.laws.LiteralLaws.{digit-range}
 
 -- ---- a letter, a digit and a blank are different bytes
 
-letter-high : (b : ℕ) → isLetter b ≡ true → 65 ≤ b
+letter-high : (b : ℕ) → isLetter b ≡ true → bCapitalA ≤ b
 unfolding isLetter
-letter-high b e = elim (or-either (leb 65 b && leb b 90) (leb 97 b && leb b 122) e) [
-  | inl q ↦ leb-true 65 b (and-true (leb 65 b) (leb b 90) q .0)
-  | inr q ↦ let h = leb-true 97 b (and-true (leb 97 b) (leb b 122) q .0) in omega arith
+letter-high b e = elim (or-either (leb bCapitalA b && leb b bCapitalZ) (leb bSmallA b && leb b bSmallZ) e) [
+  | inl q ↦ leb-true bCapitalA b (and-true (leb bCapitalA b) (leb b bCapitalZ) q .0)
+  | inr q ↦ let h = leb-true bSmallA b (and-true (leb bSmallA b) (leb b bSmallZ) q .0) in omega arith
 ]
 
-not-digit : (b : ℕ) → 65 ≤ b → isDigit b ≡ false
+not-digit : (b : ℕ) → bCapitalA ≤ b → isDigit b ≡ false
 unfolding isDigit
-not-digit b h = let k : 57 < b = omega arith in rw (lt-leb b 57 k) (and-false (leb 48 b))
+not-digit b h = let k : bNine < b = omega arith in rw (lt-leb b bNine k) (and-false (leb bZero b))
 
-not-blank : (b : ℕ) → 48 ≤ b → isBlank b ≡ false
+not-blank : (b : ℕ) → bZero ≤ b → isBlank b ≡ false
 unfolding isBlank
 not-blank b h =
-    simp
-    (low 32 (omega arith), low 9 (omega arith), low 10 (omega arith), low 13 (omega arith), low 12 (omega arith))
+    simp (
+      low bSpace (omega arith),
+      low bTab (omega arith),
+      low bLineFeed (omega arith),
+      low bCarriageReturn (omega arith),
+      low bFormFeed (omega arith),
+    )
   where
-    low : (n : ℕ) → n < 48 → eqb b n ≡ false
+    low : (n : ℕ) → n < bZero → eqb b n ≡ false
     low n l = ne-eqb b n (λ e. omega arith)
 
 -- ---- the tests by the kind
@@ -92,17 +98,17 @@ module _ (b : ℕ) where
 
   -- ---- of a mark and of no mark
 
-  pub mark-token : isMark b ≡ true → b ≢ 38 → markKind b ≢ 0
+  pub mark-token : isMark b ≡ true → b ≢ bAmpersand → markKind b ≢ kEnd
   unfolding isMark
   mark-token e n z =
-      let q : isMark b ≡ false = rw (ne-eqb b 38 n, eq-eqb (markKind b) 0 z) refl in
+      let q : isMark b ≡ false = rw (ne-eqb b bAmpersand n, eq-eqb (markKind b) kEnd z) refl in
       true≢false (sym e ∙ q)
 
-  pub no-mark : isMark b ≡ false → (b ≢ 38) × (markKind b ≡ 0)
+  pub no-mark : isMark b ≡ false → (b ≢ bAmpersand) × (markKind b ≡ kEnd)
   unfolding isMark
   no-mark e =
-      let q = or-neither (eqb b 38) (not (eqb (markKind b) 0)) e in
-      (eqb-false b 38 (q .0), eqb-true (markKind b) 0 (not-false (eqb (markKind b) 0) (q .1)))
+      let q = or-neither (eqb b bAmpersand) (not (eqb (markKind b) kEnd)) e in
+      (eqb-false b bAmpersand (q .0), eqb-true (markKind b) kEnd (not-false (eqb (markKind b) kEnd) (q .1)))
 
 -- ---- what may stand in a name, where the kind is k
 
@@ -115,11 +121,11 @@ module _ (b : ℕ) {k : ℕ} (e : k ≡ byteKind b) where
   unfolding isNamePart
   name-digit n p = rw (letter-by-kind b, digit-by-kind b, sym e ∙ p)
 
-  pub name-other : k ≢ bLetter → k ≢ bDigit → eqb b 95 ≡ isNamePart b
+  pub name-other : k ≢ bLetter → k ≢ bDigit → eqb b bUnderscore ≡ isNamePart b
   unfolding isNamePart
   name-other n m = rw (letter-by-kind b, digit-by-kind b, ← e, ne-eqb k bLetter n, ne-eqb k bDigit m)
 
 -- the slash is no letter, digit, blank or mark
-pub slash-kind : byteKind 47 ≡ bOther
+pub slash-kind : byteKind bSlash ≡ bOther
 unfolding byteKind isLetter isDigit isBlank isMark markKind
 slash-kind = refl

@@ -11,7 +11,8 @@ use lib.ListN.{length, getElem?, set, length-append}
 use lib.Seq.{getD-set-same, getD-set-other}
 use Rattle.base.specs.Bytes.{same}
 use Rattle.base.specs.laws.Lists.{get-below, get-append-right}
-use Rattle.base.specs.contracts.Table.{col}
+use Rattle.base.specs.contracts.Table.{col, cKind, cNumber, cHead, cLink, rows, cell}
+use Rattle.base.specs.Codes.{tableLeast}
 use Rattle.lexer.specs.Kinds.{isName}
 use Rattle.lexer.specs.Tokens.{Token}
 use Rattle.lexer.specs.contracts.Rows.{firstNamed, RowOf, Rows}
@@ -66,7 +67,7 @@ module _ (s tab : List ℕ) where
   row-below n i e = omega (arith, get-below (tokensOf s tab n) i e, tokens-length n)
 
   -- a name's number is fixed by the rows before its own
-  pub number-kept : (n i : ℕ) → i < n → isName (col tab 0 i) ≡ true
+  pub number-kept : (n i : ℕ) → i < n → isName (col tab cKind i) ≡ true
       → firstNamed (tokensOf s tab n) (textAt s tab i) ≡ firstNamed (tokensOf s tab i) (textAt s tab i)
   number-kept n i h e =
       let p = split n i h in
@@ -99,14 +100,14 @@ module _ {s tab : List ℕ} {n x : ℕ} {t : List ℕ} (h : 0 < x) (c : Sought s
   pub sought-row : Numbered s tab (x - 1)
   sought-row = c .filled .row (x - 1) row-inside
 
-  pub sought-hit : same (textAt s tab (x - 1)) t ≡ true → col tab 2 (x - 1) ≡ firstNamed (tokensOf s tab n) t
+  pub sought-hit : same (textAt s tab (x - 1)) t ≡ true → col tab cNumber (x - 1) ≡ firstNamed (tokensOf s tab n) t
   sought-hit e =
       let m = c .link .named (x - 1) back in
       sought-row .name m
       ∙ sym (number-kept s tab n (x - 1) row-inside m)
       ∙ ap (firstNamed (tokensOf s tab n)) (same-equal (textAt s tab (x - 1)) t e)
 
-  pub sought-next : same (textAt s tab (x - 1)) t ≡ false → Sought s tab n (col tab 6 (x - 1)) t
+  pub sought-next : same (textAt s tab (x - 1)) t ≡ false → Sought s tab n (col tab cLink (x - 1)) t
   sought-next e = record {
     filled = c .filled;
     link = record { below = omega (arith, sought-row .link .below, row-inside); named = sought-row .link .named };
@@ -121,9 +122,9 @@ module _ {s tab : List ℕ} {n x : ℕ} {t : List ℕ} (h : 0 < x) (c : Sought s
       this-row : (j : ℕ) → x ≡ j + 1 → j ≡ x - 1
       this-row j q = omega arith
 
-      on : Reaches s tab n t x → Reaches s tab n t (col tab 6 (x - 1))
+      on : Reaches s tab n t x → Reaches s tab n t (col tab cLink (x - 1))
       on (here j l q u) = absurd (other (ap (textAt s tab) (sym (this-row j q)) ∙ u))
-      on (next j l q r) = subst (λ (k : ℕ). Reaches s tab n t (col tab 6 k)) (this-row j q) r
+      on (next j l q r) = subst (λ (k : ℕ). Reaches s tab n t (col tab cLink k)) (this-row j q) r
 
 pub sought-none : {s tab : List ℕ} {n x : ℕ} {t : List ℕ} → x ≤ 0 → Sought s tab n x t → n ≡ firstNamed (tokensOf s tab n) t
 sought-none {s} {tab} {n} {x} {t} h c = sym (first-none (tokensOf s tab n) t none-has ∙ tokens-length s tab n)
@@ -143,16 +144,16 @@ sought-none {s} {tab} {n} {x} {t} h c = sym (first-none (tokensOf s tab n) t non
 pub no-names-first : {tab : List ℕ} → NoNames tab 0
 no-names-first = record { heads = λ b h. absurd (omega arith) }
 
-pub no-names-next : {tab : List ℕ} {b : ℕ} → 16384 ≤ length tab → b < 2048 → NoNames tab b → NoNames (set tab (10240 + b) 0) (b + 1)
+pub no-names-next : {tab : List ℕ} {b : ℕ} → tableLeast ≤ length tab → b < rows → NoNames tab b → NoNames (set tab (cell cHead b) 0) (b + 1)
 unfolding col
 no-names-next {tab} {b} big l h =
     record {
       heads = λ j near.
           elim (ℕ-discrete j b) [
-            | yes e ↦ rw (e, getD-set-same tab (10240 + b) 0 0 (omega arith)) refl
-            | no n ↦ getD-set-other tab (10240 + b) (2048 * 5 + j) 0 0 (λ z. n (omega arith)) ∙ h .heads j (omega arith)
+            | yes e ↦ rw (e, getD-set-same tab (cell cHead b) 0 0 (omega arith)) refl
+            | no n ↦ getD-set-other tab (cell cHead b) (cell cHead j) 0 0 (λ z. n (omega arith)) ∙ h .heads j (omega arith)
           ];
     }
 
-pub no-names-last : {tab : List ℕ} {b : ℕ} → 2048 ≤ b → NoNames tab b → NoNames tab 2048
+pub no-names-last : {tab : List ℕ} {b : ℕ} → rows ≤ b → NoNames tab b → NoNames tab rows
 no-names-last l h = record { heads = λ j near. h .heads j (omega arith) }

@@ -10,6 +10,7 @@ use lib.ListN.{length, getD, drop, length-drop}
 use lib.Dec.{eqb}
 use borrow.Author.Tests.{eq-eqb, ne-eqb}
 use Rattle.base.specs.Choice.{if_then_else_}
+use Rattle.lexer.specs.Bytes.{bSlash, bStar}
 use Rattle.lexer.specs.Tokens.{closing}
 use Rattle.lexer.specs.contracts.Scan.{delimiterOf, closingOf}
 use Rattle.lexer.specs.declared.scan.Delimiter.{Delimiter}
@@ -30,7 +31,7 @@ after Other d i b r = closing d (i + 1) (b ∷ r)
 
 closing-two : (d i a b : ℕ) (r : List ℕ) → closing d i (a ∷ b ∷ r) ≡ after (delimiterOf a b) d i b r
 unfolding closing
-closing-two d i a b r = go (eqb a 47 && eqb b 42) (eqb a 42 && eqb b 47)
+closing-two d i a b r = go (eqb a bSlash && eqb b bStar) (eqb a bStar && eqb b bSlash)
   where
     go : (x y : Bool)
         → (if x then (λ _. closing (d + 1) (i + 2) r) else λ _.

@@ -13,7 +13,8 @@ use borrow.Author.Tests.{ltb-true, ltb-false, lt-ltb, le-ltb}
 use Rattle.base.specs.Choice.{if_then_else_}
 use Rattle.base.specs.Codes.{literalMost}
 use Rattle.base.specs.laws.Tests.{apart}
-use Rattle.lexer.specs.Bytes.{isDigit}
+use Rattle.base.specs.contracts.Table.{rows}
+use Rattle.lexer.specs.Bytes.{bZero, isDigit}
 use Rattle.lexer.specs.Tokens.{decimal, wholeDigits, fractionDigits, thousandthsOf}
 use Rattle.lexer.specs.laws.ItemLaws.{run-front, run-short}
 use Rattle.lexer.specs.laws.LiteralLaws.{decimal-grows}
@@ -31,7 +32,7 @@ pub record Summed (before : ℕ) (t : List ℕ) (high i : ℕ) : Type 0 where
   pub small : high ≤ literalMost
   pub left : decimal before t ≡ decimal high (drop i t)
 
-module _ {before : ℕ} {t : List ℕ} {high i d : ℕ} (h : i < length t) (e : d ≡ getD t i 0 - 48) (v : Summed before t high i) where
+module _ {before : ℕ} {t : List ℕ} {high i d : ℕ} (h : i < length t) (e : d ≡ getD t i 0 - bZero) (v : Summed before t high i) where
   step : decimal before t ≡ decimal (high * 10 + d) (drop (i + 1) t)
   unfolding decimal
   step = v .left ∙ ap (decimal high) (rest t i h) ∙ ap (λ (n : ℕ). decimal (high * 10 + n) (drop (i + 1) t)) (sym e)
@@ -115,14 +116,14 @@ module _ (t : List ℕ) {w f : List ℕ} (is : w ≡ wholeDigits t) (behind : f 
 -- the bytes before i make h
 pub record Hashed (t : List ℕ) (h i : ℕ) : Type 0 where
   pub within : i ≤ length t
-  pub small : h < 2048
+  pub small : h < rows
   pub left : bucketFrom 0 t ≡ bucketFrom h (drop i t)
 
 module _ {t : List ℕ} {h i : ℕ} where
-  pub hashed-more : i < length t → Hashed t h i → Hashed t ((h * 31 + getD t i 0) % 2048) (i + 1)
+  pub hashed-more : i < length t → Hashed t h i → Hashed t ((h * 31 + getD t i 0) % rows) (i + 1)
   unfolding bucketFrom
   hashed-more l v = record { within = omega arith; small = omega arith; left = v .left ∙ ap (bucketFrom h) (rest t i l) }
 
-  pub hashed-end : length t ≤ i → Hashed t h i → (h ≡ bucketFrom 0 t) × (h < 2048)
+  pub hashed-end : length t ≤ i → Hashed t h i → (h ≡ bucketFrom 0 t) × (h < rows)
   unfolding bucketFrom
   hashed-end l v = (sym (v .left ∙ ap (bucketFrom h) (rest-none t i l)), v .small)

@@ -5,8 +5,9 @@ use mathlib.Core.List.{List, [], _∷_, _++_, append-nil, append-assoc}
 use mathlib.Core.Path.{_≡_, refl, sym, ap, _∙_, subst}
 use lib.ListN.{length, take, drop, length-drop}
 use borrow.Author.Tests.{le-leb, lt-leb}
-use Rattle.base.specs.Codes.{commentNotClosed, noToken}
+use Rattle.base.specs.Codes.{commentNotClosed, noToken, tableLeast}
 use Rattle.base.specs.Outcome.{Outcome, accepted, refused, _>>=_}
+use Rattle.base.specs.contracts.Table.{rows}
 use Rattle.lexer.specs.Tokens.{Token, Item, gap, unclosed, nothing, token, item, turn, tokensFrom, tokens}
 use Rattle.lexer.specs.contracts.Rows.{Lexes}
 use Rattle.base.specs.laws.Tests.{apart}
@@ -82,7 +83,7 @@ pub record Lexing (s tab : List ℕ) (n i : ℕ) : Type 0 where
   pub enough : length s < fuel + i
   pub on : tokens s ≡ onto (tokensOf s tab n) (tokensFrom fuel s n i)
 
-pub lexing-start : (s tab : List ℕ) → 16384 ≤ length tab → NoNames tab 2048 → Lexing s tab 0 0
+pub lexing-start : (s tab : List ℕ) → tableLeast ≤ length tab → NoNames tab rows → Lexing s tab 0 0
 unfolding tokens tokensOf
 lexing-start s tab h e = record {
   chained = record {

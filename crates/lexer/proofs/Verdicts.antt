@@ -53,24 +53,24 @@ module _ (n k : ℕ) (t : List ℕ) where
   by-tests a b c d e f g h l m =
       λ j. verdictBy (a j) (b j) (c j) (d j) (e j) (f j) (g j) (h j) (l j) (m j) (decimal 0 t) (thousandthsOf t)
 
-  pub verdict-many : n ≡ 2048 → Refused tooManyTokens ≡ verdictOf n k t
-  verdict-many e = sym (by-tests (eq-eqb n 2048 e) refl refl refl refl refl refl refl refl refl)
+  pub verdict-many : n ≡ tokensMost → Refused tooManyTokens ≡ verdictOf n k t
+  verdict-many e = sym (by-tests (eq-eqb n tokensMost e) refl refl refl refl refl refl refl refl refl)
 
   -- b is what the test for a name answers
-  module _ {b : Bool} (few : n ≢ 2048) (q : b ≡ isName k) where
-    pub verdict-long : b ≡ true → 255 < length t → Refused nameTooLong ≡ verdictOf n k t
+  module _ {b : Bool} (few : n ≢ tokensMost) (q : b ≡ isName k) where
+    pub verdict-long : b ≡ true → nameMost < length t → Refused nameTooLong ≡ verdictOf n k t
     verdict-long y g =
-        sym (by-tests (ne-eqb n 2048 few) (sym q ∙ y) (lt-ltb 255 (length t) g) refl refl refl refl refl refl refl)
+        sym (by-tests (ne-eqb n tokensMost few) (sym q ∙ y) (lt-ltb nameMost (length t) g) refl refl refl refl refl refl refl)
 
-    pub verdict-name : b ≡ true → length t ≤ 255 → Name ≡ verdictOf n k t
+    pub verdict-name : b ≡ true → length t ≤ nameMost → Name ≡ verdictOf n k t
     unfolding isName
     verdict-name y g =
         let named = sym q ∙ y in
         sym
         (by-tests
-        (ne-eqb n 2048 few)
+        (ne-eqb n tokensMost few)
         named
-        (le-ltb 255 (length t) g)
+        (le-ltb nameMost (length t) g)
         (kinds-apart isName k kLiteral named refl)
         (kinds-apart isName k kFixedLiteral named refl)
         refl
@@ -84,17 +84,17 @@ module _ (n k : ℕ) (t : List ℕ) where
         → verdictOf n k t
         ≡ verdictBy false false (ltb nameMost (length t)) literal fixed zero (ltb literalMost (decimal 0 t)) (startsWithZero (wholeDigits t))
         (eqb (length (fractionDigits t)) 3) (ltb literalMost (thousandthsOf t)) (decimal 0 t) (thousandthsOf t)
-    by-literal y l f z = by-tests (ne-eqb n 2048 few) (sym q ∙ y) refl l f z refl refl refl refl
+    by-literal y l f z = by-tests (ne-eqb n tokensMost few) (sym q ∙ y) refl l f z refl refl refl refl
 
-    pub verdict-zero : {z : Bool} → b ≡ false → k ≡ 4 → z ≡ startsWithZero t → z ≡ true → Refused leadingZero ≡ verdictOf n k t
-    verdict-zero y l p z = sym (by-literal y (eq-eqb k 4 l) refl (sym p ∙ z))
+    pub verdict-zero : {z : Bool} → b ≡ false → k ≡ kLiteral → z ≡ startsWithZero t → z ≡ true → Refused leadingZero ≡ verdictOf n k t
+    verdict-zero y l p z = sym (by-literal y (eq-eqb k kLiteral l) refl (sym p ∙ z))
 
-    pub verdict-literal : {z : Bool} {v : Literal} → b ≡ false → k ≡ 4 → z ≡ startsWithZero t → z ≡ false → v ≡ literalOf (decimal 0 t)
+    pub verdict-literal : {z : Bool} {v : Literal} → b ≡ false → k ≡ kLiteral → z ≡ startsWithZero t → z ≡ false → v ≡ literalOf (decimal 0 t)
         → onLiteral v ≡ verdictOf n k t
     verdict-literal y l p z r =
         ap onLiteral r
         ∙ on (ltb literalMost (decimal 0 t))
-        ∙ sym (by-literal y (eq-eqb k 4 l) (ap (λ (m : ℕ). eqb m kFixedLiteral) l) (sym p ∙ z))
+        ∙ sym (by-literal y (eq-eqb k kLiteral l) (ap (λ (m : ℕ). eqb m kFixedLiteral) l) (sym p ∙ z))
       where
         on : (c : Bool) → onLiteral (if c then (λ _. TooLarge) else λ _. Value (decimal 0 t))
             ≡ verdictBy false false (ltb nameMost (length t)) true false false c (startsWithZero (wholeDigits t))
@@ -102,19 +102,19 @@ module _ (n k : ℕ) (t : List ℕ) where
         on true = refl
         on false = refl
 
-    pub verdict-plain : b ≡ false → k ≢ 4 → k ≢ 44 → Plain 0 ≡ verdictOf n k t
-    verdict-plain y d f = sym (by-literal y (ne-eqb k 4 d) (ne-eqb k 44 f) refl)
+    pub verdict-plain : b ≡ false → k ≢ kLiteral → k ≢ kFixedLiteral → Plain 0 ≡ verdictOf n k t
+    verdict-plain y d f = sym (by-literal y (ne-eqb k kLiteral d) (ne-eqb k kFixedLiteral f) refl)
 
 -- ---- the verdict on a literal of fixed
 
 -- with few tokens their number does not matter
-pub verdict-fixed : (n k : ℕ) (t : List ℕ) {b : Bool} {v : Verdict} → n ≢ 2048 → b ≡ isName k → b ≡ false → k ≡ 44
+pub verdict-fixed : (n k : ℕ) (t : List ℕ) {b : Bool} {v : Verdict} → n ≢ tokensMost → b ≡ isName k → b ≡ false → k ≡ kFixedLiteral
     → v ≡ verdictOf 0 kFixedLiteral t → v ≡ verdictOf n k t
 unfolding isName
 verdict-fixed n k t few q y l e =
     e
     ∙ by-tests 0 kFixedLiteral t refl refl refl refl refl refl refl refl refl refl
-    ∙ sym (by-literal n k t few q y (ap (λ (m : ℕ). eqb m kLiteral) l) (eq-eqb k 44 l) refl)
+    ∙ sym (by-literal n k t few q y (ap (λ (m : ℕ). eqb m kLiteral) l) (eq-eqb k kFixedLiteral l) refl)
 
 -- w is the part before the point
 module _ (t : List ℕ) {w : List ℕ} (is : w ≡ wholeDigits t) where
@@ -155,8 +155,8 @@ Passes n k i t =
 
 abbrev Judged : (n k i : ℕ) → List ℕ → Verdict → Type 0
 Judged n k i t (Refused m) = (next : ℕ → ℕ → Outcome (List Token)) → turn next n i (token k t) ≡ refused m i
-Judged n k i t Name = (n ≢ 2048) × (isName k ≡ true) × Passes n k i t
-Judged n k i t (Plain v) = (n ≢ 2048) × (isName k ≡ false) × (v ≡ numberBeside k t) × Passes n k i t
+Judged n k i t Name = (n ≢ tokensMost) × (isName k ≡ true) × Passes n k i t
+Judged n k i t (Plain v) = (n ≢ tokensMost) × (isName k ≡ false) × (v ≡ numberBeside k t) × Passes n k i t
 
 module _ (n k i : ℕ) (t : List ℕ) where
   -- a turn by the answers of the tests

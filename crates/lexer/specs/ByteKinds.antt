@@ -6,7 +6,7 @@ use mathlib.Core.Bool.{Bool, true, _&&_, _||_, not}
 use mathlib.Core.Path.{_≡_}
 use lib.Dec.{eqb}
 use Rattle.base.specs.Choice.{if_then_else_}
-use Rattle.lexer.specs.Bytes.{isBlank, isLetter, isDigit}
+use Rattle.lexer.specs.Bytes.{bAmpersand, isBlank, isLetter, isDigit}
 use Rattle.lexer.specs.Kinds.{kEnd, markKind}
 
 -- `L`
@@ -31,7 +31,7 @@ bOther = 46
 
 -- one of document 01's "other tokens" begins with it: `&&`, or a token of one byte
 unfoldable pub isMark : ℕ → Bool
-isMark b = eqb b 38 || not (eqb (markKind b) kEnd)
+isMark b = eqb b bAmpersand || not (eqb (markKind b) kEnd)
 
 unfoldable pub byteKind : ℕ → ℕ
 byteKind b =

@@ -12,6 +12,7 @@ use scan::piece_at;
 ghost use mathlib.Core.Path.{_≡_};
 ghost use Prim.Native.Nat.{_≤_, _<_};
 ghost use lib.ListN.{length};
+ghost use Rattle.base.specs.Codes.{tableLeast, sourceMost};
 ghost use Rattle.lexer.specs.Tokens.{tokens};
 ghost use Rattle.lexer.specs.contracts.Rows.{Lexes};
 ghost use Rattle.lexer.specs.contracts.Chains.{Adding, Added};
@@ -57,7 +58,7 @@ fn add(source: &[u8], table: &mut [u32], count: usize, token: Lexeme) -> Stored
 
 // Each turn reads one blank, comment or token. Of the table only the buckets are cleared first: rows are written before they are read.
 pub fn lex(source: &[u8], table: &mut [u32]) -> Lexed
-    requires { ⌜ (16384 ≤ length (now table)) × (length (now source) ≤ 16384) ⌝ }
+    requires { ⌜ (tableLeast ≤ length (now table)) × (length (now source) ≤ sourceMost) ⌝ }
     ensures { λ r. ⌜ (length (now (table .exit)) ≡ length (now (table .entry))) × Lexes (tokens (now (source .entry))) r (now (table .exit)) ⌝ }
 {
     clear_buckets(table);

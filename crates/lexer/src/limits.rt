@@ -6,7 +6,7 @@ ghost use mathlib.Core.Path.{_≡_};
 ghost use Prim.Native.Nat.{_+_, _-_, _≤_};
 ghost use lib.ListN.{length};
 ghost use Rattle.base.specs.Codes.{literalMost};
-ghost use Rattle.lexer.specs.Bytes.{isDigit};
+ghost use Rattle.lexer.specs.Bytes.{bZero, isDigit};
 ghost use Rattle.lexer.specs.Kinds.{kFixedLiteral};
 ghost use Rattle.lexer.specs.Tokens.{decimal, startsWithZero, wholeDigits, thousandthsOf};
 ghost use Rattle.lexer.specs.contracts.Verdicts.{literalOf, verdictOf};
@@ -35,9 +35,9 @@ pub enum Verdict {
 
 // The value of a digit.
 fn digit(b: u8) -> u64
-    ensures { λ r. ⌜ r ≡ b - 48 ⌝ }
+    ensures { λ r. ⌜ r ≡ b - bZero ⌝ }
 {
-    if b < 48 { 0 } else { (b - 48) as u64 }
+    if b < b'0' { 0 } else { (b - b'0') as u64 }
 }
 
 // The value of a run of digits, after those that make `before`. The sum stops as soon as it is too large, since more digits only add to it.

@@ -9,7 +9,8 @@ ghost use mathlib.Core.Bool.{true};
 ghost use Prim.Native.Nat.{_+_, _≤_, _<_};
 ghost use lib.ListN.{length};
 ghost use Rattle.base.specs.Bytes.{same};
-ghost use Rattle.base.specs.contracts.Table.{col};
+ghost use Rattle.base.specs.contracts.Table.{col, cStart, cLength, rows};
+ghost use Rattle.base.specs.Codes.{tableLeast, sourceMost};
 ghost use Rattle.lexer.specs.Kinds.{isName};
 ghost use Rattle.lexer.specs.contracts.Rows.{firstNamed};
 ghost use Rattle.lexer.specs.contracts.Chains.{bucketFrom, NoNames, textAt, tokensOf, tokenRow, storedRow, Sought, Adding, Extended};
@@ -37,7 +38,7 @@ pub struct Lexeme {
 
 // The bucket of a name, by all of its bytes.
 fn bucket(text: &[u8]) -> usize
-    ensures { λ r. ⌜ (r ≡ bucketFrom 0 (now (text .entry))) × (r < 2048) ⌝ }
+    ensures { λ r. ⌜ (r ≡ bucketFrom 0 (now (text .entry))) × (r < rows) ⌝ }
 {
     let mut h: usize = 0;
     let mut i: usize = 0;
@@ -50,8 +51,8 @@ fn bucket(text: &[u8]) -> usize
 
 // No bucket has a name.
 pub fn clear_buckets(table: &mut [u32])
-    requires { ⌜ 16384 ≤ length (now table) ⌝ }
-    ensures { λ _. ⌜ NoNames (now (table .exit)) 2048 ⌝ }
+    requires { ⌜ tableLeast ≤ length (now table) ⌝ }
+    ensures { λ _. ⌜ NoNames (now (table .exit)) rows ⌝ }
 {
     let mut b: usize = 0;
     while b < BUCKETS {
@@ -62,7 +63,7 @@ pub fn clear_buckets(table: &mut [u32])
 
 // Whether the token of a row has these bytes.
 fn has_text(source: &[u8], table: &[u32], row: usize, text: &[u8]) -> bool
-    requires { ⌜ (16384 ≤ length (now table)) × (row < 2048) × (col (now table) 1 row + col (now table) 7 row ≤ length (now source)) ⌝ }
+    requires { ⌜ (tableLeast ≤ length (now table)) × (row < rows) × (col (now table) cStart row + col (now table) cLength row ≤ length (now source)) ⌝ }
     ensures { λ r. ⌜ r ≡ same (textAt (now (source .entry)) (now (table .entry)) row) (now (text .entry)) ⌝ }
 {
     let start = table[STARTS + row] as usize;
@@ -88,7 +89,7 @@ fn lookup(source: &[u8], table: &[u32], count: usize, head: u32, text: &[u8]) ->
 
 // A token becomes row i, with its number and its link.
 pub fn store(table: &mut [u32], i: usize, token: Lexeme, number: u32, link: u32)
-    requires { ⌜ (16384 ≤ length (now table)) × (i < 2048) × (token .start ≤ token .end) × (token .end ≤ 16384) ⌝ }
+    requires { ⌜ (tableLeast ≤ length (now table)) × (i < rows) × (token .start ≤ token .end) × (token .end ≤ sourceMost) ⌝ }
     ensures { λ r. ⌜ now (table .exit) ≡ storedRow (now (table .entry)) i (tokenRow (token .kind) (token .start) (token .end) number link) ⌝ }
 {
     table[i] = token.kind;
@@ -100,7 +101,7 @@ pub fn store(table: &mut [u32], i: usize, token: Lexeme, number: u32, link: u32)
 
 // A name becomes row `count`: the head of its bucket's chain where it is new, and outside the chains where an earlier row has its bytes.
 pub fn store_name(source: &[u8], table: &mut [u32], count: usize, token: Lexeme)
-    requires { ⌜ Adding (now source) (now table) count (token .start) (token .end) × (count < 2048) × (isName (token .kind) ≡ true) ⌝ }
+    requires { ⌜ Adding (now source) (now table) count (token .start) (token .end) × (count < rows) × (isName (token .kind) ≡ true) ⌝ }
     ensures { λ r. ⌜ Extended (now (source .entry)) (now (table .entry)) count (token .kind) (token .start) (token .end) (now (table .exit)) ⌝ }
 {
     let start = token.start;

@@ -9,6 +9,7 @@ use super::words::word_kind;
 ghost use mathlib.Core.Path.{_≡_};
 ghost use Prim.Native.Nat.{_+_, _≤_, _<_};
 ghost use lib.ListN.{length, getD, drop};
+ghost use Rattle.lexer.specs.Bytes.{bSlash};
 ghost use Rattle.lexer.specs.ByteKinds.{RightTable};
 ghost use Rattle.lexer.specs.Tokens.{longestRun, closing, item};
 ghost use Rattle.lexer.specs.contracts.Scan.{member, delimiterOf, closingOf, pieceOf, Letter, Digit, Mark};
@@ -116,7 +117,7 @@ fn comment_end(source: &[u8], at: usize) -> Closing
 
 // At a `/`: a comment or nothing.
 fn slash(source: &[u8], table: &[u8; 256], at: usize) -> Piece
-    requires { ⌜ RightTable (now table) × (at < length (now source)) × (getD (now source) at 0 ≡ 47) ⌝ }
+    requires { ⌜ RightTable (now table) × (at < length (now source)) × (getD (now source) at 0 ≡ bSlash) ⌝ }
     ensures { λ r. ⌜ r ≡ pieceOf at (item at (drop at (now (source .entry)))) ⌝ }
 {
     let next = byte_at(source, at + 1);

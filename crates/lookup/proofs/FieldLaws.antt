@@ -10,6 +10,8 @@ use mathlib.Core.Option.{Option, none, some}
 use lib.ListN.{length, getD, set, length-append, length-set}
 use lib.Seq.{getD-set-same, getD-set-other}
 use Rattle.base.specs.Choice.{option}
+use Rattle.base.specs.Codes.{tokensMost, variablesMost}
+use Rattle.base.specs.contracts.Table.{cNumber, cNext, cType, cFields, cClass}
 use Rattle.lexer.specs.Tokens.{Token}
 use Rattle.parser.specs.Tree.{Variable, Class}
 use Rattle.parser.specs.contracts.Layout.{absent, rowVariables}
@@ -19,23 +21,23 @@ use Rattle.lookup.specs.laws.HeldLaws.{word-in, name-word, row-there, sa
 use Rattle.lookup.specs.laws.ChainLaws.{chain-none-left, chain-none, chain-some}
 use Rattle.lookup.specs.contracts.Lookups.{TypeOf, Many, Counts, Above}
 use Rattle.lookup.specs.laws.VariableLaws.{variables-many}
-use Rattle.lookup.specs.contracts.Fields.{ObjectSize, Tells, no-field, a-field, TellsAt, FieldsHeld, KeptBehind, NoFields, Cleared, OwnHeld, FieldsClimbed, FieldsFilled}
+use Rattle.lookup.specs.contracts.Fields.{ObjectSize, Tells, no-field, a-field, TellsAt, FieldsHeld, KeptBehind, NoFields, Cleared, OwnHeld, FieldsClimbed, FieldsFilled, fieldsLeast, slotsFrom}
 
 -- THE SIZE OF AN OBJECT
 
 -- the row of a class's first field
 first-field : {tab : List ℕ} {n : ℕ} {ts : List Token} → Lexemes tab n ts → (k : Class) → ClassHeld tab n ts k → {class first : ℕ}
     → k .name .row ≡ class
-    → first ≡ wordAt tab 4 class → rowVariables (k .fields) ≡ first
+    → first ≡ wordAt tab cFields class → rowVariables (k .fields) ≡ first
 first-field {tab} lx k s at e₄ =
-    sym (word-in tab 4 (k .name .row) (row-there lx (k .name .row) (s .named .token .there)) (s .first)) ∙ ap (wordAt tab 4) at ∙ sym e₄
+    sym (word-in tab cFields (k .name .row) (row-there lx (k .name .row) (s .named .token .there)) (s .first)) ∙ ap (wordAt tab cFields) at ∙ sym e₄
 
 module _ {tab : List ℕ} {n left c : ℕ} where
   pub size-none-left : left ≡ 0 → ObjectSize tab n left c 0
   unfolding layout
   size-none-left e = record { most = omega arith; says = λ ts G w name h. rw (e, chain-none-left G name) }
 
-  module _ {class : ℕ} (index : class ≡ wordAt tab 7 c) where
+  module _ {class : ℕ} (index : class ≡ wordAt tab cClass c) where
     pub size-top : absent ≤ class → ObjectSize tab n left c 0
     unfolding layout
     size-top far = record { most = omega arith; says = λ ts G w name h. go ts G name (class-at w name c class h index) }
@@ -45,7 +47,7 @@ module _ {tab : List ℕ} {n left c : ℕ} where
         go ts G name (no-class e f) = rw (chain-none left G name e)
         go ts G name (a-class k e at near s sp) = absurd (omega arith)
 
-    pub size-more : (left ≡ 0 → ⊥) → class < absent → n ≤ 2048 → {first own : ℕ} → first ≡ wordAt tab 4 class → Counts tab n first own
+    pub size-more : (left ≡ 0 → ⊥) → class < absent → n ≤ tokensMost → {first own : ℕ} → first ≡ wordAt tab cFields class → Counts tab n first own
         → {p : ℕ} → Above tab class p
         → {r : ℕ} → ObjectSize tab n (left - 1) p r → ObjectSize tab n left c (r + own)
     unfolding layout
@@ -74,7 +76,7 @@ pub record ClearedTo (n : ℕ) (before now : List ℕ) (i : ℕ) : Type 0 where
 pub cleared-none : {n : ℕ} {before : List ℕ} → ClearedTo n before before 0
 cleared-none = record { within = omega arith; long = refl; stays = λ j h. refl; empty = λ x h. absurd (omega arith) }
 
-pub cleared-more : {n : ℕ} {before now : List ℕ} {i : ℕ} → n ≤ 2048 → 4096 ≤ length before → i < n → ClearedTo n before now i
+pub cleared-more : {n : ℕ} {before now : List ℕ} {i : ℕ} → n ≤ tokensMost → fieldsLeast ≤ length before → i < n → ClearedTo n before now i
     → ClearedTo n before (set now i noType) (i + 1)
 cleared-more {n} {before} {now} {i} few large low h =
     record {
@@ -99,14 +101,14 @@ cleared-all ge h = record { stays = h .stays; empty = λ x low. h .empty x (omeg
 tells-next : {ts : List Token} (at : ℕ) (o upper : Option Slot) {t p : ℕ} → Tells ts (option o upper λ s. some (moved (at + 1) s)) t p
     → Tells ts (option (option o none λ s. some (moved 1 s)) upper λ s. some (moved at s)) t p
 tells-next at none upper h = h
-tells-next at (some s) upper {p = p} (a-field c e) = let z : p ≡ 32 + (at + (1 + s .place)) = omega (arith, e) in a-field c z
+tells-next at (some s) upper {p = p} (a-field c e) = let z : p ≡ variablesMost + (at + (1 + s .place)) = omega (arith, e) in a-field c z
 
 -- the name of the field in a row
-own-name : {tab : List ℕ} {n row w : ℕ} → w ≡ wordAt tab 2 row → {ts : List Token} → Lexemes tab n ts
+own-name : {tab : List ℕ} {n row w : ℕ} → w ≡ wordAt tab cNumber row → {ts : List Token} → Lexemes tab n ts
     → {v : Variable} {vs : List Variable} → v .name .row ≡ row
     → VariablesHeld tab ts (v ∷ vs) → NameNumber ts (v .name .text) w
 own-name {tab} word {ts} lx {v} d (more-variables m c₃ c₆ s) =
-    subst (NameNumber ts (v .name .text)) (ap (wordAt tab 2) d ∙ sym word) (name-word lx (v .name .row) (m .name .token))
+    subst (NameNumber ts (v .name .text)) (ap (wordAt tab cNumber) d ∙ sym word) (name-word lx (v .name .row) (m .name .token))
 
 module _ {tab : List ℕ} {n left row at : ℕ} {before : List ℕ} where
   pub own-none-left : left ≡ 0 → OwnHeld tab n left row at before before
@@ -130,22 +132,22 @@ module _ {tab : List ℕ} {n left row at : ℕ} {before : List ℕ} where
       go ts lx (v ∷ vs) d (more-variables m e₃ e₆ s) text x upper h =
           absurd (omega (arith, d, row-there lx (v .name .row) (m .name .token .there)))
 
-  module _ (near : row < absent) {next : ℕ} (e₆ : next ≡ wordAt tab 6 row) {mid : List ℕ} (h : OwnHeld tab n (left - 1) next (at + 1) before mid) {w : ℕ} (word : w ≡ wordAt tab 2 row) where
-    pub own-written : w < absent → 4096 ≤ length before → length mid ≡ length before → {u t : ℕ} → u ≡ wordAt tab 3 row → TypeOf tab n u t
-        → {after : List ℕ} → after ≡ set (set mid w t) (2048 + w) (32 + at) → OwnHeld tab n left row at before after
+  module _ (near : row < absent) {next : ℕ} (e₆ : next ≡ wordAt tab cNext row) {mid : List ℕ} (h : OwnHeld tab n (left - 1) next (at + 1) before mid) {w : ℕ} (word : w ≡ wordAt tab cNumber row) where
+    pub own-written : w < absent → fieldsLeast ≤ length before → length mid ≡ length before → {u t : ℕ} → u ≡ wordAt tab cType row → TypeOf tab n u t
+        → {after : List ℕ} → after ≡ set (set mid w t) (slotsFrom + w) (variablesMost + at) → OwnHeld tab n left row at before after
     unfolding variableNamed
     own-written low large long {u} {t} e₃ typed {after} written = record { stays = λ j le. other-word j (λ z. omega arith) (λ z. omega arith) ∙ h .stays j le; says = go }
       where
         type-here : getD after w 0 ≡ t
         type-here =
-            ap (λ (l : List ℕ). getD l w 0) written ∙ getD-set-other (set mid w t) (2048 + w) w (32 + at) 0 (λ z. omega arith) ∙ getD-set-same mid w t 0 (omega (arith, long))
+            ap (λ (l : List ℕ). getD l w 0) written ∙ getD-set-other (set mid w t) (slotsFrom + w) w (variablesMost + at) 0 (λ z. omega arith) ∙ getD-set-same mid w t 0 (omega (arith, long))
 
-        slot-here : getD after (2048 + w) 0 ≡ 32 + at
-        slot-here = ap (λ (l : List ℕ). getD l (2048 + w) 0) written ∙ getD-set-same (set mid w t) (2048 + w) (32 + at) 0 (omega (arith, long, length-set mid w t))
+        slot-here : getD after (slotsFrom + w) 0 ≡ variablesMost + at
+        slot-here = ap (λ (l : List ℕ). getD l (slotsFrom + w) 0) written ∙ getD-set-same (set mid w t) (slotsFrom + w) (variablesMost + at) 0 (omega (arith, long, length-set mid w t))
 
-        other-word : (j : ℕ) → (j ≡ w → ⊥) → (j ≡ 2048 + w → ⊥) → getD after j 0 ≡ getD mid j 0
+        other-word : (j : ℕ) → (j ≡ w → ⊥) → (j ≡ slotsFrom + w → ⊥) → getD after j 0 ≡ getD mid j 0
         other-word j a b =
-            ap (λ (l : List ℕ). getD l j 0) written ∙ getD-set-other (set mid w t) (2048 + w) j (32 + at) 0 b ∙ getD-set-other mid w j t 0 a
+            ap (λ (l : List ℕ). getD l j 0) written ∙ getD-set-other (set mid w t) (slotsFrom + w) j (variablesMost + at) 0 b ∙ getD-set-other mid w j t 0 a
 
         go : (ts : List Token) → Lexemes tab n ts → (vs : List Variable) → rowVariables vs ≡ row → VariablesHeld tab ts vs
             → length vs ≤ left
@@ -156,16 +158,16 @@ module _ {tab : List ℕ} {n left row at : ℕ} {before : List ℕ} where
             let own = own-name word lx d (more-variables m c₃ c₆ s) in
             elim (ℕ-discrete w x) [
               | yes is ↦
-                  let type : Codes ts (v .type .type) t = typed .says ts lx (v .type .row) (sym (word-in tab 3 (v .name .row) (omega (arith, d, near)) c₃) ∙ ap (wordAt tab 3) d ∙ sym e₃) (v .type .type) (m .type) in
+                  let type : Codes ts (v .type .type) t = typed .says ts lx (v .type .row) (sym (word-in tab cType (v .name .row) (omega (arith, d, near)) c₃) ∙ ap (wordAt tab cType) d ∙ sym e₃) (v .type .type) (m .type) in
                   let told : Codes ts (v .type .type) (getD after x 0) = subst (Codes ts (v .type .type)) (sym (ap (λ (i : ℕ). getD after i 0) (sym is) ∙ type-here)) type in
-                  let placed : getD after (2048 + x) 0 ≡ 32 + at = ap (λ (i : ℕ). getD after (2048 + i) 0) (sym is) ∙ slot-here in
-                  let first : getD after (2048 + x) 0 ≡ 32 + (at + 0) = omega (arith, placed) in
+                  let placed : getD after (slotsFrom + x) 0 ≡ variablesMost + at = ap (λ (i : ℕ). getD after (slotsFrom + i) 0) (sym is) ∙ slot-here in
+                  let first : getD after (slotsFrom + x) 0 ≡ variablesMost + (at + 0) = omega (arith, placed) in
                   rw (same-names own sp is) (a-field told first)
               | no other ↦
-                  let there : x < 2048 = row-there lx x (sp .there) in
+                  let there : x < absent = row-there lx x (sp .there) in
                   let e : getD after x 0 ≡ getD mid x 0 = other-word x (λ z. other (sym z)) (λ z. omega arith) in
-                  let e′ : getD after (2048 + x) 0 ≡ getD mid (2048 + x) 0 = other-word (2048 + x) (λ z. omega arith) (λ z. other (omega arith)) in
-                  let further = h .says ts lx vs (sym (word-in tab 6 (v .name .row) (omega (arith, d, near)) c₆) ∙ ap (wordAt tab 6) d ∙ sym e₆) s (omega arith) text x sp upper below in
+                  let e′ : getD after (slotsFrom + x) 0 ≡ getD mid (slotsFrom + x) 0 = other-word (slotsFrom + x) (λ z. omega arith) (λ z. other (omega arith)) in
+                  let further = h .says ts lx vs (sym (word-in tab cNext (v .name .row) (omega (arith, d, near)) c₆) ∙ ap (wordAt tab cNext) d ∙ sym e₆) s (omega arith) text x sp upper below in
                   rw (other-names own sp other, e, e′) (tells-next at (variableNamed vs text) upper further)
             ]
 
@@ -185,7 +187,7 @@ tells-from : {ts : List Token} {at b : ℕ} → at ≡ b → (o upper : Option S
     → Tells ts (option o upper λ s. some (moved at s)) t p
     → Tells ts (option o upper λ s. some (moved b s)) t p
 tells-from e none upper h = h
-tells-from {b = b} e (some s) upper {p = p} (a-field c q) = let z : p ≡ 32 + (b + s .place) = omega (arith, e, q) in a-field c z
+tells-from {b = b} e (some s) upper {p = p} (a-field c q) = let z : p ≡ variablesMost + (b + s .place) = omega (arith, e, q) in a-field c z
 
 module _ {tab : List ℕ} {n left c : ℕ} {before : List ℕ} where
   pub climb-none-left : left ≡ 0 → FieldsClimbed tab n left c before before 0
@@ -197,7 +199,7 @@ module _ {tab : List ℕ} {n left c : ℕ} {before : List ℕ} where
         held = λ empty. record { says = λ ts G w name h. record { says = λ text x sp. rw (e, chain-none-left G name) (no-field (empty x (omega (arith, sp .there, w .tokens .count)))) } };
       }
 
-  module _ {class : ℕ} (index : class ≡ wordAt tab 7 c) where
+  module _ {class : ℕ} (index : class ≡ wordAt tab cClass c) where
     pub climb-top : absent ≤ class → FieldsClimbed tab n left c before before 0
     unfolding nearestField
     climb-top far =
@@ -213,7 +215,7 @@ module _ {tab : List ℕ} {n left c : ℕ} {before : List ℕ} where
         go ts G name text x z (no-class e f) = rw (chain-none left G name e) (no-field z)
         go ts G name text x z (a-class k e at near s sp) = absurd (omega arith)
 
-    pub climb-more : (left ≡ 0 → ⊥) → class < absent → n ≤ 2048 → {first : ℕ} → first ≡ wordAt tab 4 class → {p : ℕ} → Above tab class p
+    pub climb-more : (left ≡ 0 → ⊥) → class < absent → n ≤ tokensMost → {first : ℕ} → first ≡ wordAt tab cFields class → {p : ℕ} → Above tab class p
         → {at : ℕ} {mid : List ℕ} → FieldsClimbed tab n (left - 1) p before mid at → {after : List ℕ}
         → OwnHeld tab n n first at mid after → {own : ℕ} → Counts tab n first own
         → FieldsClimbed tab n left c before after (at + own)

@@ -14,7 +14,7 @@ ghost use lib.ListN.{length, set};
 ghost use Rattle.base.specs.Word.{modulus};
 ghost use Rattle.base.specs.contracts.Table.{rows};
 ghost use Rattle.reader.specs.contracts.WalkPost.{Walkable};
-ghost use Rattle.lookup.specs.contracts.Fields.{ObjectSize, Cleared, OwnHeld, FieldsClimbed, FieldsFilled};
+ghost use Rattle.lookup.specs.contracts.Fields.{ObjectSize, Cleared, OwnHeld, FieldsClimbed, FieldsFilled, fieldsLeast, slotsFrom};
 
 // How many fields an object of the class holds whose name has the number c, with those from above, of which at most `left` classes may
 // come.
@@ -35,7 +35,7 @@ pub fn object_size(table: &[u32], n: usize, left: usize, c: usize) -> usize
 
 // No field has any name, of which there are n at most.
 fn clear(fields: &mut [u32], n: usize)
-    requires { ⌜ (4096 ≤ length (now fields)) × (n ≤ rows) ⌝ }
+    requires { ⌜ (fieldsLeast ≤ length (now fields)) × (n ≤ rows) ⌝ }
     ensures { λ _. ⌜ Cleared n (now (fields .entry)) (now (fields .exit)) ⌝ }
 {
     let mut i: usize = 0;
@@ -47,8 +47,8 @@ fn clear(fields: &mut [u32], n: usize)
 
 // A field of the name x has this type and this slot.
 fn enter(fields: &mut [u32], x: usize, t: usize, slot: usize)
-    requires { ⌜ (4096 ≤ length (now fields)) × (x < rows) × (t < modulus) × (slot < modulus) ⌝ }
-    ensures { λ _. ⌜ now (fields .exit) ≡ set (set (now (fields .entry)) x t) (2048 + x) slot ⌝ }
+    requires { ⌜ (fieldsLeast ≤ length (now fields)) × (x < rows) × (t < modulus) × (slot < modulus) ⌝ }
+    ensures { λ _. ⌜ now (fields .exit) ≡ set (set (now (fields .entry)) x t) (slotsFrom + x) slot ⌝ }
 {
     fields[x] = t as u32;
     fields[2048 + x] = slot as u32;
@@ -57,7 +57,7 @@ fn enter(fields: &mut [u32], x: usize, t: usize, slot: usize)
 // The fields of a list, of which at most `left` may come, from place `at` on. The last is written first, so that of two of one name the
 // first stays.
 fn own(table: &[u32], fields: &mut [u32], n: usize, left: usize, row: usize, at: usize)
-    requires { ⌜ Walkable (now table) n × (4096 ≤ length (now fields)) × (at + left ≤ 4194304) ⌝ }
+    requires { ⌜ Walkable (now table) n × (fieldsLeast ≤ length (now fields)) × (at + left ≤ 4194304) ⌝ }
     ensures { λ _. ⌜ OwnHeld (now (table .entry)) n left row at (now (fields .entry)) (now (fields .exit)) ⌝ }
 {
     if left == 0 {
@@ -84,7 +84,7 @@ fn own(table: &[u32], fields: &mut [u32], n: usize, left: usize, row: usize, at:
 // The fields of the class whose name has the number c and of those above it, of which at most `left` may come: the topmost class first,
 // so that a field hides one of its name from above. The answer is how many fields an object of the class holds.
 fn climb(table: &[u32], fields: &mut [u32], n: usize, left: usize, c: usize) -> usize
-    requires { ⌜ Walkable (now table) n × (4096 ≤ length (now fields)) × (left ≤ rows) ⌝ }
+    requires { ⌜ Walkable (now table) n × (fieldsLeast ≤ length (now fields)) × (left ≤ rows) ⌝ }
     ensures { λ r. ⌜ FieldsClimbed (now (table .entry)) n left c (now (fields .entry)) (now (fields .exit)) r ⌝ }
 {
     if left == 0 {
@@ -103,7 +103,7 @@ fn climb(table: &[u32], fields: &mut [u32], n: usize, left: usize, c: usize) -> 
 // What the fields mean to the bodies of the class whose name has the number c, in a table of this many classes; to main, where c is no
 // name, there are none.
 pub fn fill(table: &[u32], fields: &mut [u32], n: usize, classes: usize, c: usize)
-    requires { ⌜ Walkable (now table) n × (4096 ≤ length (now fields)) × (classes ≤ rows) ⌝ }
+    requires { ⌜ Walkable (now table) n × (fieldsLeast ≤ length (now fields)) × (classes ≤ rows) ⌝ }
     ensures { λ _. ⌜ FieldsFilled (now (table .entry)) n classes c (now (fields .entry)) (now (fields .exit)) ⌝ }
 {
     clear(fields, n);

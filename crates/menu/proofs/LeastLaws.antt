@@ -11,7 +11,7 @@ use lib.Seq.{getD-set-same, getD-set-other}
 use lib.Dec.{eqb}
 use borrow.Author.Tests.{eq-eqb, ne-eqb}
 use Rattle.parser.specs.contracts.Layout.{absent}
-use Rattle.menu.specs.contracts.Least.{leaf, RightNode, Keeps, Mended, Entered, Removed}
+use Rattle.menu.specs.contracts.Least.{leaf, RightNode, Keeps, Mended, Entered, Removed, treeSize}
 
 -- SETTING A WORD
 
@@ -23,7 +23,7 @@ kept-right tree i x u a b c h = rw (getD-set-other tree i u x 0 a, getD-set-othe
 pub mend-none : (tree : List ℕ) {v : ℕ} → v ≡ 0 → Mended v tree tree
 mend-none tree z = record { nodes = λ h u low high. h u low high (λ e. omega (arith, e)); leaves = λ l h. refl }
 
-pub mend-next : {before : List ℕ} {v : ℕ} → (v ≡ 0 → ⊥) → v < absent → length before ≡ 4096 → {a b x : ℕ} → a ≡ getD before (2 * v) 0
+pub mend-next : {before : List ℕ} {v : ℕ} → (v ≡ 0 → ⊥) → v < absent → length before ≡ treeSize → {a b x : ℕ} → a ≡ getD before (2 * v) 0
     → b ≡ getD before (2 * v + 1) 0
     → x ≡ min a b → {middle after : List ℕ} → middle ≡ set before v x → Mended (v / 2) middle after → Mended v before after
 mend-next {before} {v} some high long {a} {b} {x} ea eb e {middle} {after} s m =
@@ -41,7 +41,7 @@ mend-next {before} {v} some high long {a} {b} {x} ea eb e {middle} {after} s m =
 
 -- A LEAF SET
 
-module _ (before : List ℕ) (x : ℕ) {row : ℕ} (low : row < absent) (long : length before ≡ 4096) {middle : List ℕ} (s : middle ≡ set before (absent + row) x)
+module _ (before : List ℕ) (x : ℕ) {row : ℕ} (low : row < absent) (long : length before ≡ treeSize) {middle : List ℕ} (s : middle ≡ set before (absent + row) x)
     {after : List ℕ} (m : Mended (1024 + row / 2) middle after) where
   nodes-again : {S : ℕ → Bool} → Keeps before S → (v : ℕ) → 0 < v → v < absent → RightNode after v
   nodes-again k = m .nodes (λ u some top other. subst (λ (t : List ℕ). RightNode t u) (sym s)
@@ -83,7 +83,7 @@ module _ (before : List ℕ) (x : ℕ) {row : ℕ} (low : row < absent) (long : 
 
 module _ {tree : List ℕ} {S : ℕ → Bool} (k : Keeps tree S) where
   -- the word over a word is no greater
-  half-below : (v : ℕ) → 0 < v / 2 → v < 4096 → getD tree (v / 2) 0 ≤ getD tree v 0
+  half-below : (v : ℕ) → 0 < v / 2 → v < treeSize → getD tree (v / 2) 0 ≤ getD tree v 0
   half-below v h top = go (ℕ-discrete v (2 * (v / 2))) (k .nodes (v / 2) h (omega arith))
     where
       go : Dec (v ≡ 2 * (v / 2)) → RightNode tree (v / 2) → getD tree (v / 2) 0 ≤ getD tree v 0
@@ -94,7 +94,7 @@ module _ {tree : List ℕ} {S : ℕ → Bool} (k : Keeps tree S) where
           omega (arith, e, z)
 
   -- no word is less than the top's; n is some bound
-  top-below : (n v : ℕ) → v ≤ n → 0 < v → v < 4096 → getD tree 1 0 ≤ getD tree v 0
+  top-below : (n v : ℕ) → v ≤ n → 0 < v → v < treeSize → getD tree 1 0 ≤ getD tree v 0
   top-below zero v few some top = absurd (omega arith)
   top-below (suc n) v few some top = go (ℕ-discrete v 1) (λ h. top-below n (v / 2) (omega arith) h (omega arith))
     where
@@ -112,7 +112,7 @@ module _ {tree : List ℕ} {S : ℕ → Bool} (k : Keeps tree S) where
   abbrev AtLeaf : ℕ → Type 0
   AtLeaf v = (row : ℕ) × (row < absent) × (getD tree (absent + row) 0 ≡ getD tree v 0)
 
-  some-leaf : (n v : ℕ) → 4096 ≤ v + n → 0 < v → v < 4096 → AtLeaf v
+  some-leaf : (n v : ℕ) → treeSize ≤ v + n → 0 < v → v < treeSize → AtLeaf v
   some-leaf zero v few some top = absurd (omega arith)
   some-leaf (suc n) v few some top =
       go (decLt v absent) (λ h. some-leaf n (2 * v) (omega arith) (omega arith) (omega arith)) (λ h. some-leaf n (2 * v + 1) (omega arith) (omega arith) (omega arith))
@@ -127,7 +127,7 @@ module _ {tree : List ℕ} {S : ℕ → Bool} (k : Keeps tree S) where
 
   -- the top's word, where it is a row, is in the set
   pub top-in : {x : ℕ} → x ≡ getD tree 1 0 → x < absent → S x ≡ true
-  top-in {x} e low = let h = some-leaf 4096 1 (omega arith) (omega arith) (omega arith) in go (h .0) (S (h .0)) refl (h .1) (h .2)
+  top-in {x} e low = let h = some-leaf treeSize 1 (omega arith) (omega arith) (omega arith) in go (h .0) (S (h .0)) refl (h .1) (h .2)
     where
       go : (row : ℕ) (b : Bool) → S row ≡ b → row < absent → getD tree (absent + row) 0 ≡ getD tree 1 0 → S x ≡ true
       go row true q here z =

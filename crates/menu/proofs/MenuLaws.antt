@@ -11,9 +11,10 @@ use native.Mathlib.Nat.{le-of-suc-le-suc}
 use borrow.Author.Tests.{lt-ltb, le-ltb}
 use Rattle.base.specs.All.{All, all-nil, all-cons}
 use Rattle.base.specs.laws.Lists.{all-weaken, drop-none, getD-default, getD-replicate-same}
-use Rattle.base.specs.Codes.{tableLeast}
+use Rattle.base.specs.Codes.{tableLeast, tableTooShort, stripTooShort}
 use Rattle.base.specs.Outcome.{Outcome, accepted, refused}
 use Rattle.base.specs.laws.Tests.{apart}
+use Rattle.base.specs.contracts.Table.{cNext, rows}
 use Rattle.lexer.specs.Tokens.{Token}
 use Rattle.parser.specs.Tree.{Class, Program}
 use Rattle.parser.specs.Grammar.{DerivesClass, DerivesClass.a-class-declaration, DerivesClasses, DerivesClasses.no-class, DerivesClasses.more-classes}
@@ -35,6 +36,7 @@ use Rattle.menu.specs.Menu.{menuOrder, writing, positions, listing, menu
 use Rattle.menu.specs.laws.Writing.{many-same}
 use Rattle.menu.specs.Order.{each-once}
 use Rattle.menu.specs.contracts.MenuPost.{nameRow, RowsRise, rising-none, rising-more, Tabled, Empty, Gathered, overwritten, ParentsWritten, StripWritten, listingOf, FillsStrip}
+use Rattle.menu.specs.contracts.Least.{treeSize}
 
 -- THE STRIP
 
@@ -57,17 +59,17 @@ many-positions (k ∷ ks) = ap suc (many-positions ks)
 
 -- AT FIRST
 
-filled : (n i : ℕ) → i < n → getD {A = ℕ} (replicate n 2048) i 0 ≡ 2048
+filled : (n i : ℕ) → i < n → getD {A = ℕ} (replicate n absent) i 0 ≡ absent
 filled n i low =
-    getD-default {A = ℕ} (replicate n 2048) i 0 2048 (omega (arith, length-replicate {A = ℕ} n 2048)) ∙ getD-replicate-same {A = ℕ} n i 2048
+    getD-default {A = ℕ} (replicate n absent) i 0 absent (omega (arith, length-replicate {A = ℕ} n absent)) ∙ getD-replicate-same {A = ℕ} n i absent
 
-empty : Empty (replicate 4096 2048) (replicate 2048 2048)
+empty : Empty (replicate treeSize absent) (replicate rows absent)
 empty = record {
   none-kept = record {
-    leaves = λ row low. filled 4096 (absent + row) (omega arith);
-    nodes = λ v some low. omega (arith, filled 4096 v (omega arith), filled 4096 (2 * v) (omega arith), filled 4096 (2 * v + 1) (omega arith));
+    leaves = λ row low. filled treeSize (absent + row) (omega arith);
+    nodes = λ v some low. omega (arith, filled treeSize v (omega arith), filled treeSize (2 * v) (omega arith), filled treeSize (2 * v + 1) (omega arith));
   };
-  none-listed = λ row low. filled 2048 row low;
+  none-listed = λ row low. filled rows row low;
 }
 
 -- THE CLASSES
@@ -94,11 +96,11 @@ nothing-written (k ∷ G) = all-cons (λ e. absurd (false≢true e)) (nothing-wr
 
 module _ {tab : List ℕ} {classes : ℕ} {before : List ℕ} where
   pub fill-short : length before < classes
-      → FillsStrip tab classes before (listingOf (record { number = 4; position = 0; classes = 0 }) before)
+      → FillsStrip tab classes before (listingOf (record { number = stripTooShort; position = 0; classes = 0 }) before)
   fill-short h = record { says = λ n ts p r d t l. let z : length before < length (p .classes) = omega arith in rw (lt-ltb (length before) (length (p .classes)) z) }
 
-  module _ {first : ℕ} (e₆ : first ≡ wordAt tab 6 0) {tree firsts next : List ℕ}
-      (g : Gathered tab classes first (replicate 4096 2048) (replicate 2048 2048) tree firsts next) {after : List ℕ} {unwritten : ℕ}
+  module _ {first : ℕ} (e₆ : first ≡ wordAt tab cNext 0) {tree firsts next : List ℕ}
+      (g : Gathered tab classes first (replicate treeSize absent) (replicate rows absent) tree firsts next) {after : List ℕ} {unwritten : ℕ}
       (w : StripWritten tab tree firsts next 0 classes before after unwritten) where
     -- what was written of the classes of a program
     told : {n : ℕ} {ts : List Token} {p : Program} → Ready tab n ts p → DerivesProgram ts p → length (p .classes) ≡ classes
@@ -107,7 +109,7 @@ module _ {tab : List ℕ} {classes : ℕ} {before : List ℕ} where
     told {n} {ts} {p} r d l =
         let G = p .classes in
         let table : Tabled tab n ts G = record { world = r .world; own = r .own; rising = rise d } in
-        let at : ClassesAt tab n ts G classes first = record { here = sym (e₆ ∙ word-in tab 6 0 (omega arith) (r .first)); stand = r .world .classes; few = omega arith } in
+        let at : ClassesAt tab n ts G classes first = record { here = sym (e₆ ∙ word-in tab cNext 0 (omega arith) (r .first)); stand = r .world .classes; few = omega arith } in
         let start = g .says empty n ts G table G at (rise d) in
         subst (λ (m : ℕ). (after ≡ overwritten 0 (positions (writing m G [])) before) × (unwritten + length (writing m G []) ≡ m)) (sym l)
         (w .says n ts G table (start .1) [] (nothing-written G) (start .0))
@@ -155,11 +157,11 @@ module _ (s : List ℕ) (f : Finding) (middle before : List ℕ) (l : Leaves s (
 -- THE OPERATION
 
 module _ (s table before : List ℕ) where
-  pub menu-short : length table < 16384 → Menus s table before (record { number = 1; position = 0; classes = 0 }) table before
+  pub menu-short : length table < tableLeast → Menus s table before (record { number = tableTooShort; position = 0; classes = 0 }) table before
   unfolding menu tableAfter
   menu-short h = record { answer = rw (lt-ltb (length table) tableLeast h); cleared = rw (lt-ltb (length table) tableLeast h) }
 
-  pub menu-answer : 16384 ≤ length table → {r : CheckAnswer} (middle : List ℕ) {last after : List ℕ}
+  pub menu-answer : tableLeast ≤ length table → {r : CheckAnswer} (middle : List ℕ) {last after : List ℕ}
       → listingOf r after ≡ listing (checking s) before → length middle ≡ length table
       → last ≡ replicate (length middle) 0 → Menus s table before (checkAnswerOf r) last after
   unfolding menu tableAfter

@@ -17,6 +17,8 @@ use Rattle.base.specs.Choice.{if_then_else_, option}
 use Rattle.base.specs.All.{All, all-nil, all-cons}
 use Rattle.base.specs.laws.Lists.{all-weaken}
 use Rattle.base.specs.laws.Tests.{and-true, and-false, and-right, or-either, or-neither, not-true, same-equal, same-of, apart-same}
+use Rattle.base.specs.Codes.{tokensMost}
+use Rattle.base.specs.contracts.Table.{cStart, cNext, cClass}
 use Rattle.lexer.specs.Tokens.{Token}
 use Rattle.parser.specs.Tree.{Name, Class}
 use Rattle.parser.specs.Stream.{tokenAt}
@@ -290,9 +292,9 @@ module _ {tab tree first next : List ℕ} {i left : ℕ} {before : List ℕ} whe
               subst (λ (ks : List Class). (before ≡ overwritten i (positions ks) before) × (left + length ks ≡ left)) (sym none-left) (refl, omega arith);
         }
 
-    pub write-next : (left ≡ 0 → ⊥) → row < absent → {p : ℕ} → p ≡ wordAt tab 1 row → {strip : List ℕ} → strip ≡ set before i p
+    pub write-next : (left ≡ 0 → ⊥) → row < absent → {p : ℕ} → p ≡ wordAt tab cStart row → {strip : List ℕ} → strip ≡ set before i p
         → {tree₁ : List ℕ} → Removed row tree tree₁
-        → {child : ℕ} → child ≡ getD first row 0 → {tree₂ : List ℕ} → Freed next 2048 child tree₁ tree₂ → {after : List ℕ}
+        → {child : ℕ} → child ≡ getD first row 0 → {tree₂ : List ℕ} → Freed next tokensMost child tree₁ tree₂ → {after : List ℕ}
         → {r : ℕ}
         → StripWritten tab tree₂ first next (i + 1) (left - 1) strip after r → StripWritten tab tree first next i left before after r
     unfolding overwritten positions
@@ -309,12 +311,12 @@ module _ {tab tree first next : List ℕ} {i left : ℕ} {before : List ℕ} whe
             let own = all-there (f .before) (f .behind) (subst (FoundByName G) (f .there) (t .own)) in
             let linked = all-there (f .before) (f .behind) (subst (λ (ks : List Class). ChildrenListed first next ks G) (f .there) l) in
             let facts = all-weaken (λ j h. beside G w stand own (f .may) j (h .0) (h .1 .0) (h .1 .1)) (all-zip (all-stand (t .world .classes)) (all-zip (t .own) c)) in
-            let few : length (childRows (className k) G) ≤ 2048 = omega (arith, child-few (className k) G, t .world .few, t .world .tokens .few) in
+            let few : length (childRows (className k) G) ≤ tokensMost = omega (arith, child-few (className k) G, t .world .few, t .world .tokens .few) in
             let free₁ = free .says (childRows (className k) G) (subst (λ (x : ℕ). RowsLinked next x (childRows (className k) G)) (ap (λ (x : ℕ). getD first x 0) (found .2) ∙ sym ec) linked) few _
             (out .says (standing w G) kept) in
             let kept₂ = keeps-same (λ r low. ap (λ (x : ℕ). elem r (childRows (className k) G) || (not (eqb x r) && standing w G r)) (sym (found .2)) ∙ sym (standing-more w k G r facts)) free₁ in
             let closed = all-weaken (λ j h. closed-more G w stand own (f .may) j (h .0) (h .1)) (all-zip (t .own) c) in
-            let start : p ≡ k .name .start = e₁ ∙ ap (wordAt tab 1) (sym (found .2)) ∙ start-word (t .world .tokens) (nameRow k) (stand .named .token .there) ∙ stand .named .start in
+            let start : p ≡ k .name .start = e₁ ∙ ap (wordAt tab cStart) (sym (found .2)) ∙ start-word (t .world .tokens) (nameRow k) (stand .named .token .there) ∙ stand .named .start in
             let later = rest .says n ts G t l (w ++ k ∷ []) closed kept₂ in
             let now = writing-next left G w more (found .1) in (
               later .0
@@ -329,7 +331,7 @@ module _ {tab tree first next : List ℕ} {i left : ℕ} {before : List ℕ} whe
 record FirstClass (tab : List ℕ) (n : ℕ) (ts : List Token) (k : Class) (ks : List Class) (left row : ℕ) : Type 0 where
   here : nameRow k ≡ row
   stands : ClassHeld tab n ts k
-  rest : {next : ℕ} → next ≡ wordAt tab 6 row → (left ≡ 0 → ⊥) → ClassesAt tab n ts ks (left - 1) next
+  rest : {next : ℕ} → next ≡ wordAt tab cNext row → (left ≡ 0 → ⊥) → ClassesAt tab n ts ks (left - 1) next
 
 first-class : {tab : List ℕ} {n : ℕ} {ts : List Token} → Lexemes tab n ts → {k : Class} {ks : List Class} {left row : ℕ}
     → ClassesAt tab n ts (k ∷ ks) left row → FirstClass tab n ts k ks left row
@@ -341,7 +343,7 @@ first-class {tab} {n} {ts} lx {k} {ks} {left} {row} a = go (a .stand)
       stands = s;
       rest = λ e more. record {
         here =
-            sym (e ∙ ap (wordAt tab 6) (sym (a .here)) ∙ word-in tab 6 (nameRow k) (row-there lx (nameRow k) (s .named .token .there)) c₆);
+            sym (e ∙ ap (wordAt tab cNext) (sym (a .here)) ∙ word-in tab cNext (nameRow k) (row-there lx (nameRow k) (s .named .token .there)) c₆);
         stand = h;
         few = omega (arith, a .few);
       };
@@ -419,7 +421,7 @@ standing-child : (k : Class) (ks : List Class) (r : ℕ) {p : Name} → k .paren
 unfolding standing mayStand among
 standing-child k ks r e = rw (e, and-false (eqb (nameRow k) r))
 
-module _ {ts : List Token} {c : ℕ} (few : length ts ≤ 2048) where
+module _ {ts : List Token} {c : ℕ} (few : length ts ≤ tokensMost) where
   no-parent : (o : Option Name) → MaybeNumber ts (parentName o) c → absent ≤ c → o ≡ none
   no-parent none h far = refl
   no-parent (some p) (a-name s) far = absurd (omega (arith, s .there))
@@ -434,7 +436,7 @@ nobody : {tab : List ℕ} {n : ℕ} {ts : List Token} {G : List Class} {x : List
 nobody far (no-class e far′) = e
 nobody far (a-class q e at near s sp) = absurd (omega arith)
 
-module _ {tab : List ℕ} {left row : ℕ} (more : left ≡ 0 → ⊥) (near : row < absent) {rest : ℕ} (e₆ : rest ≡ wordAt tab 6 row) {tree₀ first₀ tree first next : List ℕ}
+module _ {tab : List ℕ} {left row : ℕ} (more : left ≡ 0 → ⊥) (near : row < absent) {rest : ℕ} (e₆ : rest ≡ wordAt tab cNext row) {tree₀ first₀ tree first next : List ℕ}
     (g : Gathered tab (left - 1) rest tree₀ first₀ tree first next) {c : ℕ} (up : Above tab row c) where
   -- the class of the row, and what was gathered of the later ones
   record Later (n : ℕ) (ts : List Token) (G : List Class) (k : Class) (ks : List Class) : Type 0 where
@@ -444,7 +446,7 @@ module _ {tab : List ℕ} {left row : ℕ} (more : left ≡ 0 → ⊥) (near : r
     kept : Keeps tree (standing [] ks)
     listed : ChildrenListed first next G ks
     above : MaybeNumber ts (parentName (k .parent)) c
-    few : length ts ≤ 2048
+    few : length ts ≤ tokensMost
 
   later : Empty tree₀ first₀ → {n : ℕ} {ts : List Token} {G : List Class} → Tabled tab n ts G → {k : Class} {ks : List Class}
       → ClassesAt tab n ts (k ∷ ks) left row → RowsRise (k ∷ ks) → Later n ts G k ks
@@ -483,7 +485,7 @@ module _ {tab : List ℕ} {left row : ℕ} (more : left ≡ 0 → ⊥) (near : r
         all-weaken (λ j x. rw (child-not (className j) k ks (child-by (className j) k top)) x) (h .listed),
       )
 
-  module _ (low : c < absent) {parent : ℕ} (e₇ : parent ≡ wordAt tab 7 c) where
+  module _ (low : c < absent) {parent : ℕ} (e₇ : parent ≡ wordAt tab cClass c) where
     -- the first class has a parent, so it may not stand
     by-child : {first′ next′ : List ℕ}
         → ((n : ℕ) (ts : List Token) (G : List Class) (k : Class) (ks : List Class) → Later n ts G k ks

@@ -6,7 +6,7 @@ ghost use Prim.Native.Nat.{_<_, min};
 ghost use lib.ListN.{length, getD, set};
 ghost use Rattle.base.specs.contracts.Table.{rows};
 ghost use Rattle.base.specs.Word.{modulus};
-ghost use Rattle.menu.specs.contracts.Least.{Mended, Entered, Removed};
+ghost use Rattle.menu.specs.contracts.Least.{Mended, Entered, Removed, treeSize};
 
 // The word in a place, 0 past the end.
 pub fn cell(words: &[u32], i: usize) -> usize
@@ -38,7 +38,7 @@ fn lesser(a: usize, b: usize) -> usize
 
 // Sets node v and those above it anew.
 fn mend(tree: &mut [u32], v: usize)
-    requires { ⌜ (length (now tree) ≡ 4096) × (v < rows) ⌝ }
+    requires { ⌜ (length (now tree) ≡ treeSize) × (v < rows) ⌝ }
     ensures { λ _. ⌜ Mended v (now (tree .entry)) (now (tree .exit)) ⌝ }
 {
     if v == 0 {
@@ -50,7 +50,7 @@ fn mend(tree: &mut [u32], v: usize)
 
 // Puts a row into the set.
 pub fn enter(tree: &mut [u32], row: usize)
-    requires { ⌜ (length (now tree) ≡ 4096) × (row < rows) ⌝ }
+    requires { ⌜ (length (now tree) ≡ treeSize) × (row < rows) ⌝ }
     ensures { λ _. ⌜ Entered row (now (tree .entry)) (now (tree .exit)) ⌝ }
 {
     put(tree, ABSENT + row, row);
@@ -59,7 +59,7 @@ pub fn enter(tree: &mut [u32], row: usize)
 
 // Takes a row out of it.
 pub fn remove(tree: &mut [u32], row: usize)
-    requires { ⌜ (length (now tree) ≡ 4096) × (row < rows) ⌝ }
+    requires { ⌜ (length (now tree) ≡ treeSize) × (row < rows) ⌝ }
     ensures { λ _. ⌜ Removed row (now (tree .entry)) (now (tree .exit)) ⌝ }
 {
     put(tree, ABSENT + row, ABSENT);

@@ -15,6 +15,7 @@ ghost use Rattle.base.specs.contracts.Table.{rows};
 ghost use Rattle.base.specs.Codes.{tableLeast};
 ghost use Rattle.base.specs.Word.{modulus};
 ghost use Rattle.menu.specs.contracts.MenuPost.{ChildJoined, Gathered, Freed, StripWritten};
+ghost use Rattle.menu.specs.contracts.Least.{treeSize};
 
 // A class joins its parent's children, before the others.
 fn link(first: &mut [u32], next: &mut [u32], parent: usize, row: usize)
@@ -34,7 +35,7 @@ pub fn gather(
     left: usize,
     row: usize,
 )
-    requires { ⌜ (tableLeast ≤ length (now table)) × (length (now tree) ≡ 4096) × (length (now first) ≡ rows)
+    requires { ⌜ (tableLeast ≤ length (now table)) × (length (now tree) ≡ treeSize) × (length (now first) ≡ rows)
         × (length (now next) ≡ rows) ⌝ }
     ensures { λ _. ⌜ Gathered (now (table .entry)) left row (now (tree .entry)) (now (first .entry)) (now (tree .exit))
         (now (first .exit)) (now (next .exit)) ⌝ }
@@ -61,7 +62,7 @@ pub fn gather(
 
 // The children from a row on join the set.
 fn free(tree: &mut [u32], next: &[u32], left: usize, row: usize)
-    requires { ⌜ length (now tree) ≡ 4096 ⌝ }
+    requires { ⌜ length (now tree) ≡ treeSize ⌝ }
     ensures { λ _. ⌜ Freed (now (next .entry)) left row (now (tree .entry)) (now (tree .exit)) ⌝ }
 {
     if left == 0 {
@@ -84,7 +85,7 @@ pub fn write(
     i: usize,
     left: usize,
 ) -> usize
-    requires { ⌜ (tableLeast ≤ length (now table)) × (length (now tree) ≡ 4096) × (i + left ≤ length (now strip)) ⌝ }
+    requires { ⌜ (tableLeast ≤ length (now table)) × (length (now tree) ≡ treeSize) × (i + left ≤ length (now strip)) ⌝ }
     ensures { λ r. ⌜ StripWritten (now (table .entry)) (now (tree .entry)) (now (first .entry)) (now (next .entry)) i left
         (now (strip .entry)) (now (strip .exit)) r ⌝ }
 {

@@ -9,7 +9,8 @@ use native.Mathlib.Omega.{arith}
 use lib.Dec.{eqb}
 use borrow.Author.Tests.{eqb-true}
 use Rattle.base.specs.Choice.{option}
-use Rattle.base.specs.contracts.Table.{col}
+use Rattle.base.specs.contracts.Table.{col, cStart}
+use Rattle.base.specs.Codes.{tokensMost}
 use Rattle.lexer.specs.Kinds.{isName, kFixed, kNew, kNot}
 use Rattle.lexer.specs.Tokens.{Token}
 use Rattle.parser.specs.declared.answer.Answer.{Answer}
@@ -29,7 +30,7 @@ use Rattle.parser.proofs.Pieces.{then-node, of-mode, as-mode}
 
 -- a node as the code writes it
 pub made : {T : List ℕ} {n : ℕ} {ts : List Token} (T₂ : List ℕ) (i first l r : ℕ) → TokensIn T n ts → first < n
-    → T₂ ≡ node T i (col T 1 first) l r → T₂ ≡ node T i (startAt ts first) l r
+    → T₂ ≡ node T i (col T cStart first) l r → T₂ ≡ node T i (startAt ts first) l r
 made {T} T₂ i first l r h lt e = e ∙ ap (λ (b : ℕ). node T i b l r) (h .starts first lt)
 
 -- LEVELS
@@ -101,7 +102,7 @@ operator-there T n i k level e eb t = there-by (isOperator level) (zero-no-opera
 module _ (whole first : Mode expression) (rest : Rest) {n i : ℕ} {T : List ℕ}
     (steps : (ts : List Token) → TokensIn T n ts → (f : ℕ) → 0 < f
     → step ts (λ s m j. parseAs f ts m j) whole i ≡ bind (parseAs f ts first i) (λ l j. parseAs f ts (restMode rest l) j))
-    (low : rank first < rank whole) (few : n ≤ 2048) where
+    (low : rank first < rank whole) (few : n ≤ tokensMost) where
   whole-ok : {x j : ℕ} {T₁ T₂ : List ℕ} {r₁ r : Answer} → ModePost first n n i T r₁ T₁ → r₁ ≡ At x j → RestPost rest n x j T₁ r T₂
       → ModePost whole n n i T r T₂
   whole-ok {x} {j} {T₁} {T₂} {r₁} {r} p e q =
@@ -121,12 +122,12 @@ module _ (whole first : Mode expression) (rest : Rest) {n i : ℕ} {T : List ℕ
         says = λ ts h. stepped whole ts i (fuel whole n i) (λ f enough. at-result (steps ts h f (omega arith)) (bind-bad _ e (p .says ts h f (omega arith))));
       }
 
-operation-ok : {L : Level} {n i x j : ℕ} {T T₁ T₂ : List ℕ} {r₁ r : Answer} → n ≤ 2048 → ModePost (operand L) n n i T r₁ T₁ → r₁ ≡ At x j
+operation-ok : {L : Level} {n i x j : ℕ} {T T₁ T₂ : List ℕ} {r₁ r : Answer} → n ≤ tokensMost → ModePost (operand L) n n i T r₁ T₁ → r₁ ≡ At x j
     → RestPost (moreOperations L i) n x j T₁ r T₂ → ModePost (operation L) n n i T r T₂
 unfolding step
 operation-ok {L} {i = i} few p e q = whole-ok (operation L) (operand L) (moreOperations L i) (λ ts h f l. refl) (rank-operand L) few p e q
 
-operation-bad : {L : Level} {n i k : ℕ} {T T₁ : List ℕ} {r₁ : Answer} → n ≤ 2048 → ModePost (operand L) n n i T r₁ T₁ → r₁ ≡ Bad k
+operation-bad : {L : Level} {n i k : ℕ} {T T₁ : List ℕ} {r₁ : Answer} → n ≤ tokensMost → ModePost (operand L) n n i T r₁ T₁ → r₁ ≡ Bad k
     → ModePost (operation L) n n i T (Bad k) T₁
 unfolding step
 operation-bad {L} {i = i} few p e = whole-bad (operation L) (operand L) (moreOperations L i) (λ ts h f l. refl) (rank-operand L) few p e
@@ -140,14 +141,14 @@ module _ {n i : ℕ} {T T₁ : List ℕ} {r : Answer} where
   at-answer {m} e p = subst (λ (r : Answer). ModePost m n n i T r T₁) e p
 
 -- an operation that is refused is the first operand of a looser one, which is refused there too; d is how many levels lie between
-refused-below : {n i z : ℕ} {T T₁ : List ℕ} (d level top : ℕ) → top ≡ level + d → top ≤ 3 → n ≤ 2048
+refused-below : {n i z : ℕ} {T T₁ : List ℕ} (d level top : ℕ) → top ≡ level + d → top ≤ 3 → n ≤ tokensMost
     → ModePost (operation (levelAt top)) n n i T (Bad z) T₁
     → ModePost (operation (levelAt level)) n n i T (Bad z) T₁
 refused-below zero level top e h few p = at-level (omega arith) p
 refused-below (suc d) level top e h few p =
     operation-bad few (operand-next level (omega arith) (refused-below d (level + 1) top (omega arith) h few p)) refl
 
-module _ {n first left i : ℕ} {T T₁ : List ℕ} {r₁ : Answer} (level top : ℕ) (few : n ≤ 2048) (high : top ≤ 3)
+module _ {n first left i : ℕ} {T T₁ : List ℕ} {r₁ : Answer} (level top : ℕ) (few : n ≤ tokensMost) (high : top ≤ 3)
     (q : RestPost (moreOperations (levelAt top) first) n left i T r₁ T₁) where
   pub levels-more : {x j : ℕ} {T₂ : List ℕ} {r : Answer} → r₁ ≡ At x j → level < top → LevelsPost level (top - 1) n first x j T₁ r T₂
       → LevelsPost level top n first left i T r T₂
@@ -165,7 +166,7 @@ module _ {n i : ℕ} {T T₁ : List ℕ} {r₁ : Answer} (level : ℕ) (p : Mode
       → ModePost (operation (levelAt level)) n n i T r T₂
   levels-ok e q = q .says T (operand-last 3 (omega arith) (omega arith) (at-answer e p))
 
-  pub unary-bad : {z : ℕ} → n ≤ 2048 → r₁ ≡ Bad z → level ≤ 3 → ModePost (operation (levelAt level)) n n i T (Bad z) T₁
+  pub unary-bad : {z : ℕ} → n ≤ tokensMost → r₁ ≡ Bad z → level ≤ 3 → ModePost (operation (levelAt level)) n n i T (Bad z) T₁
   unary-bad few e le =
       refused-below (3 - level) level 3 (omega arith) (omega arith) few (operation-bad few (operand-last 3 (omega arith) (omega arith) p) e)
 
@@ -190,12 +191,12 @@ not-array T n i t ts h (suc f) l = by (eqb (kindAt ts i) kNew) refl (eqb (kindAt
     by true p false q = rw (makes-array T n i h, p, q, t) refl
     by false p b q = rw (makes-array T n i h, p, t) refl
 
-pub postfix-ok : {n i x j : ℕ} {b : Bool} {T T₁ T₂ : List ℕ} {r₁ r : Answer} → n ≤ 2048 → b ≡ startsArray T n i → b ≡ false
+pub postfix-ok : {n i x j : ℕ} {b : Bool} {T T₁ T₂ : List ℕ} {r₁ r : Answer} → n ≤ tokensMost → b ≡ startsArray T n i → b ≡ false
     → ModePost primary n n i T r₁ T₁ → r₁ ≡ At x j → RestPost (moreSuffixes true i) n x j T₁ r T₂ → ModePost postfix n n i T r T₂
 postfix-ok {n} {i} {T = T} few eb t p e q =
     whole-ok postfix primary (moreSuffixes true i) (not-array T n i (sym eb ∙ t)) (omega arith) few p e q
 
-pub postfix-bad : {n i k : ℕ} {b : Bool} {T T₁ : List ℕ} {r₁ : Answer} → n ≤ 2048 → b ≡ startsArray T n i → b ≡ false
+pub postfix-bad : {n i k : ℕ} {b : Bool} {T T₁ : List ℕ} {r₁ : Answer} → n ≤ tokensMost → b ≡ startsArray T n i → b ≡ false
     → ModePost primary n n i T r₁ T₁ → r₁ ≡ Bad k → ModePost postfix n n i T (Bad k) T₁
 postfix-bad {n} {i} {T = T} few eb t p e =
     whole-bad postfix primary (moreSuffixes true i) (not-array T n i (sym eb ∙ t)) (omega arith) few p e
@@ -207,8 +208,8 @@ unfolding store
 is-binary p o l r t = refl
 
 module _ (level : ℕ) {n first left i k : ℕ} {T : List ℕ} {b : Bool} (ek : k ≡ kindInTable T n i) (eb : b ≡ isOperator level k) where
-  pub operations-ok : {x j : ℕ} {T₁ T₂ T₃ : List ℕ} {r₁ r : Answer} → n ≤ 2048 → first < n → b ≡ true
-      → ModePost (operand (levelAt level)) n n (i + 1) T r₁ T₁ → r₁ ≡ At x j → T₂ ≡ node T₁ i (col T₁ 1 first) left x
+  pub operations-ok : {x j : ℕ} {T₁ T₂ T₃ : List ℕ} {r₁ r : Answer} → n ≤ tokensMost → first < n → b ≡ true
+      → ModePost (operand (levelAt level)) n n (i + 1) T r₁ T₁ → r₁ ≡ At x j → T₂ ≡ node T₁ i (col T₁ cStart first) left x
       → RestPost (moreOperations (levelAt level) first) n i j T₂ r T₃ → RestPost (moreOperations (levelAt level) first) n left i T r T₃
   unfolding step
   operations-ok {x} {j} {T₁} {T₂} {T₃} {r₁} {r} few lt t p e eT q =
@@ -216,7 +217,7 @@ module _ (level : ℕ) {n first left i k : ℕ} {T : List ℕ} {b : Bool} (ek : 
       let o = operator-of level k (sym eb ∙ t) in
       let il : i < n = operator-there T n i k level ek eb t in
       let w = within-ok e (p .within) in
-      let same : given T₂ ≡ given T = ap given eT ∙ given-node T₁ i (col T₁ 1 first) left x ∙ p .kept in
+      let same : given T₂ ≡ given T = ap given eT ∙ given-node T₁ i (col T₁ cStart first) left x ∙ p .kept in
       record {
         kept = q .kept ∙ same;
         within = within-more j i n n n r (omega arith) (omega arith) (q .within);
@@ -253,11 +254,11 @@ module _ (level : ℕ) {n first left i k : ℕ} {T : List ℕ} {b : Bool} (ek : 
 
 -- UNARY
 module _ {n i k : ℕ} {T : List ℕ} (ek : k ≡ kindInTable T n i) where
-  pub negation-is : {T₁ T₂ : List ℕ} {r₁ r : Answer} → n ≤ 2048 → k ≡ kNot → ModePost unary n n (i + 1) T r₁ T₁ → OnePart i T₁ r₁ r T₂
+  pub negation-is : {T₁ T₂ : List ℕ} {r₁ r : Answer} → n ≤ tokensMost → k ≡ kNot → ModePost unary n n (i + 1) T r₁ T₁ → OnePart i T₁ r₁ r T₂
       → ModePost unary n n i T r T₂
   unfolding step store
   negation-is few z p w =
-      let il = there T n i k 29 ek z (omega arith) in
+      let il = there T n i k kNot ek z (omega arith) in
       as-mode (omega arith) (omega arith) (λ f ts h. rw (is h i ek z) refl)
       (then-node (λ ts a. negation (placeAt ts i i) a) (λ ts a t. (refl, refl)) few il (of-mode (16 * (n - (i + 1)) + 15) (omega arith) p) w)
 

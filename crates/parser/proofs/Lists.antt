@@ -4,7 +4,8 @@ use Prim.Native.Nat.{ℕ, suc, _+_, _*_, _-_, _≤_, _<_}
 use mathlib.Core.Path.{_≡_, refl}
 use mathlib.Core.List.{List}
 use native.Mathlib.Omega.{arith}
-use Rattle.base.specs.contracts.Table.{put}
+use Rattle.base.specs.contracts.Table.{put, cNext}
+use Rattle.base.specs.Codes.{tokensMost}
 use Rattle.lexer.specs.Tokens.{Token}
 use Rattle.parser.specs.declared.answer.Answer.{Answer}
 use Rattle.parser.specs.declared.answer.Answer.the-variants.{At, Bad}
@@ -14,11 +15,12 @@ use Rattle.parser.specs.contracts.Parts.{ListOf, PiecePost}
 use Rattle.parser.specs.contracts.DeclarationPost.{Declaration, Of, itemFrom, declarationStored, rankOf, lowOf, topOf, DeclPost}
 use Rattle.parser.proofs.Laws.{at-result, at-suc, within-ok}
 use Rattle.parser.proofs.Pieces.{then-bad, then-list, of-declaration, as-declarations}
+use Rattle.parser.specs.contracts.Layout.{absent}
 
-pub list-end : (l : Declaration) (nil : Of l) {n i : ℕ} {T : List ℕ} → lowOf l i ≤ i → i ≤ n → 2048 < topOf l n
-    → 2048 ≡ declarationStored l .row nil
+pub list-end : (l : Declaration) (nil : Of l) {n i : ℕ} {T : List ℕ} → lowOf l i ≤ i → i ≤ n → absent < topOf l n
+    → absent ≡ declarationStored l .row nil
     → T ≡ declarationStored l .write nil T → ((f : ℕ) (ts : List Token) → TokensIn T n ts → itemFrom l (suc f) ts i ≡ ok nil i)
-    → DeclPost l n i T (At 2048 i) T
+    → DeclPost l n i T (At absent i) T
 list-end l nil {i = i} low le high er et steps =
     record {
       kept = refl;
@@ -28,7 +30,7 @@ list-end l nil {i = i} low le high er et steps =
 
 -- cons makes the list of a member, whose definition is P, and the rest
 module _ {A : Type 0} {S : Stored A} {P : ℕ → List Token → Parsed A} {enough low n top : ℕ} {T T₁ : List ℕ} {r : Answer}
-    (l : Declaration) (i : ℕ) (cons : A → Of l → Of l) (few : n ≤ 2048) (p : PiecePost S P enough low n top T r T₁)
+    (l : Declaration) (i : ℕ) (cons : A → Of l → Of l) (few : n ≤ tokensMost) (p : PiecePost S P enough low n top T r T₁)
     (lt : enough < 16 * (n - i) + rankOf l)
     (steps : (f : ℕ) (ts : List Token) → TokensIn T n ts
     → itemFrom l (suc f) ts i ≡ bind (P f ts) λ a j. bind (itemFrom l f ts j) λ b j. ok (cons a b) j) where
@@ -39,7 +41,7 @@ module _ {A : Type 0} {S : Stored A} {P : ℕ → List Token → Parsed A} {enou
 
   pub list-more : {x j : ℕ} {T₂ T₃ : List ℕ} {r₂ r′ : Answer}
       → ((a : A) (b : Of l) (t : List ℕ) → (S .row a ≡ declarationStored l .row (cons a b))
-      × (put (declarationStored l .write b (S .write a t)) 6 (S .row a) (declarationStored l .row b)
+      × (put (declarationStored l .write b (S .write a t)) cNext (S .row a) (declarationStored l .row b)
       ≡ declarationStored l .write (cons a b) t))
       → ((m : ℕ) → lowOf l m ≡ m) → i < low → top ≤ topOf l n → rankOf l ≤ 16 → 16 * (n - i) ≤ enough → r ≡ At x j
       → DeclPost l n j T₁ r₂ T₂ → ListOf x T₂ r₂ r′ T₃ → DeclPost l n i T r′ T₃

@@ -9,7 +9,8 @@ use native.Mathlib.Omega.{arith}
 use lib.Dec.{eqb}
 use borrow.Author.Tests.{eq-eqb}
 use Rattle.base.specs.Choice.{if_then_else_}
-use Rattle.base.specs.contracts.Table.{col, put}
+use Rattle.base.specs.contracts.Table.{col, put, cStart, cNext}
+use Rattle.base.specs.Codes.{tokensMost}
 use Rattle.lexer.specs.Tokens.{Token}
 use Rattle.lexer.specs.Kinds.{kClose, kComma}
 use Rattle.parser.specs.declared.answer.Answer.{Answer}
@@ -17,7 +18,7 @@ use Rattle.parser.specs.declared.answer.Answer.the-variants.{At, Bad}
 use Rattle.parser.specs.Tree.{Sort, Sort.arguments, Sort.statements, Part}
 use Rattle.parser.specs.Stream.{kindAt, startAt}
 use Rattle.parser.specs.Parse.{Parsed, ok, bad, out, bind, expect, Mode, statementList, step, parseAs}
-use Rattle.parser.specs.contracts.Layout.{absent, rowOf, node, given, store}
+use Rattle.parser.specs.contracts.Layout.{absent, rowOf, node, given, store, listTop}
 use Rattle.parser.specs.contracts.Post.{kindInTable, TokensIn, Stored, part, Met, met-ok, met-bad, Within, ModePost, ListPost, fuel}
 use Rattle.parser.specs.contracts.Parts.{Follows, present, missing, nothing, RowFits, WholeOf, done, refused, ListOf, OnePart}
 use Rattle.parser.specs.contracts.Parts.{TwoParts, PiecePost}
@@ -48,19 +49,19 @@ module _ (row : ℕ) (write : ℕ → List ℕ) {T : List ℕ} {a : Answer} wher
 
 -- a list, and nodes of one and two parts
 module _ {row : ℕ} {T T₁ : List ℕ} {a : Answer} {x j : ℕ} (e : a ≡ At x j) where
-  pub list-done : T₁ ≡ put T 6 row x → ListOf row T a (At row j) T₁
-  list-done eT = whole-done row (λ x. put T 6 row x) e eT
+  pub list-done : T₁ ≡ put T cNext row x → ListOf row T a (At row j) T₁
+  list-done eT = whole-done row (λ x. put T cNext row x) e eT
 
-  pub one-part-done : T₁ ≡ node T row (col T 1 row) x absent → OnePart row T a (At row j) T₁
-  one-part-done eT = whole-done row (λ x. node T row (col T 1 row) x absent) e eT
+  pub one-part-done : T₁ ≡ node T row (col T cStart row) x absent → OnePart row T a (At row j) T₁
+  one-part-done eT = whole-done row (λ x. node T row (col T cStart row) x absent) e eT
 
-  pub two-parts-done : (first left : ℕ) → T₁ ≡ node T row (col T 1 first) left x → TwoParts row first left T a (At row j) T₁
-  two-parts-done first left eT = whole-done row (λ x. node T row (col T 1 first) left x) e eT
+  pub two-parts-done : (first left : ℕ) → T₁ ≡ node T row (col T cStart first) left x → TwoParts row first left T a (At row j) T₁
+  two-parts-done first left eT = whole-done row (λ x. node T row (col T cStart first) left x) e eT
 
-pub fits-at : {a : Answer} {x j : ℕ} → a ≡ At x j → RowFits a → x ≤ 2048
+pub fits-at : {a : Answer} {x j : ℕ} → a ≡ At x j → RowFits a → x ≤ absent
 fits-at e h = subst RowFits e h
 
-pub row-fits : (low n top : ℕ) (r : Answer) → Within low n top r → top ≤ 2049 → RowFits r
+pub row-fits : (low n top : ℕ) (r : Answer) → Within low n top r → top ≤ listTop → RowFits r
 row-fits low n top (At x j) w h = omega (arith, w)
 row-fits low n top (Bad k) w h = tt
 
@@ -140,7 +141,7 @@ module _ {row : ℕ} {write : ℕ → List ℕ} {T₁ : List ℕ} where
   whole-met make is-made refused met-bad = met-bad
 
 -- a piece, and what is made of it
-module _ {A : Type 0} {S : Stored A} {P : ℕ → List Token → Parsed A} {enough low n top : ℕ} {T T₁ : List ℕ} {r : Answer} (few : n ≤ 2048)
+module _ {A : Type 0} {S : Stored A} {P : ℕ → List Token → Parsed A} {enough low n top : ℕ} {T T₁ : List ℕ} {r : Answer} (few : n ≤ tokensMost)
     (p : PiecePost S P enough low n top T r T₁) where
   -- a token after it
   pub then-token : {q : ℕ} {r′ : Answer} → 0 < q → Follows T₁ n q r r′
@@ -175,44 +176,44 @@ module _ {A : Type 0} {S : Stored A} {P : ℕ → List Token → Parsed A} {enou
 
   -- a list whose first member it is; R is the definition of the rest
   pub then-list : {B : Type 0} {L : Stored B} (cons : A → B → B)
-      → ((a : A) (b : B) (t : List ℕ) → (S .row a ≡ L .row (cons a b)) × (put (L .write b (S .write a t)) 6 (S .row a) (L .row b) ≡ L .write (cons a b) t))
+      → ((a : A) (b : B) (t : List ℕ) → (S .row a ≡ L .row (cons a b)) × (put (L .write b (S .write a t)) cNext (S .row a) (L .row b) ≡ L .write (cons a b) t))
       → {x j low₂ top₂ : ℕ} {r₂ r′ : Answer} {T₂ T₃ : List ℕ} (R : ℕ → List Token → ℕ → Parsed B) → top ≤ top₂ → low ≤ low₂ → r ≡ At x j
       → PiecePost L (λ f ts. R f ts j) enough low₂ n top₂ T₁ r₂ T₂ → ListOf x T₂ r₂ r′ T₃
       → PiecePost L (λ f ts. bind (P f ts) λ a j. bind (R f ts j) λ b j. ok (cons a b) j) enough low n top₂ T r′ T₃
   then-list {L = L} cons is-cons {x} {j} {low₂} {top₂} {r₂} {r′} {T₂} {T₃} R high le e q s =
       let w = within-ok e (p .within) in
       then-on (λ f ts a j. bind (R f ts j) λ b j. ok (cons a b) j) e
-      (whole-kept (λ y. given-put T₂ 6 x y (omega arith)) s ∙ q .kept)
+      (whole-kept (λ y. given-put T₂ cNext x y (omega arith)) s ∙ q .kept)
       (whole-within low₂ low n top₂ top₂ le (omega arith) s (q .within))
       (λ ts h f en a ea ta. whole-met (cons a)
       (λ b tb. let m = is-cons a b T in (ea ∙ m .0, rw (ea, tb, ta) (m .1))) s (q .says ts h f en))
 
   -- a list in parentheses whose first member it is: after a member stands `)` or `,`
   module _ {B : Type 0} {L : Stored B} (cons : A → B → B) (nil : B)
-      (is-cons : (a : A) (b : B) (t : List ℕ) → (S .row a ≡ L .row (cons a b)) × (put (L .write b (S .write a t)) 6 (S .row a) (L .row b) ≡ L .write (cons a b) t))
-      (is-nil : (t : List ℕ) → (L .row nil ≡ 2048) × (L .write nil t ≡ t)) (R : ℕ → List Token → ℕ → Parsed B) {x j k : ℕ} (high : top ≤ 2049)
+      (is-cons : (a : A) (b : B) (t : List ℕ) → (S .row a ≡ L .row (cons a b)) × (put (L .write b (S .write a t)) cNext (S .row a) (L .row b) ≡ L .write (cons a b) t))
+      (is-nil : (t : List ℕ) → (L .row nil ≡ absent) × (L .write nil t ≡ t)) (R : ℕ → List Token → ℕ → Parsed B) {x j k : ℕ} (high : top ≤ listTop)
       (e : r ≡ At x j) (ek : k ≡ kindInTable T₁ n j) where
-    pub last-member : {T₂ : List ℕ} → k ≡ kClose → T₂ ≡ put T₁ 6 x 2048
-        → PiecePost L (λ f ts. bind (P f ts) (member ts cons nil (R f ts))) enough low n 2049 T (At x (j + 1)) T₂
+    pub last-member : {T₂ : List ℕ} → k ≡ kClose → T₂ ≡ put T₁ cNext x absent
+        → PiecePost L (λ f ts. bind (P f ts) (member ts cons nil (R f ts))) enough low n listTop T (At x (j + 1)) T₂
     last-member z eT =
-        let jl = there T₁ n j k 35 ek z (omega arith) in
+        let jl = there T₁ n j k kClose ek z (omega arith) in
         let w = within-ok e (p .within) in
-        then-on (λ f ts. member ts cons nil (R f ts)) e (ap given eT ∙ given-put T₁ 6 x 2048 (omega arith)) (omega arith, omega arith, omega arith)
+        then-on (λ f ts. member ts cons nil (R f ts)) e (ap given eT ∙ given-put T₁ cNext x absent (omega arith)) (omega arith, omega arith, omega arith)
         (λ ts h f en a ea ta. let m = is-cons a nil T in rw (is h j ek z)
         (met-ok (ea ∙ m .0) (eT ∙ rw (ea, ta) (rw (is-nil (S .write a T) .0, is-nil (S .write a T) .1) at (m .1)))))
 
-    pub no-member : k ≢ kClose → k ≢ kComma → PiecePost L (λ f ts. bind (P f ts) (member ts cons nil (R f ts))) enough low n 2049 T (Bad j) T₁
+    pub no-member : k ≢ kClose → k ≢ kComma → PiecePost L (λ f ts. bind (P f ts) (member ts cons nil (R f ts))) enough low n listTop T (Bad j) T₁
     no-member z z′ =
         then-on (λ f ts. member ts cons nil (R f ts)) e refl tt (λ ts h f en a ea ta. rw (is-not h j ek z, is-not h j ek z′) met-bad)
 
     pub more-members : {low₂ : ℕ} {r₂ r′ : Answer} {T₂ T₃ : List ℕ} → k ≡ kComma → low ≤ low₂
-        → PiecePost L (λ f ts. R f ts (j + 1)) enough low₂ n 2049 T₁ r₂ T₂
-        → ListOf x T₂ r₂ r′ T₃ → PiecePost L (λ f ts. bind (P f ts) (member ts cons nil (R f ts))) enough low n 2049 T r′ T₃
+        → PiecePost L (λ f ts. R f ts (j + 1)) enough low₂ n listTop T₁ r₂ T₂
+        → ListOf x T₂ r₂ r′ T₃ → PiecePost L (λ f ts. bind (P f ts) (member ts cons nil (R f ts))) enough low n listTop T r′ T₃
     more-members {low₂} {T₂ = T₂} z le q s =
         let w = within-ok e (p .within) in
         then-on (λ f ts. member ts cons nil (R f ts)) e
-        (whole-kept (λ y. given-put T₂ 6 x y (omega arith)) s ∙ q .kept)
-        (whole-within low₂ low n 2049 2049 le (omega arith) s (q .within))
+        (whole-kept (λ y. given-put T₂ cNext x y (omega arith)) s ∙ q .kept)
+        (whole-within low₂ low n listTop listTop le (omega arith) s (q .within))
         (λ ts h f en a ea ta. rw (is h j ek z) (whole-met (cons a)
         (λ b tb. let m = is-cons a b T in (ea ∙ m .0, rw (ea, tb, ta) (m .1))) s (q .says ts h f en)))
 
@@ -220,10 +221,10 @@ module _ {A : Type 0} {S : Stored A} {P : ℕ → List Token → Parsed A} {enou
 pub then-node : {s s′ : Sort} {P : ℕ → List Token → Parsed (Part s)} {enough low n top i : ℕ} {T T₁ T₂ : List ℕ} {r r′ : Answer}
     (make : List Token → Part s → Part s′)
     → ((ts : List Token) (a : Part s) (t : List ℕ) → (i ≡ rowOf (make ts a)) × (node (store a t) i (startAt ts i) (rowOf a) absent ≡ store (make ts a) t))
-    → n ≤ 2048 → i < n → PiecePost (part s) P enough low n top T r T₁ → OnePart i T₁ r r′ T₂
+    → n ≤ tokensMost → i < n → PiecePost (part s) P enough low n top T r T₁ → OnePart i T₁ r r′ T₂
     → PiecePost (part s′) (λ f ts. bind (P f ts) λ a j. ok (make ts a) j) enough low n n T r′ T₂
 then-node {enough = enough} {low} {n} {top} {i} {T} {T₁} make is-made few il p s = record {
-  kept = whole-kept (λ x. given-node T₁ i (col T₁ 1 i) x absent) s ∙ p .kept;
+  kept = whole-kept (λ x. given-node T₁ i (col T₁ cStart i) x absent) s ∙ p .kept;
   within = whole-within low low n top n (omega arith) il s (p .within);
   says = λ ts h f en. whole-met (make ts) (λ a ta. let m = is-made ts a T in
       (m .0, ap (λ (b : ℕ). node T₁ i b (rowOf a) absent) (tokens-kept few (p .kept) h .starts i il) ∙ ap (λ (t : List ℕ). node t i (startAt ts i) (rowOf a) absent) ta ∙ m .1))
@@ -232,7 +233,7 @@ then-node {enough = enough} {low} {n} {top} {i} {T} {T₁} make is-made few il p
 
 -- a node that begins with token `first`, of whose two parts a piece is the first; R is the definition of the second
 pub then-second : {s s₂ s′ : Sort} {P : ℕ → List Token → Parsed (Part s)} {enough low n top i first x j low₂ top₂ : ℕ} {T T₁ T₂ T₃ : List ℕ} {r r₂ r′ : Answer}
-    → n ≤ 2048 → PiecePost (part s) P enough low n top T r T₁ → r ≡ At x j → (make : List Token → Part s → Part s₂ → Part s′)
+    → n ≤ tokensMost → PiecePost (part s) P enough low n top T r T₁ → r ≡ At x j → (make : List Token → Part s → Part s₂ → Part s′)
     → ((ts : List Token) (a : Part s) (b : Part s₂) (t : List ℕ)
     → (i ≡ rowOf (make ts a b)) × (node (store b (store a t)) i (startAt ts first) (rowOf a) (rowOf b) ≡ store (make ts a b) t))
     → (R : ℕ → List Token → ℕ → Parsed (Part s₂)) → i < n → first < n → low ≤ low₂
@@ -240,7 +241,7 @@ pub then-second : {s s₂ s′ : Sort} {P : ℕ → List Token → Parsed (Part 
     → PiecePost (part s′) (λ f ts. bind (P f ts) λ a j. bind (R f ts j) λ b j. ok (make ts a b) j) enough low n n T r′ T₃
 then-second {enough = enough} {low} {n} {i = i} {first} {x} {low₂ = low₂} {top₂} {T} {T₂ = T₂} few p e make is-made R il fl le q s =
     then-on few p (λ f ts a j. bind (R f ts j) λ b j. ok (make ts a b) j) e
-    (whole-kept (λ y. given-node T₂ i (col T₂ 1 first) x y) s ∙ q .kept)
+    (whole-kept (λ y. given-node T₂ i (col T₂ cStart first) x y) s ∙ q .kept)
     (whole-within low₂ low n top₂ n le il s (q .within))
     (λ ts h f en a ea ta. whole-met (make ts a)
     (λ b tb. let m = is-made ts a b T in (m .0, rw (tokens-kept few (q .kept) h .starts first fl, ea, tb, ta) (m .1))) s (q .says ts h f en))
@@ -264,27 +265,27 @@ module _ {s : Sort} {m : Mode s} {n top i : ℕ} {T T₁ : List ℕ} {r : Answer
 
 module _ {n i : ℕ} {T T₁ : List ℕ} {r : Answer} where
   pub of-list : (enough : ℕ) → fuel statementList n i ≤ enough → ListPost n i T r T₁
-      → PiecePost (part statements) (λ f ts. parseAs f ts statementList i) enough i n 2049 T r T₁
+      → PiecePost (part statements) (λ f ts. parseAs f ts statementList i) enough i n listTop T r T₁
   of-list enough le p = record { kept = p .kept; within = p .within; says = λ ts h f en. p .says ts h f (omega arith) }
 
   pub as-list : {P : ℕ → List Token → Parsed (Part statements)} {enough low : ℕ} → enough < fuel statementList n i → i ≤ low
       → ((f : ℕ) (ts : List Token) → TokensIn T n ts → step ts (λ s m j. parseAs f ts m j) statementList i ≡ P f ts)
-      → PiecePost (part statements) P enough low n 2049 T r T₁ → ListPost n i T r T₁
+      → PiecePost (part statements) P enough low n listTop T r T₁ → ListPost n i T r T₁
   as-list {low = low} lt le steps p = record {
     kept = p .kept;
-    within = within-more low i n 2049 2049 r le (omega arith) (p .within);
+    within = within-more low i n listTop listTop r le (omega arith) (p .within);
     says = λ ts h. stepped statementList ts i (fuel statementList n i) (λ f en. at-result (steps f ts h) (p .says ts h f (omega arith)));
   }
 
 -- the row of what was read, or none
-pub mode-fits : {s : Sort} {m : Mode s} {n i : ℕ} {T T₁ : List ℕ} {r : Answer} → n ≤ 2048 → ModePost m n n i T r T₁ → RowFits r
+pub mode-fits : {s : Sort} {m : Mode s} {n i : ℕ} {T T₁ : List ℕ} {r : Answer} → n ≤ tokensMost → ModePost m n n i T r T₁ → RowFits r
 mode-fits {n = n} {i} {r = r} few p = row-fits (i + 1) n n r (p .within) (omega arith)
 
-pub arguments-fit : {m : Mode arguments} {n i : ℕ} {T T₁ : List ℕ} {r : Answer} → ModePost m n 2049 i T r T₁ → RowFits r
-arguments-fit {n = n} {i} {r = r} p = row-fits (i + 1) n 2049 r (p .within) (omega arith)
+pub arguments-fit : {m : Mode arguments} {n i : ℕ} {T T₁ : List ℕ} {r : Answer} → ModePost m n listTop i T r T₁ → RowFits r
+arguments-fit {n = n} {i} {r = r} p = row-fits (i + 1) n listTop r (p .within) (omega arith)
 
 pub list-fits : {n i : ℕ} {T T₁ : List ℕ} {r : Answer} → ListPost n i T r T₁ → RowFits r
-list-fits {n} {i} {r = r} p = row-fits i n 2049 r (p .within) (omega arith)
+list-fits {n} {i} {r = r} p = row-fits i n listTop r (p .within) (omega arith)
 
 -- declarations as pieces, and pieces as declarations; a list's parser takes one of the fuel
 module _ {d : Declaration} {n i : ℕ} {T T₁ : List ℕ} {r : Answer} where
@@ -309,7 +310,7 @@ module _ {d : Declaration} {n i : ℕ} {T T₁ : List ℕ} {r : Answer} where
       says = λ ts h. at-suc (λ f. itemFrom d f ts i) (λ f en. at-result (steps f ts h) (p .says ts h f (omega arith)));
     }
 
-pub declared-fits : {d : Declaration} {n i : ℕ} {T T₁ : List ℕ} {r : Answer} → DeclPost d n i T r T₁ → topOf d n ≤ 2049 → RowFits r
+pub declared-fits : {d : Declaration} {n i : ℕ} {T T₁ : List ℕ} {r : Answer} → DeclPost d n i T r T₁ → topOf d n ≤ listTop → RowFits r
 declared-fits {d} {n} {i} {r = r} p h = row-fits (lowOf d i) n (topOf d n) r (p .within) h
 
 -- a piece by another definition of it

@@ -8,16 +8,17 @@ use mathlib.Core.Bool.{Bool, true, false}
 use native.Mathlib.Omega.{arith}
 use lib.Dec.{eqb}
 use borrow.Author.Tests.{ne-eqb}
-use Rattle.base.specs.contracts.Table.{put}
+use Rattle.base.specs.contracts.Table.{put, cNext, cType}
 use Rattle.base.specs.laws.Tests.{or-neither}
-use Rattle.lexer.specs.Kinds.{isName, kClose, kCloseBracket, kComma, kFixed, kOpenBrace, kOpenBracket}
+use Rattle.base.specs.Codes.{tokensMost}
+use Rattle.lexer.specs.Kinds.{isName, kClose, kCloseBracket, kComma, kFixed, kOpenBrace, kOpenBracket, kSemicolon}
 use Rattle.lexer.specs.Tokens.{Token}
 use Rattle.parser.specs.declared.answer.Answer.{Answer}
 use Rattle.parser.specs.declared.answer.Answer.the-variants.{At, Bad}
 use Rattle.parser.specs.Tree.{Variable}
 use Rattle.parser.specs.Stream.{nameAt}
 use Rattle.parser.specs.Parse.{ok, bind, beginsType, typeFrom, variableFrom, beginsVariable, variablesFrom, someParameters, parametersFrom}
-use Rattle.parser.specs.contracts.Layout.{given, rowVariables, storeVariable, storeVariables}
+use Rattle.parser.specs.contracts.Layout.{given, rowVariables, storeVariable, storeVariables, absent, listTop}
 use Rattle.parser.specs.contracts.Post.{kindInTable, TokensIn, beginsElement, met-ok, met-bad}
 use Rattle.parser.specs.contracts.DeclarationPost.{declarationStored, OpenedPost, aType, aVariable, variableList, parameterList}
 use Rattle.parser.specs.contracts.DeclarationPost.{formals, DeclPost, followsType, startsVariable}
@@ -34,12 +35,8 @@ module _ {n i k : ℕ} {T : List ℕ} (ek : k ≡ kindInTable T n i) where
   pub type-fixed : k ≡ kFixed → DeclPost aType n i T (At i (i + 1)) T
   unfolding typeFrom
   type-fixed z =
-      let l = there T n i k 43 ek z (omega arith) in
-      record {
-        kept = refl;
-        within = (omega arith, omega arith, omega arith);
-        says = λ ts h f enough. rw (is h i ek z) (met-ok refl refl);
-      }
+      let l = there T n i k kFixed ek z (omega arith) in
+      record { kept = refl; within = (omega arith, omega arith, omega arith); says = λ ts h f enough. rw (is h i ek z) (met-ok refl refl) }
 
   module _ {b : Bool} {k₁ : ℕ} (eb : b ≡ beginsType k true) (t : b ≡ true) (z : k ≢ kFixed) (ek₁ : k₁ ≡ kindInTable T n (i + 1)) where
     -- what the definition reads there
@@ -49,7 +46,7 @@ module _ {n i k : ℕ} {T : List ℕ} (ek : k ≡ kindInTable T n i) where
     pub type-array : {k₂ : ℕ} → k₁ ≡ kOpenBracket → k₂ ≡ kindInTable T n (i + 2) → k₂ ≡ kCloseBracket → DeclPost aType n i T (At i (i + 3)) T
     unfolding typeFrom
     type-array z₁ ek₂ z₂ =
-        let l = there T n (i + 2) _ 37 ek₂ z₂ (omega arith) in
+        let l = there T n (i + 2) _ kCloseBracket ek₂ z₂ (omega arith) in
         record {
           kept = refl;
           within = (omega arith, omega arith, omega arith);
@@ -87,7 +84,7 @@ module _ {n i k : ℕ} {T : List ℕ} (ek : k ≡ kindInTable T n i) where
       }
 
 -- A TYPE AND A NAME
-is-variable : (v : Variable) (t : List ℕ) → storeVariable v t ≡ put t 3 (v .name .row) (v .type .row)
+is-variable : (v : Variable) (t : List ℕ) → storeVariable v t ≡ put t cType (v .name .row) (v .type .row)
 unfolding storeVariable
 is-variable v t = refl
 
@@ -97,13 +94,13 @@ module _ {n i : ℕ} {T : List ℕ} {r₁ : Answer} (p : DeclPost aType n i T r�
   variable-bad e = record { kept = refl; within = tt; says = λ ts h f enough. bind-bad _ e (p .says ts h f enough) }
 
   module _ {x j k : ℕ} {b : Bool} (e : r₁ ≡ At x j) (ek : k ≡ kindInTable T n j) (eb : b ≡ isName k) where
-    pub variable-ok : {T₁ : List ℕ} → b ≡ true → T₁ ≡ put T 3 j x → DeclPost aVariable n i T (At j (j + 1)) T₁
+    pub variable-ok : {T₁ : List ℕ} → b ≡ true → T₁ ≡ put T cType j x → DeclPost aVariable n i T (At j (j + 1)) T₁
     unfolding variableFrom
     variable-ok {T₁} t eT =
         let l = name-there T n j k ek eb t in
         let w = within-ok e (p .within) in
         record {
-          kept = ap given eT ∙ given-put T 3 j x (omega arith);
+          kept = ap given eT ∙ given-put T cType j x (omega arith);
           within = (omega arith, omega arith, omega arith);
           says = λ ts h f enough. bind-ok _ e (p .says ts h f enough) (λ u eu tu. rw (passes h isName j ek (sym eb ∙ t))
               (met-ok {a = record { type = u; name = nameAt ts j }} refl (eT ∙ cc (is-variable (record { type = u; name = nameAt ts j }) T))));
@@ -145,32 +142,32 @@ module _ (T : List ℕ) (c : Bool) (n i : ℕ) where
 
 -- LISTS
 is-more : (v : Variable) (vs : List Variable) (t : List ℕ)
-    → (v .name .row ≡ rowVariables (v ∷ vs)) × (put (storeVariables vs (storeVariable v t)) 6 (v .name .row) (rowVariables vs) ≡ storeVariables (v ∷ vs) t)
+    → (v .name .row ≡ rowVariables (v ∷ vs)) × (put (storeVariables vs (storeVariable v t)) cNext (v .name .row) (rowVariables vs) ≡ storeVariables (v ∷ vs) t)
 unfolding storeVariables
 is-more v vs t = (refl, refl)
 
-is-none : (t : List ℕ) → (rowVariables [] ≡ 2048) × (storeVariables [] t ≡ t)
+is-none : (t : List ℕ) → (rowVariables [] ≡ absent) × (storeVariables [] t ≡ t)
 unfolding storeVariables
 is-none t = (refl, refl)
 
-first-variable : {n i : ℕ} {T T₁ : List ℕ} {r₁ r₂ : Answer} → n ≤ 2048 → DeclPost aVariable n i T r₁ T₁ → Follows T₁ n 33 r₁ r₂
-    → PiecePost (declarationStored aVariable) (λ f ts. andToken ts 33 (variableFrom ts i)) (16 * (n - i)) (i + 2 + 1) n n T r₂ T₁
+first-variable : {n i : ℕ} {T T₁ : List ℕ} {r₁ r₂ : Answer} → n ≤ tokensMost → DeclPost aVariable n i T r₁ T₁ → Follows T₁ n kSemicolon r₁ r₂
+    → PiecePost (declarationStored aVariable) (λ f ts. andToken ts kSemicolon (variableFrom ts i)) (16 * (n - i)) (i + 2 + 1) n n T r₂ T₁
 first-variable {n} {i} few p s = then-token few (of-declaration (16 * (n - i)) (omega arith) p) (omega arith) s
 
 more-variables : (T : List ℕ) (c : Bool) (n i : ℕ) → startsVariable T c n i ≡ true → (f : ℕ) (ts : List Token) → TokensIn T n ts
-    → variablesFrom (suc f) c ts i ≡ bind (andToken ts 33 (variableFrom ts i)) (λ v j. bind (variablesFrom f c ts j) λ vs j. ok (v ∷ vs) j)
+    → variablesFrom (suc f) c ts i ≡ bind (andToken ts kSemicolon (variableFrom ts i)) (λ v j. bind (variablesFrom f c ts j) λ vs j. ok (v ∷ vs) j)
 unfolding variablesFrom
-more-variables T c n i t f ts h = rw (begins T c n i h ∙ t) (regroup ts 33 (λ v j. bind (variablesFrom f c ts j) λ vs j. ok (v ∷ vs) j) (variableFrom ts i))
+more-variables T c n i t f ts h = rw (begins T c n i h ∙ t) (regroup ts kSemicolon (λ v j. bind (variablesFrom f c ts j) λ vs j. ok (v ∷ vs) j) (variableFrom ts i))
 
 module _ {n i : ℕ} {T : List ℕ} {c : Bool} where
-  pub variables-end : {b : Bool} → i ≤ n → b ≡ startsVariable T c n i → b ≡ false → DeclPost (variableList c) n i T (At 2048 i) T
+  pub variables-end : {b : Bool} → i ≤ n → b ≡ startsVariable T c n i → b ≡ false → DeclPost (variableList c) n i T (At absent i) T
   unfolding variablesFrom
   variables-end le eb t =
       list-end (variableList c) [] (omega arith) le (omega arith) refl (sym (is-none T .1))
       (λ f ts h. rw (begins T c n i h ∙ sym eb ∙ t) refl)
 
-  module _ {T₁ : List ℕ} {r₁ r₂ : Answer} {b : Bool} (few : n ≤ 2048) (eb : b ≡ startsVariable T c n i) (t : b ≡ true)
-      (p : DeclPost aVariable n i T r₁ T₁) (s : Follows T₁ n 33 r₁ r₂) where
+  module _ {T₁ : List ℕ} {r₁ r₂ : Answer} {b : Bool} (few : n ≤ tokensMost) (eb : b ≡ startsVariable T c n i) (t : b ≡ true)
+      (p : DeclPost aVariable n i T r₁ T₁) (s : Follows T₁ n kSemicolon r₁ r₂) where
     pub variables-bad : {y : ℕ} → r₂ ≡ Bad y → DeclPost (variableList c) n i T (Bad y) T₁
     variables-bad e = list-bad (variableList c) i _∷_ few (first-variable few p s) (omega arith) (more-variables T c n i (sym eb ∙ t)) e
 
@@ -189,7 +186,7 @@ module _ {c : Bool} {n j k : ℕ} {T : List ℕ} (ek : k ≡ kindInTable T n j) 
 
   pub opened-ok : {T₁ : List ℕ} {r : Answer} → k ≡ kOpenBrace → DeclPost (variableList c) n (j + 1) T r T₁ → OpenedPost c n j T r T₁
   opened-ok z p =
-      let l = there T n j k 38 ek z (omega arith) in
+      let l = there T n j k kOpenBrace ek z (omega arith) in
       record { piece = as-piece (omega arith) (omega arith) (λ f ts h. rw (is h j ek z) refl) (of-declaration (16 * (n - j)) (omega arith) p) }
 
 -- PARAMETERS
@@ -198,14 +195,14 @@ some-parameters : (f : ℕ) (ts : List Token) (i : ℕ)
 unfolding someParameters
 some-parameters f ts i = refl
 
-module _ {n i : ℕ} {T T₁ : List ℕ} {r₁ : Answer} (few : n ≤ 2048) (p : DeclPost aVariable n i T r₁ T₁) where
+module _ {n i : ℕ} {T T₁ : List ℕ} {r₁ : Answer} (few : n ≤ tokensMost) (p : DeclPost aVariable n i T r₁ T₁) where
   pub parameter-bad : {y : ℕ} → r₁ ≡ Bad y → DeclPost parameterList n i T (Bad y) T₁
   parameter-bad e =
-      as-declarations (omega arith) (then-bad few (of-declaration (16 * (n - i)) (omega arith) p) (i + 1) 2049 (λ f ts. member ts _∷_ [] (someParameters f ts)) e)
+      as-declarations (omega arith) (then-bad few (of-declaration (16 * (n - i)) (omega arith) p) (i + 1) listTop (λ f ts. member ts _∷_ [] (someParameters f ts)) e)
       (omega arith) (λ f ts h. some-parameters f ts i)
 
   module _ {x j k : ℕ} (e : r₁ ≡ At x j) (ek : k ≡ kindInTable T₁ n j) where
-    pub parameter-last : {T₂ : List ℕ} → k ≡ kClose → T₂ ≡ put T₁ 6 x 2048 → DeclPost parameterList n i T (At x (j + 1)) T₂
+    pub parameter-last : {T₂ : List ℕ} → k ≡ kClose → T₂ ≡ put T₁ cNext x absent → DeclPost parameterList n i T (At x (j + 1)) T₂
     parameter-last z eT =
         as-declarations (omega arith)
         (last-member few (of-declaration (16 * (n - i)) (omega arith) p) _∷_ [] is-more is-none (λ f ts j. someParameters f ts j) (omega arith) e ek z eT)
@@ -226,15 +223,11 @@ module _ {n i : ℕ} {T T₁ : List ℕ} {r₁ : Answer} (few : n ≤ 2048) (p :
         (of-declaration (16 * (n - i)) (omega arith) q) l) (omega arith) (λ f ts h. some-parameters f ts i)
 
 module _ {n i k : ℕ} {T : List ℕ} (ek : k ≡ kindInTable T n i) where
-  pub formals-none : k ≡ kClose → DeclPost formals n i T (At 2048 (i + 1)) T
+  pub formals-none : k ≡ kClose → DeclPost formals n i T (At absent (i + 1)) T
   unfolding parametersFrom
   formals-none z =
-      let l = there T n i k 35 ek z (omega arith) in
-      record {
-        kept = refl;
-        within = (omega arith, omega arith, omega arith);
-        says = λ ts h f enough. rw (is h i ek z) (met-ok refl (sym (is-none T .1)));
-      }
+      let l = there T n i k kClose ek z (omega arith) in
+      record { kept = refl; within = (omega arith, omega arith, omega arith); says = λ ts h f enough. rw (is h i ek z) (met-ok refl (sym (is-none T .1))) }
 
   pub formals-some : {T₁ : List ℕ} {r : Answer} → k ≢ kClose → DeclPost parameterList n i T r T₁ → DeclPost formals n i T r T₁
   unfolding parametersFrom

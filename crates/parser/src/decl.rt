@@ -35,7 +35,10 @@ ghost use mathlib.Core.Path.{_≡_};
 ghost use mathlib.Core.Bool.{true};
 ghost use Prim.Native.Nat.{_+_, _<_, _≤_};
 ghost use lib.ListN.{length};
-ghost use Rattle.parser.specs.contracts.Layout.{methodRow, classRow};
+ghost use Rattle.base.specs.Codes.{tokensMost, tableLeast};
+ghost use Rattle.base.specs.contracts.Table.{rows};
+ghost use Rattle.lexer.specs.Kinds.{kPublic};
+ghost use Rattle.parser.specs.contracts.Layout.{methodRow, classRow, absent};
 ghost use Rattle.parser.specs.contracts.Post.{Parsable, kindInTable};
 ghost use Rattle.parser.specs.contracts.DeclarationPost.{DeclPost, OpenedPost, LocalsPost, BodyPost, ReturnedPost, MembersPost};
 ghost use Rattle.parser.specs.contracts.DeclarationPost.{ClassMethodsPost, ProgramPost};
@@ -45,7 +48,7 @@ ghost use Rattle.parser.specs.contracts.DeclarationPost.{aParent, aClass
 
 // A type; its row is that of its first token. No array holds `fixed`, so what follows it is not looked at.
 fn type_use(table: &[u32], n: usize, i: usize) -> Answer
-    requires { ⌜ (n ≤ 2048) × (i ≤ n) × (n ≤ length (now table)) ⌝ }
+    requires { ⌜ (n ≤ tokensMost) × (i ≤ n) × (n ≤ length (now table)) ⌝ }
     ensures { λ r. ⌜ DeclPost aType n i (now (table .entry)) r (now (table .entry)) ⌝ }
 {
     let k = kind(table, n, i);
@@ -84,7 +87,7 @@ fn variable(table: &mut [u32], n: usize, i: usize) -> Answer
 
 // Whether a name before token i is a type: in a class it is, in a body where another name or `[]` follows it.
 fn follows_type(table: &[u32], in_class: bool, n: usize, i: usize) -> bool
-    requires { ⌜ (n ≤ 2048) × (i ≤ n + 1) × (n ≤ length (now table)) ⌝ }
+    requires { ⌜ (n ≤ tokensMost) × (i ≤ n + 1) × (n ≤ length (now table)) ⌝ }
     ensures { λ r. ⌜ r ≡ followsType (now (table .entry)) «in_class» n i ⌝ }
 {
     if in_class {
@@ -99,7 +102,7 @@ fn follows_type(table: &[u32], in_class: bool, n: usize, i: usize) -> bool
 
 // Whether a variable begins here.
 fn starts_variable(table: &[u32], in_class: bool, n: usize, i: usize) -> bool
-    requires { ⌜ (n ≤ 2048) × (i ≤ n) × (n ≤ length (now table)) ⌝ }
+    requires { ⌜ (n ≤ tokensMost) × (i ≤ n) × (n ≤ length (now table)) ⌝ }
     ensures { λ r. ⌜ r ≡ startsVariable (now (table .entry)) «in_class» n i ⌝ }
 {
     let named = follows_type(table, in_class, n, i + 1);
@@ -174,7 +177,7 @@ fn some_parameters(table: &mut [u32], n: usize, i: usize) -> Answer
 
 // A method, from `public` to the `}` of its body.
 fn method(table: &mut [u32], n: usize, i: usize) -> Answer
-    requires { ⌜ Parsable (now table) n i × (kindInTable (now table) n i ≡ 15) ⌝ }
+    requires { ⌜ Parsable (now table) n i × (kindInTable (now table) n i ≡ kPublic) ⌝ }
     ensures { λ r. ⌜ DeclPost aMethod n i (now (table .entry)) r (now (table .exit)) ⌝ }
 {
     let a = variable(table, n, i + 1);
@@ -193,7 +196,7 @@ fn method(table: &mut [u32], n: usize, i: usize) -> Answer
 
 // A method after its parameters.
 fn locals(table: &mut [u32], n: usize, name: usize, first: usize, j: usize) -> Answer
-    requires { ⌜ Parsable (now table) n j × (name + 1 < n) × (first ≤ 2048) ⌝ }
+    requires { ⌜ Parsable (now table) n j × (name + 1 < n) × (first ≤ absent) ⌝ }
     ensures { λ r. ⌜ LocalsPost n name first j (now (table .entry)) r (now (table .exit)) ⌝ }
 {
     let a = opened(table, false, n, j);
@@ -205,7 +208,7 @@ fn locals(table: &mut [u32], n: usize, name: usize, first: usize, j: usize) -> A
 
 // A method after its locals.
 fn body(table: &mut [u32], n: usize, name: usize, first: usize, second: usize, j: usize) -> Answer
-    requires { ⌜ Parsable (now table) n j × (name + 1 < n) × (first ≤ 2048) × (second ≤ 2048) ⌝ }
+    requires { ⌜ Parsable (now table) n j × (name + 1 < n) × (first ≤ absent) × (second ≤ absent) ⌝ }
     ensures { λ r. ⌜ BodyPost n name first second j (now (table .entry)) r (now (table .exit)) ⌝ }
 {
     let a = list(table, n, j);
@@ -226,7 +229,7 @@ fn returned(
     start: usize,
     j: usize,
 ) -> Answer
-    requires { ⌜ Parsable (now table) n j × (name + 1 < n) × (first ≤ 2048) × (second ≤ 2048) × (start ≤ 2048) ⌝ }
+    requires { ⌜ Parsable (now table) n j × (name + 1 < n) × (first ≤ absent) × (second ≤ absent) × (start ≤ absent) ⌝ }
     ensures { λ r. ⌜ ReturnedPost n name first second start j (now (table .entry)) r (now (table .exit)) ⌝ }
 {
     let a = operation(table, n, 0, j);
@@ -250,7 +253,7 @@ fn method_row(
     start: usize,
     value: usize,
 )
-    requires { ⌜ (16384 ≤ length (now table)) × (name + 1 < 2048) × (first ≤ 2048) × (second ≤ 2048) × (start ≤ 2048) × (value ≤ 2048) ⌝ }
+    requires { ⌜ (tableLeast ≤ length (now table)) × (name + 1 < rows) × (first ≤ absent) × (second ≤ absent) × (start ≤ absent) × (value ≤ absent) ⌝ }
     ensures { λ _. ⌜ now (table .exit) ≡ methodRow (now (table .entry)) name first second start value ⌝ }
 {
     put(table, columns::PARAMETERS, name, first);
@@ -281,7 +284,7 @@ fn methods(table: &mut [u32], n: usize, i: usize) -> Answer
 
 // `extends` and a name, or nothing; the row is that of the name.
 fn parent(table: &[u32], n: usize, i: usize) -> Answer
-    requires { ⌜ (n ≤ 2048) × (i ≤ n) × (n ≤ length (now table)) ⌝ }
+    requires { ⌜ (n ≤ tokensMost) × (i ≤ n) × (n ≤ length (now table)) ⌝ }
     ensures { λ r. ⌜ DeclPost aParent n i (now (table .entry)) r (now (table .entry)) ⌝ }
 {
     if kind(table, n, i) == EXTENDS {
@@ -317,7 +320,7 @@ fn class(table: &mut [u32], n: usize, i: usize) -> Answer
 
 // A class after its parent.
 fn members(table: &mut [u32], n: usize, name: usize, above: usize, j: usize) -> Answer
-    requires { ⌜ Parsable (now table) n j × (name < n) × (above ≤ 2048) ⌝ }
+    requires { ⌜ Parsable (now table) n j × (name < n) × (above ≤ absent) ⌝ }
     ensures { λ r. ⌜ MembersPost n name above j (now (table .entry)) r (now (table .exit)) ⌝ }
 {
     let a = opened(table, true, n, j);
@@ -336,7 +339,7 @@ fn class_methods(
     first: usize,
     j: usize,
 ) -> Answer
-    requires { ⌜ Parsable (now table) n j × (name < n) × (above ≤ 2048) × (first ≤ 2048) ⌝ }
+    requires { ⌜ Parsable (now table) n j × (name < n) × (above ≤ absent) × (first ≤ absent) ⌝ }
     ensures { λ r. ⌜ ClassMethodsPost n name above first j (now (table .entry)) r (now (table .exit)) ⌝ }
 {
     let a = methods(table, n, j);
@@ -352,7 +355,7 @@ fn class_methods(
 
 // A class's columns: its parent's name, its fields and methods.
 fn class_row(table: &mut [u32], name: usize, above: usize, first: usize, second: usize)
-    requires { ⌜ (16384 ≤ length (now table)) × (name < 2048) × (above ≤ 2048) × (first ≤ 2048) × (second ≤ 2048) ⌝ }
+    requires { ⌜ (tableLeast ≤ length (now table)) × (name < rows) × (above ≤ absent) × (first ≤ absent) × (second ≤ absent) ⌝ }
     ensures { λ _. ⌜ now (table .exit) ≡ classRow (now (table .entry)) name above first second ⌝ }
 {
     put(table, columns::PARENT, name, above);

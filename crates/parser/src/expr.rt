@@ -28,8 +28,11 @@ ghost use mathlib.Core.Path.{_≡_};
 ghost use mathlib.Core.Bool.{true};
 ghost use Prim.Native.Nat.{_+_, _<_, _≤_};
 ghost use lib.ListN.{length};
+ghost use Rattle.base.specs.Codes.{tokensMost};
+ghost use Rattle.lexer.specs.Kinds as Kinds;
 ghost use Rattle.parser.specs.Parse as Parse;
 ghost use Rattle.parser.specs.contracts.Post.{Parsable, ModePost, RestPost, LevelsPost, moreOperations, moreSuffixes, levelAt, kindInTable, startsArray};
+ghost use Rattle.parser.specs.contracts.Layout as Layout;
 
 // Operands of a level, joined by its operators. At every level a unary expression comes first. It is read here, and the levels are gone through after it, so
 // that an open parenthesis holds one frame of the stack and not one for each level.
@@ -123,7 +126,7 @@ fn unary(table: &mut [u32], n: usize, i: usize) -> Answer
 
 // Whether `new T[e]` begins here: after `new` a class makes an array where a `[` follows it.
 fn starts_array(table: &[u32], n: usize, i: usize) -> bool
-    requires { ⌜ (n ≤ 2048) × (i ≤ n) × (n ≤ length (now table)) ⌝ }
+    requires { ⌜ (n ≤ tokensMost) × (i ≤ n) × (n ≤ length (now table)) ⌝ }
     ensures { λ r. ⌜ r ≡ startsArray (now (table .entry)) n i ⌝ }
 {
     if kind(table, n, i) == NEW {
@@ -200,7 +203,7 @@ fn suffixes(
 
 // `[e]` and what follows it.
 fn element(table: &mut [u32], n: usize, first: usize, left: usize, i: usize) -> Answer
-    requires { ⌜ Parsable (now table) n i × (first < n) × (left < n) × (kindInTable (now table) n i ≡ 36) ⌝ }
+    requires { ⌜ Parsable (now table) n i × (first < n) × (left < n) × (kindInTable (now table) n i ≡ Kinds.kOpenBracket) ⌝ }
     ensures { λ r. ⌜ RestPost (moreSuffixes true first) n left i (now (table .entry)) r (now (table .exit)) ⌝ }
 {
     let a = operation(table, n, 0, i + 1);
@@ -216,7 +219,8 @@ fn element(table: &mut [u32], n: usize, first: usize, left: usize, i: usize) -> 
 
 // `.m(e, ..)` and what follows it.
 fn call(table: &mut [u32], n: usize, indexable: bool, first: usize, left: usize, i: usize) -> Answer
-    requires { ⌜ Parsable (now table) n i × (first < n) × (left < n) × (kindInTable (now table) n i ≡ 31) × (kindInTable (now table) n (i + 1) ≡ 12 → ⊥) ⌝ }
+    requires { ⌜ Parsable (now table) n i × (first < n) × (left < n) × (kindInTable (now table) n i ≡ Kinds.kDot)
+        × (kindInTable (now table) n (i + 1) ≡ Kinds.kLength → ⊥) ⌝ }
     ensures { λ r. ⌜ RestPost (moreSuffixes indexable first) n left i (now (table .entry)) r (now (table .exit)) ⌝ }
 {
     if is_name(kind(table, n, i + 1)) {
@@ -261,7 +265,7 @@ fn primary(table: &mut [u32], n: usize, i: usize) -> Answer
 
 // `new C()`.
 fn new_object(table: &mut [u32], n: usize, i: usize) -> Answer
-    requires { ⌜ Parsable (now table) n i × (kindInTable (now table) n i ≡ 14) ⌝ }
+    requires { ⌜ Parsable (now table) n i × (kindInTable (now table) n i ≡ Kinds.kNew) ⌝ }
     ensures { λ r. ⌜ ModePost Parse.primary n n i (now (table .entry)) r (now (table .exit)) ⌝ }
 {
     if is_name(kind(table, n, i + 1)) {
@@ -279,7 +283,7 @@ fn new_object(table: &mut [u32], n: usize, i: usize) -> Answer
 
 // `(e)`, which makes no node. Its `)` is looked for here and not by `followed`: an open parenthesis then holds 16 bytes less of the stack.
 fn parentheses(table: &mut [u32], n: usize, i: usize) -> Answer
-    requires { ⌜ Parsable (now table) n i × (kindInTable (now table) n i ≡ 34) ⌝ }
+    requires { ⌜ Parsable (now table) n i × (kindInTable (now table) n i ≡ Kinds.kOpen) ⌝ }
     ensures { λ r. ⌜ ModePost Parse.primary n n i (now (table .entry)) r (now (table .exit)) ⌝ }
 {
     let a = operation(table, n, 0, i + 1);
@@ -296,7 +300,7 @@ fn parentheses(table: &mut [u32], n: usize, i: usize) -> Answer
 
 // `Port.get(e)`
 fn port_get(table: &mut [u32], n: usize, i: usize) -> Answer
-    requires { ⌜ Parsable (now table) n i × (kindInTable (now table) n i ≡ 40) ⌝ }
+    requires { ⌜ Parsable (now table) n i × (kindInTable (now table) n i ≡ Kinds.kPort) ⌝ }
     ensures { λ r. ⌜ ModePost Parse.primary n n i (now (table .entry)) r (now (table .exit)) ⌝ }
 {
     let m = member_head(table, n, i, GET);
@@ -311,7 +315,7 @@ fn port_get(table: &mut [u32], n: usize, i: usize) -> Answer
 // The arguments of a call, with the `)` that ends them.
 fn arguments(table: &mut [u32], n: usize, i: usize) -> Answer
     requires { ⌜ Parsable (now table) n i ⌝ }
-    ensures { λ r. ⌜ ModePost Parse.argumentList n 2049 i (now (table .entry)) r (now (table .exit)) ⌝ }
+    ensures { λ r. ⌜ ModePost Parse.argumentList n Layout.listTop i (now (table .entry)) r (now (table .exit)) ⌝ }
 {
     if kind(table, n, i) == CLOSE {
         Answer::At(columns::ABSENT, i + 1)
@@ -323,7 +327,7 @@ fn arguments(table: &mut [u32], n: usize, i: usize) -> Answer
 // One or more arguments.
 fn some_arguments(table: &mut [u32], n: usize, i: usize) -> Answer
     requires { ⌜ Parsable (now table) n i ⌝ }
-    ensures { λ r. ⌜ ModePost Parse.someArguments n 2049 i (now (table .entry)) r (now (table .exit)) ⌝ }
+    ensures { λ r. ⌜ ModePost Parse.someArguments n Layout.listTop i (now (table .entry)) r (now (table .exit)) ⌝ }
 {
     let a = operation(table, n, 0, i);
     match a {

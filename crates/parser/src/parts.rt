@@ -6,11 +6,14 @@ use crate::table::link;
 use crate::table::node;
 ghost use Prim.Native.Nat.{_<_, _≤_};
 ghost use lib.ListN.{length};
+ghost use Rattle.base.specs.Codes.{tokensMost, tableLeast};
+ghost use Rattle.base.specs.contracts.Table.{rows};
 ghost use Rattle.parser.specs.contracts.Parts.{Follows, RowFits, ListOf, OnePart, TwoParts};
+ghost use Rattle.parser.specs.contracts.Layout.{absent};
 
 // What was read, with a token of this kind after it.
 pub fn followed(table: &[u32], n: usize, a: Answer, wanted: u32) -> Answer
-    requires { ⌜ (n ≤ 2048) × (n ≤ length (now table)) × (0 < wanted) ⌝ }
+    requires { ⌜ (n ≤ tokensMost) × (n ≤ length (now table)) × (0 < wanted) ⌝ }
     ensures { λ r. ⌜ Follows (now (table .entry)) n wanted a r ⌝ }
 {
     match a {
@@ -26,7 +29,7 @@ pub fn followed(table: &[u32], n: usize, a: Answer, wanted: u32) -> Answer
 
 // A list: its first member, which has this row, and the rest of it.
 pub fn linked(table: &mut [u32], row: usize, rest: Answer) -> Answer
-    requires { ⌜ (16384 ≤ length (now table)) × (row < 2048) × RowFits rest ⌝ }
+    requires { ⌜ (tableLeast ≤ length (now table)) × (row < rows) × RowFits rest ⌝ }
     ensures { λ r. ⌜ ListOf row (now (table .entry)) rest r (now (table .exit)) ⌝ }
 {
     match rest {
@@ -40,7 +43,7 @@ pub fn linked(table: &mut [u32], row: usize, rest: Answer) -> Answer
 
 // A node that begins with its own token and has one part.
 pub fn one_part(table: &mut [u32], row: usize, part: Answer) -> Answer
-    requires { ⌜ (16384 ≤ length (now table)) × (row < 2048) × RowFits part ⌝ }
+    requires { ⌜ (tableLeast ≤ length (now table)) × (row < rows) × RowFits part ⌝ }
     ensures { λ r. ⌜ OnePart row (now (table .entry)) part r (now (table .exit)) ⌝ }
 {
     match part {
@@ -54,7 +57,7 @@ pub fn one_part(table: &mut [u32], row: usize, part: Answer) -> Answer
 
 // A node that begins with token `first` and has two parts, of which the second was read last.
 pub fn two_parts(table: &mut [u32], row: usize, first: usize, left: usize, right: Answer) -> Answer
-    requires { ⌜ (16384 ≤ length (now table)) × (row < 2048) × (first < 2048) × (left ≤ 2048) × RowFits right ⌝ }
+    requires { ⌜ (tableLeast ≤ length (now table)) × (row < rows) × (first < rows) × (left ≤ absent) × RowFits right ⌝ }
     ensures { λ r. ⌜ TwoParts row first left (now (table .entry)) right r (now (table .exit)) ⌝ }
 {
     match right {

@@ -34,7 +34,7 @@ use lexer::kinds::is_name;
 ghost use mathlib.Core.Path.{_≡_};
 ghost use mathlib.Core.Bool.{true};
 ghost use Prim.Native.Nat.{_+_, _<_};
-ghost use Rattle.lexer.specs.Kinds.{isName};
+ghost use Rattle.lexer.specs.Kinds.{isName, kIf, kPort, kSystem, kWhile, kOpenBracket, kOpenBrace};
 ghost use Rattle.parser.specs.Parse.{aStatement};
 ghost use Rattle.parser.specs.contracts.Post.{Parsable, ModePost, ListPost, BranchesPost, kindInTable};
 ghost use Rattle.parser.specs.contracts.Parts.{TestPost};
@@ -88,7 +88,7 @@ pub fn list(table: &mut [u32], n: usize, i: usize) -> Answer
 
 // `{ .. }`
 fn block(table: &mut [u32], n: usize, i: usize) -> Answer
-    requires { ⌜ Parsable (now table) n i × (kindInTable (now table) n i ≡ 38) ⌝ }
+    requires { ⌜ Parsable (now table) n i × (kindInTable (now table) n i ≡ kOpenBrace) ⌝ }
     ensures { λ r. ⌜ ModePost aStatement n n i (now (table .entry)) r (now (table .exit)) ⌝ }
 {
     let a = list(table, n, i + 1);
@@ -110,7 +110,7 @@ fn test(table: &mut [u32], n: usize, i: usize) -> Answer
 
 // `if (e) s else t`
 fn conditional(table: &mut [u32], n: usize, i: usize) -> Answer
-    requires { ⌜ Parsable (now table) n i × (kindInTable (now table) n i ≡ 10) ⌝ }
+    requires { ⌜ Parsable (now table) n i × (kindInTable (now table) n i ≡ kIf) ⌝ }
     ensures { λ r. ⌜ ModePost aStatement n n i (now (table .entry)) r (now (table .exit)) ⌝ }
 {
     let a = test(table, n, i);
@@ -145,7 +145,7 @@ fn branches(table: &mut [u32], n: usize, i: usize, test: usize, j: usize) -> Ans
 
 // `while (e) s`
 fn while_loop(table: &mut [u32], n: usize, i: usize) -> Answer
-    requires { ⌜ Parsable (now table) n i × (kindInTable (now table) n i ≡ 23) ⌝ }
+    requires { ⌜ Parsable (now table) n i × (kindInTable (now table) n i ≡ kWhile) ⌝ }
     ensures { λ r. ⌜ ModePost aStatement n n i (now (table .entry)) r (now (table .exit)) ⌝ }
 {
     let a = test(table, n, i);
@@ -160,7 +160,7 @@ fn while_loop(table: &mut [u32], n: usize, i: usize) -> Answer
 
 // `System.out.println(e);`
 fn print(table: &mut [u32], n: usize, i: usize) -> Answer
-    requires { ⌜ Parsable (now table) n i × (kindInTable (now table) n i ≡ 19) ⌝ }
+    requires { ⌜ Parsable (now table) n i × (kindInTable (now table) n i ≡ kSystem) ⌝ }
     ensures { λ r. ⌜ ModePost aStatement n n i (now (table .entry)) r (now (table .exit)) ⌝ }
 {
     let head = [DOT, OUT, DOT, PRINTLN, OPEN];
@@ -193,7 +193,7 @@ fn assignment(table: &mut [u32], n: usize, i: usize) -> Answer
 
 // `x[e] = e;`
 fn assign_element(table: &mut [u32], n: usize, i: usize) -> Answer
-    requires { ⌜ Parsable (now table) n i × (isName (kindInTable (now table) n i) ≡ true) × (kindInTable (now table) n (i + 1) ≡ 36) ⌝ }
+    requires { ⌜ Parsable (now table) n i × (isName (kindInTable (now table) n i) ≡ true) × (kindInTable (now table) n (i + 1) ≡ kOpenBracket) ⌝ }
     ensures { λ r. ⌜ ModePost aStatement n n i (now (table .entry)) r (now (table .exit)) ⌝ }
 {
     let a = operation(table, n, 0, i + 2);
@@ -211,7 +211,7 @@ fn assign_element(table: &mut [u32], n: usize, i: usize) -> Answer
 
 // `Port.put(e, e);`
 fn port_put(table: &mut [u32], n: usize, i: usize) -> Answer
-    requires { ⌜ Parsable (now table) n i × (kindInTable (now table) n i ≡ 40) ⌝ }
+    requires { ⌜ Parsable (now table) n i × (kindInTable (now table) n i ≡ kPort) ⌝ }
     ensures { λ r. ⌜ ModePost aStatement n n i (now (table .entry)) r (now (table .exit)) ⌝ }
 {
     let m = member_head(table, n, i, PUT);

@@ -9,10 +9,10 @@ use lib.ListN.{length, getD, replicate}
 use lib.Seq.{getD-take}
 use borrow.Author.Tests.{lt-ltb, le-ltb}
 use Rattle.base.specs.Choice.{option}
-use Rattle.base.specs.Codes.{sourceMost, tooDeep, notInGrammar, sourceTooLong}
+use Rattle.base.specs.Codes.{sourceMost, tooDeep, notInGrammar, sourceTooLong, tokensMost, tableLeast, tableTooShort}
 use Rattle.base.specs.laws.Lists.{get-below, get-getD}
 use Rattle.base.specs.Outcome.{Outcome, accepted, refused}
-use Rattle.base.specs.contracts.Table.{cell, col}
+use Rattle.base.specs.contracts.Table.{cell, col, cKind, cStart, cNumber}
 use Rattle.lexer.specs.Tokens.{Token, tokens}
 use Rattle.lexer.specs.declared.Lexed.{Lexed}
 use Rattle.lexer.specs.declared.Lexed.the-variants.{Tokens}
@@ -22,7 +22,7 @@ use Rattle.parser.specs.declared.answer.Answer.{Answer}
 use Rattle.parser.specs.declared.answer.Answer.the-variants.{At, Bad}
 use Rattle.parser.specs.Tree.{Program}
 use Rattle.parser.specs.Stream.{startAt, tokenAt, noMore}
-use Rattle.parser.specs.contracts.Layout.{given}
+use Rattle.parser.specs.contracts.Layout.{given, givenWords}
 use Rattle.parser.specs.Measure.{programNodes, programDeep}
 use Rattle.parser.specs.Parse.{ok, parse}
 use Rattle.parser.specs.contracts.Post.{TokensIn}
@@ -42,21 +42,21 @@ use Rattle.reader.specs.contracts.WalkPost.{FoundPlace, WalksProgram, no
 -- THE TABLE AFTER THE PARSER
 
 -- the token columns are kept
-same-col : (T T′ : List ℕ) (k i : ℕ) → given T′ ≡ given T → cell k i < 6144 → col T′ k i ≡ col T k i
+same-col : (T T′ : List ℕ) (k i : ℕ) → given T′ ≡ given T → cell k i < givenWords → col T′ k i ≡ col T k i
 unfolding given col
 same-col T T′ k i e h =
-    sym (getD-take 6144 T′ (cell k i) 0 h) ∙ ap (λ (l : List ℕ). getD l (cell k i) 0) e ∙ getD-take 6144 T (cell k i) 0 h
+    sym (getD-take givenWords T′ (cell k i) 0 h) ∙ ap (λ (l : List ℕ). getD l (cell k i) 0) e ∙ getD-take givenWords T (cell k i) 0 h
 
-rows-kept : (T T′ : List ℕ) (ts : List Token) → length ts ≤ 2048 → given T′ ≡ given T → Rows T ts → Rows T′ ts
+rows-kept : (T T′ : List ℕ) (ts : List Token) → length ts ≤ tokensMost → given T′ ≡ given T → Rows T ts → Rows T′ ts
 rows-kept T T′ ts few e h i t g =
     let l = get-below ts i g in
     let r = h i t g in
     record {
-      kind = same-col T T′ 0 i e (omega arith) ∙ r .kind;
-      start = same-col T T′ 1 i e (omega arith) ∙ r .start;
-      name = λ n. same-col T T′ 2 i e (omega arith) ∙ r .name n;
-      literal = λ n. same-col T T′ 2 i e (omega arith) ∙ r .literal n;
-      fixed = λ n. same-col T T′ 2 i e (omega arith) ∙ r .fixed n;
+      kind = same-col T T′ cKind i e (omega arith) ∙ r .kind;
+      start = same-col T T′ cStart i e (omega arith) ∙ r .start;
+      name = λ n. same-col T T′ cNumber i e (omega arith) ∙ r .name n;
+      literal = λ n. same-col T T′ cNumber i e (omega arith) ∙ r .literal n;
+      fixed = λ n. same-col T T′ cNumber i e (omega arith) ∙ r .fixed n;
     }
 
 rising : (s : List ℕ) (ts : List Token) → tokens s ≡ accepted ts → TokensRise ts
@@ -76,10 +76,10 @@ module _ {tab : List ℕ} {n : ℕ} {w : Walked} (h : WalksProgram tab n w) wher
       go none d f = well (omega arith) ∙ ap (Tree n) (r .1 d)
       go (some at) d f = deep (omega (arith, f)) ∙ ap (Refused tooDeep) (f .0)
 
-  pub too-deep : w .place < 4294967296 → MeasurePost tab n (Refused tooDeep (w .place))
+  pub too-deep : w .place < nowhere → MeasurePost tab n (Refused tooDeep (w .place))
   too-deep l = record { says = λ ts t p holds matches ordered. answered p (h .says ts t p holds matches ordered) _ (λ _. refl) (λ g. absurd (omega arith)) }
 
-  pub deep-enough : 4294967296 ≤ w .place → MeasurePost tab n (Tree n (w .count))
+  pub deep-enough : nowhere ≤ w .place → MeasurePost tab n (Tree n (w .count))
   deep-enough l = record { says = λ ts t p holds matches ordered. answered p (h .says ts t p holds matches ordered) _ (λ g. absurd (omega arith)) (λ _. refl) }
 
 -- FROM TOKENS TO THE TREE
@@ -104,7 +104,7 @@ at-tokens {T} ts e h = subst (λ (m : ℕ). TokensIn T m ts) e (tokens-in T ts h
 at-answer : {n : ℕ} {T T₁ : List ℕ} {r₁ r : Answer} → r₁ ≡ r → ProgramPost n T r₁ T₁ → ProgramPost n T r T₁
 at-answer {n} {T} {T₁} e p = subst (λ (r : Answer). ProgramPost n T r T₁) e p
 
-module _ {n size : ℕ} {T T₁ : List ℕ} {r₁ : Answer} (p : ProgramPost n T r₁ T₁) (few : n ≤ 2048) where
+module _ {n size : ℕ} {T T₁ : List ℕ} {r₁ : Answer} (p : ProgramPost n T r₁ T₁) (few : n ≤ tokensMost) where
   place-of : (s : List ℕ) (ts : List Token) (k v : ℕ) → length s ≡ size → length ts ≡ n → Rows T ts → v ≡ placeIn T₁ n k size
       → v ≡ positionOf s ts k
   unfolding placeIn
@@ -112,7 +112,7 @@ module _ {n size : ℕ} {T T₁ : List ℕ} {r₁ : Answer} (p : ProgramPost n T
     | yes l ↦
         let l₂ : k < length ts = omega arith in
         simp (lt-ltb k n l, lt-ltb k (length ts) l₂)
-        (same-col T T₁ 1 k (p .kept) (omega arith) ∙ h k (tokenAt ts k) (get-getD ts k noMore l₂) .start)
+        (same-col T T₁ cStart k (p .kept) (omega arith) ∙ h k (tokenAt ts k) (get-getD ts k noMore l₂) .start)
     | no l ↦ simp (le-ltb k n (omega arith), le-ltb k (length ts) (omega arith)) (sym es)
   ]
 
@@ -124,14 +124,14 @@ module _ {n size : ℕ} {T T₁ : List ℕ} {r₁ : Answer} (p : ProgramPost n T
             subst (λ (o : Outcome Reading). Fills o (Refused notInGrammar v) T₁) (sym (not-parsed s short ts lexed k b)) (ap (Refused notInGrammar) (place-of s ts k v es en h ev));
       }
 
-  pub grow-at : {x j : ℕ} {a : Filled} → 16384 ≤ length T → r₁ ≡ At x j → MeasurePost T₁ n a → GrowPost n size T a T₁
+  pub grow-at : {x j : ℕ} {a : Filled} → tableLeast ≤ length T → r₁ ≡ At x j → MeasurePost T₁ n a → GrowPost n size T a T₁
   grow-at {x} {j} {a} big e m =
       record {
         says = λ s ts es short lexed en h.
             let t = at-tokens ts en h in
             let q = parsed-at t (at-answer e p) in
             let d = sound ts (proper s ts lexed) (q .tree) j (q .parsed) .0 in
-            let f : length ts ≤ 2048 = omega arith in
+            let f : length ts ≤ tokensMost = omega arith in
             let holds : HoldsProgram T₁ (q .tree) = subst (λ (u : List ℕ). HoldsProgram u (q .tree)) (sym (q .stored)) (holds-stored ts (q .tree) d f T big) in
             let rows = rows-kept T T₁ ts f (p .kept) h in
             let is = m .says ts (at-tokens ts en rows) (q .tree) holds (matches ts (q .tree) d) (program-order ts f (rising s ts lexed) d) in
@@ -140,10 +140,10 @@ module _ {n size : ℕ} {T T₁ : List ℕ} {r₁ : Answer} (p : ProgramPost n T
       }
 
 -- FROM BYTES
-pub fill-long : (s T : List ℕ) → 16384 < length s → Fills (reading s) (Refused sourceTooLong 0) T
+pub fill-long : (s T : List ℕ) → sourceMost < length s → Fills (reading s) (Refused sourceTooLong 0) T
 fill-long s T l = subst (λ (o : Outcome Reading). Fills o (Refused sourceTooLong 0) T) (sym (too-long s l)) refl
 
-module _ (s T : List ℕ) (l : Lexed) (short : length s ≤ 16384) (h : Lexes (tokens s) l T) where
+module _ (s T : List ℕ) (l : Lexed) (short : length s ≤ sourceMost) (h : Lexes (tokens s) l T) where
   at-lexed : {l₂ : Lexed} → l ≡ l₂ → Lexes (tokens s) l₂ T
   at-lexed e = subst (λ (x : Lexed). Lexes (tokens s) x T) e h
 
@@ -155,24 +155,24 @@ module _ (s T : List ℕ) (l : Lexed) (short : length s ≤ 16384) (h : Lexes (t
       subst (λ (o : Outcome Reading). Fills o (Refused m p) T) (sym (not-lexed s short (refused-of-answer (tokens s) T (at-lexed e)))) refl
 
 -- the number of tokens that the lexer answers
-pub lexed-few : (s T : List ℕ) {l : Lexed} {n : ℕ} → Lexes (tokens s) l T → l ≡ Tokens n → n ≤ 2048
+pub lexed-few : (s T : List ℕ) {l : Lexed} {n : ℕ} → Lexes (tokens s) l T → l ≡ Tokens n → n ≤ tokensMost
 lexed-few s T h e =
     let x = accepted-of-answer (tokens s) T (subst (λ (y : Lexed). Lexes (tokens s) y T) e h) in omega (arith, x .few, x .count)
 
 -- READ
-pub read-short : (s T : List ℕ) → length T < 16384 → Reads s T (record { number = 1; position = 0; tokens = 0; nodes = 0 }) T
+pub read-short : (s T : List ℕ) → length T < tableLeast → Reads s T (record { number = tableTooShort; position = 0; tokens = 0; nodes = 0 }) T
 unfolding read tableAfter
-read-short s T l = record { answer = simp (lt-ltb (length T) 16384 l); table = simp (lt-ltb (length T) 16384 l) }
+read-short s T l = record { answer = simp (lt-ltb (length T) tableLeast l); table = simp (lt-ltb (length T) tableLeast l) }
 
-module _ (s T T₁ T₂ : List ℕ) (a : Filled) (big : 16384 ≤ length T) (same : length T₁ ≡ length T) (f : Fills (reading s) a T₁)
+module _ (s T T₁ T₂ : List ℕ) (a : Filled) (big : tableLeast ≤ length T) (same : length T₁ ≡ length T) (f : Fills (reading s) a T₁)
     (e : T₂ ≡ replicate (length T₁) 0) where
   answers : (n p t k : ℕ) → readAnswer (reading s) ≡ record { number = n; position = p; tokens = t; nodes = k }
       → Reads s T (record { number = n; position = p; tokens = t; nodes = k }) T₂
   unfolding read tableAfter
   answers n p t k r =
       record {
-        answer = simp (le-ltb (length T) 16384 big) (sym r);
-        table = simp (le-ltb (length T) 16384 big) (e ∙ ap (λ (m : ℕ). replicate m 0) same);
+        answer = simp (le-ltb (length T) tableLeast big) (sym r);
+        table = simp (le-ltb (length T) tableLeast big) (e ∙ ap (λ (m : ℕ). replicate m 0) same);
       }
 
   pub read-tree : {t k : ℕ} → a ≡ Tree t k → Reads s T (record { number = 0; position = 0; tokens = t; nodes = k }) T₂

@@ -7,7 +7,7 @@ use mathlib.Core.Bool.{Bool, true, false}
 use native.Mathlib.Omega.{arith}
 use native.Mathlib.Decide.{decLt}
 use borrow.Author.Tests.{lt-ltb, le-ltb}
-use Rattle.base.specs.contracts.Table.{col}
+use Rattle.base.specs.contracts.Table.{col, cNext}
 use Rattle.parser.specs.contracts.Layout.{absent}
 use Rattle.reader.specs.contracts.WalkPost.{nowhere, countMost, follower}
 use Rattle.reader.specs.declared.walk.Walked.{Walked}
@@ -16,23 +16,23 @@ use Rattle.reader.proofs.Depths.{Joins}
 -- THE NEXT ROW
 
 module _ (tab : List ℕ) (row : ℕ) where
-  pub follower-up : row < col tab 6 row → follower tab true row ≡ col tab 6 row
+  pub follower-up : row < col tab cNext row → follower tab true row ≡ col tab cNext row
   unfolding follower
-  follower-up h = simp (lt-ltb row (col tab 6 row) h)
+  follower-up h = simp (lt-ltb row (col tab cNext row) h)
 
-  follower-wrong : col tab 6 row ≤ row → follower tab true row ≡ absent
+  follower-wrong : col tab cNext row ≤ row → follower tab true row ≡ absent
   unfolding follower
-  follower-wrong h = simp (le-ltb row (col tab 6 row) h)
+  follower-wrong h = simp (le-ltb row (col tab cNext row) h)
 
   pub follower-none : follower tab false row ≡ absent
   unfolding follower
   follower-none = refl
 
   -- what the code answers
-  pub following-up : {chain : Bool} {next : ℕ} → chain ≡ true → next ≡ col tab 6 row → row < next → next ≡ follower tab chain row
+  pub following-up : {chain : Bool} {next : ℕ} → chain ≡ true → next ≡ col tab cNext row → row < next → next ≡ follower tab chain row
   following-up t e h = rw t (e ∙ sym (follower-up (omega arith)))
 
-  pub following-wrong : {chain : Bool} {next : ℕ} → chain ≡ true → next ≡ col tab 6 row → next ≤ row → absent ≡ follower tab chain row
+  pub following-wrong : {chain : Bool} {next : ℕ} → chain ≡ true → next ≡ col tab cNext row → next ≤ row → absent ≡ follower tab chain row
   following-wrong t e h = rw t (sym (follower-wrong (omega arith)))
 
   pub following-none : {chain : Bool} → chain ≡ false → absent ≡ follower tab chain row
@@ -40,7 +40,7 @@ module _ (tab : List ℕ) (row : ℕ) where
 
   -- the loop's measure falls
   pub follower-rises : (chain : Bool) → row < absent → row < follower tab chain row
-  follower-rises true near = elim (decLt row (col tab 6 row)) [
+  follower-rises true near = elim (decLt row (col tab cNext row)) [
     | yes up ↦ omega (arith, follower-up up)
     | no wrong ↦ omega (arith, follower-wrong (omega arith))
   ]

@@ -9,7 +9,7 @@ use mathlib.Core.Option.{none}
 use native.Mathlib.Omega.{arith}
 use lib.Dec.{eqb}
 use borrow.Author.Tests.{eqb-false}
-use Rattle.base.specs.contracts.Table.{col}
+use Rattle.base.specs.contracts.Table.{col, cBegin, cFirst, cSecond, cThird}
 use Rattle.lexer.specs.Kinds.{kDot, kIf, kOpenBrace, isName}
 use Rattle.lexer.specs.Tokens.{Token}
 use Rattle.parser.specs.Tree.{Place, Operator, Operator.and, Operator.less, Operator.plus, Operator.minus, Operator.times, Sort, Sort.expression, Sort.arguments, Sort.statement, Part}
@@ -74,13 +74,13 @@ pub record Apart (tab : List ℕ) (ts : List Token) {s : Sort} (t : Part s) : Ty
   pub t₁ : Part s₁
   pub t₂ : Part s₂
   pub t₃ : Part s₃
-  pub begins : col tab 3 (rowOf t) ≡ place .start
-  pub first : col tab 4 (rowOf t) ≡ rowOf t₁
-  pub second : col tab 5 (rowOf t) ≡ rowOf t₂
+  pub begins : col tab cBegin (rowOf t) ≡ place .start
+  pub first : col tab cFirst (rowOf t) ≡ rowOf t₁
+  pub second : col tab cSecond (rowOf t) ≡ rowOf t₂
   pub sound₁ : Sound tab ts (place .start) (eqb (kindAt ts (rowOf t)) kOpenBrace) t₁
   pub sound₂ : Sound tab ts (place .start) (eqb (kindAt ts (rowOf t)) kDot) t₂
   pub sound₃ : Sound tab ts (place .start) false t₃
-  pub third : kindAt ts (rowOf t) ≡ kIf → col tab 7 (rowOf t) ≡ rowOf t₃
+  pub third : kindAt ts (rowOf t) ≡ kIf → col tab cThird (rowOf t) ≡ rowOf t₃
   pub fewer : kindAt ts (rowOf t) ≢ kIf → (nodes t₃ ≡ 0) × ((d : ℕ) → deep d t₃ ≡ none)
   pub depth : (d : ℕ) → deep d t ≡ least (deepHere d place) (least (least (deep (d + 1) t₁) (deep (d + 1) t₂)) (deep (d + 1) t₃))
   pub size : nodes t ≡ 1 + (nodes t₁ + nodes t₂ + nodes t₃)
@@ -111,9 +111,9 @@ module _ {tab : List ℕ} {ts : List Token} where
         t₁ = t₁;
         t₂ = t₂;
         t₃ = noArguments;
-        begins = ap (col tab 3) e ∙ h .start;
-        first = ap (col tab 4) e ∙ h .first;
-        second = ap (col tab 5) e ∙ h .second;
+        begins = ap (col tab cBegin) e ∙ h .start;
+        first = ap (col tab cFirst) e ∙ h .first;
+        second = ap (col tab cSecond) e ∙ h .second;
         sound₁ = rw e f;
         sound₂ = rw e g;
         sound₃ = empty (p .start) false;

@@ -10,7 +10,7 @@ use native.Mathlib.Omega.{arith}
 use native.Mathlib.Decide.{decLt}
 use lib.ListN.{length}
 use lib.Dec.{eqb}
-use Rattle.base.specs.contracts.Table.{col}
+use Rattle.base.specs.contracts.Table.{col, cBegin, cFirst, cSecond, cNext, cThird}
 use Rattle.base.specs.Codes.{depthMost}
 use Rattle.lexer.specs.Kinds.{kDot, kIf, kOpenBrace}
 use Rattle.lexer.specs.Tokens.{Token}
@@ -67,7 +67,7 @@ record Split (tab : List ℕ) (ts : List Token) (low : ℕ) {s : Sort} (t : Part
   head : Part s₁
   tail : Part s₂
   row : rowOf t ≡ rowOf head
-  next : col tab 6 (rowOf t) ≡ rowOf tail
+  next : col tab cNext (rowOf t) ≡ rowOf tail
   rises : rowOf t < rowOf tail
   sound₁ : Sound tab ts low false head
   sound₂ : Sound tab ts low true tail
@@ -155,23 +155,23 @@ module _ {tab : List ℕ} {n : ℕ} {chain : Bool} {row d : ℕ} {w : Walked} wh
   part-none c p k j = record { says = λ ts tok t low e h. joined-nothing c p (k .says ts tok t low e h) j }
 
 module _ {tab : List ℕ} {n row d : ℕ} {w : Walked} (near : row < absent) where
-  part-wrong : col tab 6 row ≤ row → Walks tab n true row d w
+  part-wrong : col tab cNext row ≤ row → Walks tab n true row d w
   part-wrong le =
       record {
         says = λ ts tok t low e h.
             let v : Split tab ts low t = split t (omega arith) h in
-            absurd (omega (arith, v .rises, v .next, ap (col tab 6) e));
+            absurd (omega (arith, v .rises, v .next, ap (col tab cNext) e));
       }
 
   module _ {first rest : Walked} (f : Walks tab n false row d first) (j : Joins first rest w) where
-    part-more : Walks tab n true (col tab 6 row) d rest → Walks tab n true row d w
+    part-more : Walks tab n true (col tab cNext row) d rest → Walks tab n true row d w
     part-more g =
         record {
           says = λ ts tok t low e h.
               let v : Split tab ts low t = split t (omega arith) h in
               same-answer (sym (v .depth d)) (sym (v .size))
               (joined (f .says ts tok (v .head) low (sym (v .row) ∙ e) (v .sound₁))
-              (g .says ts tok (v .tail) low (sym (v .next) ∙ ap (col tab 6) e) (v .sound₂)) j);
+              (g .says ts tok (v .tail) low (sym (v .next) ∙ ap (col tab cNext) e) (v .sound₂)) j);
         }
 
     -- what is no list has one member; the walk from no row on is that of an empty list
@@ -187,7 +187,7 @@ module _ {tab : List ℕ} {n row d : ℕ} {w : Walked} (near : row < absent) whe
 pub part-step : {tab : List ℕ} {n row d next : ℕ} {first rest w : Walked} (chain : Bool) → row < absent → Walks tab n false row d first
     → next ≡ follower tab chain row
     → Walks tab n chain next d rest → Joins first rest w → Walks tab n chain row d w
-part-step {tab} {n} {row} {d} {rest = rest} true near f e g j = elim (decLt row (col tab 6 row)) [
+part-step {tab} {n} {row} {d} {rest = rest} true near f e g j = elim (decLt row (col tab cNext row)) [
   | yes up ↦ part-more near f j (subst (λ (i : ℕ). Walks tab n true i d rest) (e ∙ follower-up tab row up) g)
   | no wrong ↦ part-wrong near (omega arith)
 ]
@@ -211,14 +211,14 @@ too-deep : (d : ℕ) {tab : List ℕ} {ts : List Token} {s : Sort} {t : Part s} 
     → deep d t ≡ some (v .place .start)
 too-deep d v far = v .depth d ∙ first-here d (v .place) far (not-before-parts d v)
 
-pub node-far : {tab : List ℕ} {n row d : ℕ} {w : Walked} → row < absent → depthMost < d → w .place ≡ col tab 3 row → w .place < nowhere
+pub node-far : {tab : List ℕ} {n row d : ℕ} {w : Walked} → row < absent → depthMost < d → w .place ≡ col tab cBegin row → w .place < nowhere
     → Walks tab n false row d w
 node-far {tab} {n} {row} {d} {w} near far p small =
     record {
       says = λ ts tok t low e h.
           let v : Apart tab ts t = apart t low (h .chained (omega arith)) (h .holds) (h .matches) (h .ordered) in
           same-answer {l = nodes t} (sym (too-deep d v far)) refl
-          (at-start (v .place .start) (p ∙ ap (col tab 3) (sym e) ∙ v .begins));
+          (at-start (v .place .start) (p ∙ ap (col tab cBegin) (sym e) ∙ v .begins));
     }
   where
     at-start : {k : ℕ} (a : ℕ) → w .place ≡ a → WalkAnswers (some a) k w
@@ -235,14 +235,14 @@ kind-here {ts = ts} row kind tok t e = ap (kindAt ts) e ∙ sym (tok .kinds row)
 
 -- the first two parts, as the code walks them
 module _ {tab : List ℕ} {n : ℕ} (row d : ℕ) {k left right : ℕ} {a b two : Walked} (kind : k ≡ kindInTable tab n row)
-    (l : left ≡ col tab 4 row) (f : Walks tab n (eqb k kOpenBrace) left (d + 1) a)
-    (r : right ≡ col tab 5 row) (g : Walks tab n (eqb k kDot) right (d + 1) b) (j : Joins a b two) where
+    (l : left ≡ col tab cFirst row) (f : Walks tab n (eqb k kOpenBrace) left (d + 1) a)
+    (r : right ≡ col tab cSecond row) (g : Walks tab n (eqb k kDot) right (d + 1) b) (j : Joins a b two) where
   both-parts : {ts : List Token} → TokensIn tab n ts → {s : Sort} {t : Part s} → rowOf t ≡ row → (v : Apart tab ts t)
       → WalkAnswers (least (deep (d + 1) (v .t₁)) (deep (d + 1) (v .t₂))) (nodes (v .t₁) + nodes (v .t₂)) two
   both-parts {ts} tok {t = t} e v =
       joined
-      (f .says ts tok (v .t₁) _ (sym (v .first) ∙ ap (col tab 4) e ∙ sym l) (sound-as (ap (λ (x : ℕ). eqb x kOpenBrace) (kind-here row kind tok t e)) (v .sound₁)))
-      (g .says ts tok (v .t₂) _ (sym (v .second) ∙ ap (col tab 5) e ∙ sym r) (sound-as (ap (λ (x : ℕ). eqb x kDot) (kind-here row kind tok t e)) (v .sound₂))) j
+      (f .says ts tok (v .t₁) _ (sym (v .first) ∙ ap (col tab cFirst) e ∙ sym l) (sound-as (ap (λ (x : ℕ). eqb x kOpenBrace) (kind-here row kind tok t e)) (v .sound₁)))
+      (g .says ts tok (v .t₂) _ (sym (v .second) ∙ ap (col tab cSecond) e ∙ sym r) (sound-as (ap (λ (x : ℕ). eqb x kDot) (kind-here row kind tok t e)) (v .sound₂))) j
 
   pub node-two : {w : Walked} → row < absent → d ≤ depthMost → k ≢ kIf → Encloses two w → Walks tab n false row d w
   node-two near fine other c =
@@ -254,7 +254,7 @@ module _ {tab : List ℕ} {n : ℕ} (row d : ℕ) {k left right : ℕ} {a b two 
             (same-answer (least-absent (least (deep (d + 1) (v .t₁)) (deep (d + 1) (v .t₂))) (deep (d + 1) (v .t₃)) (z .1 (d + 1))) (omega (arith, z .0)) (both-parts tok e v)) c;
       }
 
-  pub node-three : {last : ℕ} {c three w : Walked} → row < absent → d ≤ depthMost → k ≡ kIf → last ≡ col tab 7 row
+  pub node-three : {last : ℕ} {c three w : Walked} → row < absent → d ≤ depthMost → k ≡ kIf → last ≡ col tab cThird row
       → Walks tab n false last (d + 1) c
       → Joins two c three → Encloses three w → Walks tab n false row d w
   node-three near fine is e₃ q i o =
@@ -263,5 +263,5 @@ module _ {tab : List ℕ} {n : ℕ} (row d : ℕ) {k left right : ℕ} {a b two 
             let v : Apart tab ts t = apart t low (h .chained (omega arith)) (h .holds) (h .matches) (h .ordered) in
             closed d v fine
             (joined (both-parts tok e v)
-            (q .says ts tok (v .t₃) _ (sym (v .third (kind-here row kind tok t e ∙ is)) ∙ ap (col tab 7) e ∙ sym e₃) (v .sound₃)) i) o;
+            (q .says ts tok (v .t₃) _ (sym (v .third (kind-here row kind tok t e ∙ is)) ∙ ap (col tab cThird) e ∙ sym e₃) (v .sound₃)) i) o;
       }

@@ -15,7 +15,7 @@ ghost use Rattle.base.specs.Word.{modulus};
 ghost use Rattle.base.specs.contracts.Table.{rows};
 ghost use Rattle.base.specs.Codes.{tableLeast};
 ghost use Rattle.base.specs.contracts.Table as Table;
-ghost use Rattle.reader.specs.contracts.WalkPost.{Walkable, follower, Walks, WalksMethods, WalksClasses, WalksProgram};
+ghost use Rattle.reader.specs.contracts.WalkPost.{Walkable, follower, Walks, WalksMethods, WalksClasses, WalksProgram, nowhere, countMost};
 
 // The number of nodes, 65,535 where there are more; and the smallest position of a node that is too deep, 4,294,967,296 where none is.
 pub struct Walked {
@@ -37,7 +37,7 @@ const LAST: usize = 2047;
 
 // A sum, at most 65,535.
 fn sum(a: usize, b: usize) -> usize
-    ensures { λ r. ⌜ r ≡ min (a + b) 65535 ⌝ }
+    ensures { λ r. ⌜ r ≡ min (a + b) countMost ⌝ }
 {
     if COUNT_MOST < a {
         return COUNT_MOST;
@@ -57,7 +57,7 @@ fn least(a: usize, b: usize) -> usize
 
 // No part.
 fn nothing() -> Walked
-    ensures { λ r. ⌜ (r .count ≡ 0) × (r .place ≡ 4294967296) ⌝ }
+    ensures { λ r. ⌜ (r .count ≡ 0) × (r .place ≡ nowhere) ⌝ }
 {
     Walked {
         count: 0,
@@ -67,7 +67,7 @@ fn nothing() -> Walked
 
 // Two parts together.
 fn join(a: Walked, b: Walked) -> Walked
-    ensures { λ r. ⌜ (r .count ≡ min (a .count + b .count) 65535) × (r .place ≡ min (a .place) (b .place)) ⌝ }
+    ensures { λ r. ⌜ (r .count ≡ min (a .count + b .count) countMost) × (r .place ≡ min (a .place) (b .place)) ⌝ }
 {
     let count = sum(a.count, b.count);
     let place = least(a.place, b.place);
@@ -79,7 +79,7 @@ fn join(a: Walked, b: Walked) -> Walked
 
 // A node that is not too deep, with its parts.
 fn whole(parts: Walked) -> Walked
-    ensures { λ r. ⌜ (r .count ≡ min (1 + parts .count) 65535) × (r .place ≡ parts .place) ⌝ }
+    ensures { λ r. ⌜ (r .count ≡ min (1 + parts .count) countMost) × (r .place ≡ parts .place) ⌝ }
 {
     let count = sum(1, parts.count);
     let place = parts.place;
@@ -97,7 +97,7 @@ fn column(table: &[u32], k: usize, row: usize) -> usize
     table[columns::ROWS * k + row] as usize
 }
 
-// The row of the member after this one in a list, 2048 where there is none. In a tree each link goes up: one that does not ends the walk.
+// The row of the member after this one in a list, ABSENT where there is none. In a tree each link goes up: one that does not ends the walk.
 fn following(table: &[u32], chain: bool, row: usize) -> usize
     requires { ⌜ (tableLeast ≤ length (now table)) × (row < rows) ⌝ }
     ensures { λ r. ⌜ r ≡ follower (now (table .entry)) chain row ⌝ }
@@ -182,7 +182,7 @@ fn classes(table: &[u32], n: usize, row: usize) -> Walked
     all
 }
 
-// The whole program: main's statement is in row 14, the first class in column 6 of row 0.
+// The whole program: main's statement is in row MAIN_STATEMENT, the first class in column NEXT of row CLASS_LIST.
 pub fn program(table: &[u32], n: usize) -> Walked
     requires { ⌜ Walkable (now table) n ⌝ }
     ensures { λ r. ⌜ WalksProgram (now (table .entry)) n r ⌝ }

@@ -5,6 +5,7 @@ use mathlib.Core.Path.{_≡_, refl}
 use mathlib.Core.List.{List, [], _∷_, map}
 use lib.ListN.{replicate}
 use Rattle.base.specs.Bytes.{bytes}
+use Rattle.lexer.specs.Bytes.{bSpace, bSmallA}
 use Rattle.parser.specs.Measure.{nodes, methodsNodes, classesNodes, programNodes}
 use Rattle.parser.specs.Read.{ReadAnswer, read}
 use Rattle.typesystem.specs.Check.{CheckAnswer, check}
@@ -28,14 +29,14 @@ readRows =
     readRow (printing (bytes "(1+(2))")) 16384 0 0 31 4 ∷
     -- 1 comes before everything else
     readRow (printing (bytes "1+2")) 16383 1 0 0 0 ∷
-    readRow (replicate 16385 32) 16383 1 0 0 0 ∷
-    readRow (replicate 16385 32) 16384 10 0 0 0 ∷
+    readRow (replicate 16385 bSpace) 16383 1 0 0 0 ∷
+    readRow (replicate 16385 bSpace) 16384 10 0 0 0 ∷
     -- a lone `&`, and a byte that begins no token
     readRow (printing (bytes "1&2")) 16384 11 64 0 0 ∷
     readRow (printing (bytes "1 @")) 16384 11 65 0 0 ∷
     -- identifiers of 255 and of 256 bytes
-    readRow (printing (replicate 255 97)) 16384 0 0 25 2 ∷
-    readRow (printing (replicate 256 97)) 16384 13 63 0 0 ∷
+    readRow (printing (replicate 255 bSmallA)) 16384 0 0 25 2 ∷
+    readRow (printing (replicate 256 bSmallA)) 16384 13 63 0 0 ∷
     []
 
 pub readings : map (λ (r : ReadRow). read (r .source) (r .table)) readRows ≡ map (λ (r : ReadRow). r .answer) readRows

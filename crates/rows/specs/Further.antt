@@ -6,6 +6,7 @@ use lib.IntN.{pos}
 use lib.ListN.{replicate}
 use Rattle.base.specs.Bytes.{bytes}
 use Rattle.base.specs.All.{All}
+use Rattle.lexer.specs.Bytes.{bSmallA}
 use Rattle.semantics.specs.Limits.{Limits}
 use Rattle.semantics.specs.Ends.{Row, row, endOf, refusedAt, ends, limits, usual, printing}
 use Rattle.rows.specs.Answers.{RowHolds, hold}
@@ -30,7 +31,7 @@ times (suc n) s = s ++ times n s
 -- int a,int aa,.. : n + 1 parameters
 abbrev pub parameters : ℕ → List ℕ
 parameters zero = bytes "int a"
-parameters (suc n) = parameters n ++ bytes ",int " ++ replicate (n + 2) 97
+parameters (suc n) = parameters n ++ bytes ",int " ++ replicate (n + 2) bSmallA
 
 abbrev pub furtherRows : List Row
 furtherRows =

@@ -11,6 +11,8 @@ use borrow.Author.Tests.{eq-eqb, ne-eqb, lt-ltb, le-ltb}
 use Rattle.base.specs.laws.Lists.{drop-none}
 use Rattle.base.specs.Outcome.{Outcome, accepted, refused}
 use Rattle.base.specs.laws.Tests.{apart}
+use Rattle.base.specs.Codes.{tableTooShort, callLimitOutOfRange, heapTooLong, registersNotSixteen, tableLeast, tokensMost, callsMost, heapMost, registersCount}
+use Rattle.base.specs.contracts.Table.{rows}
 use Rattle.parser.specs.Tree.{Program, Statement}
 use Rattle.parser.specs.Tree.{Part.block, Part.conditional, Part.loop, Part.print, Part.assign, Part.assignElement, Part.portPut}
 use Rattle.parser.specs.Measure.{nodes, programNodes}
@@ -33,10 +35,10 @@ use Rattle.runner.specs.contracts.RunPost.{strips, ResultStrips, resultS
 -- CHECK'S PROMISE
 
 -- it is within its bounds: the table can be walked over
-pub accepted-few : {s : List ℕ} {z : Sizes} {tab : List ℕ} → LeftByCheck s z tab → 0 < z .tokens → (z .tokens ≤ 2048) × (z .classes ≤ 2048)
+pub accepted-few : {s : List ℕ} {z : Sizes} {tab : List ℕ} → LeftByCheck s z tab → 0 < z .tokens → (z .tokens ≤ tokensMost) × (z .classes ≤ rows)
 accepted-few {s} {z} {tab} k l = by (checking s) (k .says l .finds)
   where
-    by : (v : Outcome Program) → FindsProgram s v (found (z .tokens) (z .classes)) tab → (z .tokens ≤ 2048) × (z .classes ≤ 2048)
+    by : (v : Outcome Program) → FindsProgram s v (found (z .tokens) (z .classes)) tab → (z .tokens ≤ tokensMost) × (z .classes ≤ rows)
     by (accepted p) a =
         let e = a .answer in
         let t : length (a .stream) ≡ z .tokens = cc in
@@ -73,7 +75,7 @@ accepted-some s tab {tokens} {classes} {f} h q = by (checking s) (h .finds)
 -- an accepted lesson can be run
 runnable : (s : List ℕ) (p : Program) (tokens classes : ℕ) (tab code code′ entries entries′ : List ℕ)
     → Checked s p (found tokens classes) tab
-    → CodeWritten p (found tokens classes) tab code code′ entries entries′ → 16 * tokens ≤ length code → 2048 ≤ length entries
+    → CodeWritten p (found tokens classes) tab code code′ entries entries′ → 16 * tokens ≤ length code → rows ≤ length entries
     → Runnable tab code′ entries′ (record { tokens = tokens; classes = classes }) p
 runnable s p tokens classes tab code code′ entries entries′ h a long many =
     let z = a .answer in
@@ -97,7 +99,7 @@ runnable s p tokens classes tab code code′ entries entries′ h a long many =
 
 pub completed : (tab code fast values : List ℕ) (sz : Sizes) (b : Bounds) (tape : List ℕ) (heap output : List ℤ) (registers : List ℕ)
     {code′ entries′ : List ℕ} {x : Ended} {output′ : List ℤ} {registers′ : List ℕ}
-    → Prepares (sz .tokens) (sz .classes) tab code code′ (replicate 2048 0) entries′
+    → Prepares (sz .tokens) (sz .classes) tab code code′ (replicate rows 0) entries′
     → Executed tab code′ entries′ fast values sz b tape heap output x output′ registers′
     → CompletesInRoom tab code fast values sz b tape heap (resultStrips output registers) (endAnswerOf x) (resultStrips output′ registers′)
 completed tab code fast values sz b tape heap output registers {code′} {entries′} {x} {output′} {registers′} w E =
@@ -107,18 +109,18 @@ completed tab code fast values sz b tape heap output registers {code′} {entrie
         → FindsProgram s v (found (sz .tokens) (sz .classes)) tab
         → Performs v b tape heap (resultStrips output registers) (endAnswerOf x) (resultStrips output′ registers′)
     by long roomy s (accepted p) h =
-        let many : length (replicate {A = ℕ} 2048 0) ≡ 2048 = length-replicate {A = ℕ} 2048 0 in
-        let r = E .says p (runnable s p (sz .tokens) (sz .classes) tab code code′ (replicate 2048 0) entries′ h (w .says (h .stream) p (record { answer = h .answer; ready = h .ready; derived = h .derived })) long (omega (arith, many))) roomy in
+        let many : length (replicate {A = ℕ} rows 0) ≡ rows = length-replicate {A = ℕ} rows 0 in
+        let r = E .says p (runnable s p (sz .tokens) (sz .classes) tab code code′ (replicate rows 0) entries′ h (w .says (h .stream) p (record { answer = h .answer; ready = h .ready; derived = h .derived })) long (omega (arith, many))) roomy in
         (r .reports, r .strip, r .registers)
     by long roomy s (refused n i) h = let z = h in apart (cc)
 
 -- room for the values of so many tokens in main and 64 calls
-values-fit : (tokens calls k : ℕ) {n : ℕ} → (tokens + 1) / 2 ≤ k → calls ≤ 64 → 65 * k < n → (calls + 1) * ((tokens + 1) / 2) < n
+values-fit : (tokens calls k : ℕ) {n : ℕ} → (tokens + 1) / 2 ≤ k → calls ≤ callsMost → 65 * k < n → (calls + 1) * ((tokens + 1) / 2) < n
 values-fit tokens calls k t c l = let m : (calls + 1) * ((tokens + 1) / 2) ≤ 65 * k = mul-le-mul (omega arith) t in omega (arith, m)
 
 -- room of so many words is enough for lessons of so many tokens at most, of which a body keeps k values at most
 room-fits : (most k n m v : ℕ) {tab : List ℕ} {sz : Sizes} {b : Bounds} {tape : List ℕ} {heap : List ℤ} {z z′ : ResultStrips} {a : Run.RunAnswer}
-    → 16 * most ≤ n → 4 * most ≤ m → (most + 1) / 2 ≤ k → 65 * k < v → sz .tokens ≤ most → b .calls ≤ 64
+    → 16 * most ≤ n → 4 * most ≤ m → (most + 1) / 2 ≤ k → 65 * k < v → sz .tokens ≤ most → b .calls ≤ callsMost
     → CompletesInRoom tab (replicate n 0) (replicate m 0) (replicate v 0) sz b tape heap z a z′
     → Completes tab sz b tape heap z a z′
 room-fits most k n m v {sz = sz} {b = b} f g h l t c X =
@@ -130,13 +132,13 @@ room-fits most k n m v {sz = sz} {b = b} f g h l t c X =
 
 -- the room of a small lesson, and of any
 pub small-fits : {tab : List ℕ} {sz : Sizes} {b : Bounds} {tape : List ℕ} {heap : List ℤ} {z z′ : ResultStrips} {a : Run.RunAnswer}
-    → sz .tokens ≤ 125 → b .calls ≤ 64
+    → sz .tokens ≤ 125 → b .calls ≤ callsMost
     → CompletesInRoom tab (replicate 2048 0) (replicate 512 0) (replicate 4096 0) sz b tape heap z a z′
     → Completes tab sz b tape heap z a z′
 small-fits t c X = room-fits 125 63 2048 512 4096 (omega arith) (omega arith) (omega arith) (omega arith) t c X
 
 pub wide-fits : {tab : List ℕ} {sz : Sizes} {b : Bounds} {tape : List ℕ} {heap : List ℤ} {z z′ : ResultStrips} {a : Run.RunAnswer}
-    → sz .tokens ≤ 2048 → b .calls ≤ 64
+    → sz .tokens ≤ tokensMost → b .calls ≤ callsMost
     → CompletesInRoom tab (replicate 32768 0) (replicate 8192 0) (replicate 66561 0) sz b tape heap z a z′
     → Completes tab sz b tape heap z a z′
 wide-fits t c X = room-fits 2048 1024 32768 8192 66561 (omega arith) (omega arith) (omega arith) (omega arith) t c X
@@ -192,38 +194,38 @@ module _ (s : List ℕ) (budget calls : ℕ) (tape table : List ℕ) (heap outpu
   abbrev Before : Strips
   Before = strips table heap output registers
 
-  pub too-short : {a : Run.RunAnswer} → length table < 16384 → a ≡ refusal 1 0 → Runs s budget calls tape Before a Before
+  pub too-short : {a : Run.RunAnswer} → length table < tableLeast → a ≡ refusal tableTooShort 0 → Runs s budget calls tape Before a Before
   unfolding Runs
-  too-short h e = rw (lt-ltb (length table) 16384 h) (e, refl)
+  too-short h e = rw (lt-ltb (length table) tableLeast h) (e, refl)
 
-  module _ (long : 16384 ≤ length table) where
-    pub no-calls : {a : Run.RunAnswer} → calls ≡ 0 → a ≡ refusal 2 0 → Runs s budget calls tape Before a Before
+  module _ (long : tableLeast ≤ length table) where
+    pub no-calls : {a : Run.RunAnswer} → calls ≡ 0 → a ≡ refusal callLimitOutOfRange 0 → Runs s budget calls tape Before a Before
     unfolding Runs
-    no-calls z e = rw (le-ltb (length table) 16384 long, eq-eqb calls 0 z) (e, refl)
+    no-calls z e = rw (le-ltb (length table) tableLeast long, eq-eqb calls 0 z) (e, refl)
 
     module _ (some-calls : calls ≡ 0 → ⊥) where
-      pub many-calls : {a : Run.RunAnswer} → 64 < calls → a ≡ refusal 2 0 → Runs s budget calls tape Before a Before
+      pub many-calls : {a : Run.RunAnswer} → callsMost < calls → a ≡ refusal callLimitOutOfRange 0 → Runs s budget calls tape Before a Before
       unfolding Runs
-      many-calls m e = rw (le-ltb (length table) 16384 long, ne-eqb calls 0 some-calls, lt-ltb 64 calls m) (e, refl)
+      many-calls m e = rw (le-ltb (length table) tableLeast long, ne-eqb calls 0 some-calls, lt-ltb callsMost calls m) (e, refl)
 
-      module _ (few-calls : calls ≤ 64) where
-        pub long-heap : {a : Run.RunAnswer} → 16384 < length heap → a ≡ refusal 3 0 → Runs s budget calls tape Before a Before
+      module _ (few-calls : calls ≤ callsMost) where
+        pub long-heap : {a : Run.RunAnswer} → heapMost < length heap → a ≡ refusal heapTooLong 0 → Runs s budget calls tape Before a Before
         unfolding Runs
         long-heap m e =
-            rw (le-ltb (length table) 16384 long, ne-eqb calls 0 some-calls, le-ltb 64 calls few-calls, lt-ltb 16384 (length heap) m) (e, refl)
+            rw (le-ltb (length table) tableLeast long, ne-eqb calls 0 some-calls, le-ltb callsMost calls few-calls, lt-ltb heapMost (length heap) m) (e, refl)
 
-        module _ (short : length heap ≤ 16384) where
-          pub not-sixteen : {a : Run.RunAnswer} → (length registers ≡ 16 → ⊥) → a ≡ refusal 62 0 → Runs s budget calls tape Before a Before
+        module _ (short : length heap ≤ heapMost) where
+          pub not-sixteen : {a : Run.RunAnswer} → (length registers ≡ registersCount → ⊥) → a ≡ refusal registersNotSixteen 0 → Runs s budget calls tape Before a Before
           unfolding Runs
           not-sixteen n e =
-              rw (le-ltb (length table) 16384 long, ne-eqb calls 0 some-calls, le-ltb 64 calls few-calls, le-ltb 16384 (length heap) short, ne-eqb (length registers) 16 n) (e, refl)
+              rw (le-ltb (length table) tableLeast long, ne-eqb calls 0 some-calls, le-ltb callsMost calls few-calls, le-ltb heapMost (length heap) short, ne-eqb (length registers) registersCount n) (e, refl)
 
-          pub runs : (a : Run.RunAnswer) {table₂ : List ℕ} {heap₂ : List ℤ} (output₂ : List ℤ) (registers₂ : List ℕ) → length registers ≡ 16
+          pub runs : (a : Run.RunAnswer) {table₂ : List ℕ} {heap₂ : List ℤ} (output₂ : List ℤ) (registers₂ : List ℕ) → length registers ≡ registersCount
               → Performed s (record { tokens = 0; classes = 0 }) (record { budget = budget; calls = calls }) tape table heap (resultStrips output registers) a table₂ heap₂ (resultStrips output₂ registers₂)
               → Runs s budget calls tape Before a (strips table₂ heap₂ output₂ registers₂)
           unfolding Runs
           runs a {table₂} {heap₂} output₂ registers₂ n h =
-              rw (le-ltb (length table) 16384 long, ne-eqb calls 0 some-calls, le-ltb 64 calls few-calls, le-ltb 16384 (length heap) short, eq-eqb (length registers) 16 n) (by (checking s) (h .performs))
+              rw (le-ltb (length table) tableLeast long, ne-eqb calls 0 some-calls, le-ltb callsMost calls few-calls, le-ltb heapMost (length heap) short, eq-eqb (length registers) registersCount n) (by (checking s) (h .performs))
             where
               same : (o : List ℤ) (g : List ℕ) → output₂ ≡ o → registers₂ ≡ g
                   → strips table₂ heap₂ output₂ registers₂ ≡ strips (replicate (length table) 0) (replicate (length heap) (pos 0)) o g

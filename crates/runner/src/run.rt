@@ -17,6 +17,7 @@ ghost use Rattle.base.specs.contracts.Table.{rows};
 ghost use Rattle.base.specs.Codes.{callsMost, heapMost, tableLeast, registersCount};
 ghost use Rattle.reader.specs.contracts.WalkPost.{Walkable};
 ghost use Rattle.semantics.specs.Run.{Runs, refusal};
+ghost use Rattle.writer.specs.contracts.Posts.{room};
 ghost use Rattle.runner.specs.contracts.RunPost.{runAnswerOf, strips, resultStrips, LeftByCheck};
 ghost use Rattle.runner.specs.contracts.RunPost.{CompletesInRoom, Completes, Performed};
 
@@ -61,7 +62,7 @@ fn compiled(
     tape: &[u8],
 ) -> RunAnswer
     requires { ⌜ Walkable (now table) (s .tokens) × (s .classes ≤ rows) × (length (now heap) ≤ heapMost) × (b .budget < modulus)
-        × (b .calls ≤ callsMost) × (length (now fast) ≤ 8192) × (length (now values) ≤ 200000)
+        × (b .calls ≤ callsMost) × (length (now fast) ≤ room) × (length (now values) ≤ 200000)
         × (length (now registers) ≡ registersCount) ⌝ }
     ensures { λ r. ⌜ CompletesInRoom (now (table .entry)) (now (code .entry)) (now (fast .entry)) (now (values .entry)) s b
         (now (tape .entry)) (now (heap .entry)) (resultStrips (now (output .entry)) (now (registers .entry))) (runAnswerOf r)

@@ -6,10 +6,10 @@ use mathlib.Core.Path.{_≡_, refl, sym, ap, _∙_, subst}
 use mathlib.Core.List.{List, [], _∷_, map}
 use lib.ListN.{length}
 use Rattle.base.specs.Outcome.{_>>=_}
-use Rattle.base.specs.contracts.Table.{col}
+use Rattle.base.specs.contracts.Table.{col, cNumber, cNext, cType, cParameters, cLocals, cMethods, cBody, cValue}
 use Rattle.lexer.specs.Tokens.{Token}
 use Rattle.parser.specs.Tree.{Sort, Part, Method, Class, Program}
-use Rattle.parser.specs.contracts.Layout.{absent, rowOf, rowMethods, rowClasses}
+use Rattle.parser.specs.contracts.Layout.{absent, rowOf, rowMethods, rowClasses, mainRow}
 use Rattle.reader.specs.contracts.Holds.{Holds}
 use Rattle.reader.specs.contracts.Matches.{Matches}
 use Rattle.reader.specs.contracts.Spans.{Spans}
@@ -60,13 +60,13 @@ module _ {tab : List ℕ} {n : ℕ} {ts : List Token} (lx : Lexemes tab n ts) {m
 -- STATEMENTS AND RETURN EXPRESSION
 
 -- they lie among the tokens from the row on
-module _ {tab : List ℕ} {s : Scope} {row first from end : ℕ} (e₄ : first ≡ wordAt tab 4 (row + 1)) (low : from ≡ row)
+module _ {tab : List ℕ} {s : Scope} {row first from end : ℕ} (e₄ : first ≡ wordAt tab cBody (row + 1)) (low : from ≡ row)
     (high : end ≡ s .tokens) {v : Judged} (f : ListPost tab s from end first v) where
   statements : (ts : List Token) (G : List Class) (Γ : Context) → InScope tab ts G Γ s → (m : Method) → m .name .row ≡ row
       → MethodHeld tab (s .tokens) ts m → v ≡ asJudged (judge G Γ (m .body))
   statements ts G Γ sc m at st =
       f .says ts G Γ sc (m .body)
-      (rw (low, high) (part (sc .world .tokens) at st 4 (m .body) (st .start) e₄ (st .body) (st .body-matches) (st .body-within)))
+      (rw (low, high) (part (sc .world .tokens) at st cBody (m .body) (st .start) e₄ (st .body) (st .body-matches) (st .body-within)))
 
   pub carried-refused : {n p : ℕ} → v ≡ Refused n p → CarriedJudged tab s row (Refused n p)
   carried-refused is =
@@ -75,35 +75,35 @@ module _ {tab : List ℕ} {s : Scope} {row first from end : ℕ} (e₄ : first �
             rw (stops (judge G Γ (m .body)) (λ _. judge G Γ (m .value) >>= λ t. must G (m .value) (m .result .type) t) (statements ts G Γ sc m at st) is);
       }
 
-  pub carried-value : {w : ℕ} → v ≡ Fine w → {t want second : ℕ} → t ≡ wordAt tab 3 row → TypeOf tab (s .tokens) t want
-      → second ≡ wordAt tab 5 (row + 1) → {r : Judged}
+  pub carried-value : {w : ℕ} → v ≡ Fine w → {t want second : ℕ} → t ≡ wordAt tab cType row → TypeOf tab (s .tokens) t want
+      → second ≡ wordAt tab cValue (row + 1) → {r : Judged}
       → OperandPost tab s from end second want r → CarriedJudged tab s row r
   carried-value is {t} {want} {second} e₃ type e₅ g =
       record {
         says = λ ts G Γ sc m at st.
-            let d : m .result .row ≡ t = named (sc .world .tokens) at st 3 (st .result) e₃ in
+            let d : m .result .row ≡ t = named (sc .world .tokens) at st cType (st .result) e₃ in
             rw (goes-on (judge G Γ (m .body)) (λ _. judge G Γ (m .value) >>= λ t. must G (m .value) (m .result .type) t) (statements ts G Γ sc m at st) is)
             (g .says ts G Γ sc (m .value)
-            (rw (low, high) (part (sc .world .tokens) at st 5 (m .value) (st .return) e₅ (st .value) (st .value-matches) (st .value-within)))
+            (rw (low, high) (part (sc .world .tokens) at st cValue (m .value) (st .return) e₅ (st .value) (st .value-matches) (st .value-within)))
             (m .result .type) (type .says ts (sc .world .tokens) (m .result .row) d (m .result .type) (st .head .type)));
       }
 
 -- BODIES
 
-declared : {tab : List ℕ} {n : ℕ} (row parameters locals before : ℕ) → parameters ≡ wordAt tab 4 row → locals ≡ wordAt tab 5 row
+declared : {tab : List ℕ} {n : ℕ} (row parameters locals before : ℕ) → parameters ≡ wordAt tab cParameters row → locals ≡ wordAt tab cLocals row
     → Counts tab n parameters before → {v : Judged}
     → VariablesJudged tab n n parameters before locals 0 locals v → (ts : List Token) (G : List Class) → ClassTableHeld tab n ts G
     → (m : Method) → m .name .row ≡ row → MethodHeld tab n ts m
     → v ≡ asJudged (variables G (map textOf (m .parameters)) (m .locals))
 declared {tab} row parameters locals before e₄ e₅ many f ts G w m at st =
-    let given = named (w .tokens) at st 4 (st .first) e₄ in
-    let own = named (w .tokens) at st 5 (st .second) e₅ in
+    let given = named (w .tokens) at st cParameters (st .first) e₄ in
+    let own = named (w .tokens) at st cLocals (st .second) e₅ in
     let rows = subst (λ (i : ℕ). Many tab i (length (m .parameters))) given (variables-many (w .tokens) (st .parameters)) in
     let count : length (m .parameters) ≡ before = sym (many .says (length (m .parameters)) rows (st .few-parameters)) in
     f .says ts G w (m .parameters) (record { stand = st .parameters; begins = given; many = count }) [] (m .locals)
     (record { stand = st .locals; begins = own; before = refl; here = own }) (st .few-locals)
 
-module _ {tab : List ℕ} {n classes owner row parameters locals before : ℕ} (e₄ : parameters ≡ wordAt tab 4 row) (e₅ : locals ≡ wordAt tab 5 row) (many : Counts tab n parameters before)
+module _ {tab : List ℕ} {n classes owner row parameters locals before : ℕ} (e₄ : parameters ≡ wordAt tab cParameters row) (e₅ : locals ≡ wordAt tab cLocals row) (many : Counts tab n parameters before)
     {v : Judged} (f : VariablesJudged tab n n parameters before locals 0 locals v) where
   pub body-refused : {k p : ℕ} → v ≡ Refused k p → BodyJudged tab n classes owner row (Refused k p)
   body-refused is =
@@ -125,8 +125,8 @@ module _ {tab : List ℕ} {n classes owner row parameters locals before : ℕ} (
               own = m .locals;
               seen = refl;
               given-listed =
-                  record { at = named (w .tokens) at st 4 (st .first) e₄; stand = st .parameters; few = st .few-parameters };
-              own-listed = record { at = named (w .tokens) at st 5 (st .second) e₅; stand = st .locals; few = st .few-locals };
+                  record { at = named (w .tokens) at st cParameters (st .first) e₄; stand = st .parameters; few = st .few-parameters };
+              own-listed = record { at = named (w .tokens) at st cLocals (st .second) e₅; stand = st .locals; few = st .few-locals };
             })
             m at st);
       }
@@ -158,7 +158,7 @@ module _ {tab : List ℕ} {n classes left owner row : ℕ} where
         go ts G w l c sp [] at st = absurd (omega (arith, at))
         go ts G w l c sp (m ∷ ms) at (more-methods s c₆ st) = rw (stops (body G c m) (λ _. bodies G c ms) (f .says ts G w l c sp m at s) is)
 
-    pub methods-next : {u : ℕ} → v ≡ Fine u → {next : ℕ} → next ≡ wordAt tab 6 row → {r : Judged}
+    pub methods-next : {u : ℕ} → v ≡ Fine u → {next : ℕ} → next ≡ wordAt tab cNext row → {r : Judged}
         → MethodsJudged tab n classes (left - 1) owner next r → MethodsJudged tab n classes left owner row r
     unfolding bodies
     methods-next is {next} e₆ {r} g = record { says = λ ts G w l c sp ms at st few. go ts G w l c sp ms at st few }
@@ -169,12 +169,12 @@ module _ {tab : List ℕ} {n classes left owner row : ℕ} where
         go ts G w l c sp [] at st few = absurd (omega (arith, at))
         go ts G w l c sp (m ∷ ms) at (more-methods s c₆ st) few =
             rw (goes-on (body G c m) (λ _. bodies G c ms) (f .says ts G w l c sp m at s) is)
-            (g .says ts G w l c sp ms (leads (w .tokens) at (s .head .name .token .there) 6 c₆ e₆) st (omega arith))
+            (g .says ts G w l c sp ms (leads (w .tokens) at (s .head .name .token .there) cNext c₆ e₆) st (omega arith))
 
 -- CLASSES
 
-module _ {tab : List ℕ} {n classes row first : ℕ} (e₅ : first ≡ wordAt tab 5 row) where
-  pub class-judged : {owner : ℕ} → owner ≡ wordAt tab 2 row → {r : Judged} → MethodsJudged tab n classes n owner first r
+module _ {tab : List ℕ} {n classes row first : ℕ} (e₅ : first ≡ wordAt tab cMethods row) where
+  pub class-judged : {owner : ℕ} → owner ≡ wordAt tab cNumber row → {r : Judged} → MethodsJudged tab n classes n owner first r
       → ClassJudged tab n classes row r
   class-judged {owner} e₂ {r} f = record { says = go }
     where
@@ -183,8 +183,8 @@ module _ {tab : List ℕ} {n classes row first : ℕ} (e₅ : first ≡ wordAt t
           → r ≡ asJudged (bodies G (k .name .text) (k .methods))
       go ts G w l k at s =
           f .says ts G w l (k .name .text)
-          (subst (NameNumber ts (k .name .text)) (ap (wordAt tab 2) at ∙ sym e₂) (name-word (w .tokens) (k .name .row) (s .named .token)))
-          (k .methods) (leads (w .tokens) at (s .named .token .there) 5 (s .second) e₅) (s .methods) (s .few-methods)
+          (subst (NameNumber ts (k .name .text)) (ap (wordAt tab cNumber) at ∙ sym e₂) (name-word (w .tokens) (k .name .row) (s .named .token)))
+          (k .methods) (leads (w .tokens) at (s .named .token .there) cMethods (s .second) e₅) (s .methods) (s .few-methods)
 
   pub class-empty : absent ≤ first → ClassJudged tab n classes row (Fine 0)
   class-empty far = class-judged refl (methods-end far)
@@ -213,7 +213,7 @@ module _ {tab : List ℕ} {n classes left row : ℕ} where
         go ts G w l [] at st = absurd (omega (arith, at))
         go ts G w l (c ∷ ks) at (more-classes s c₆ st) = rw (stops (bodies G (c .name .text) (c .methods)) (λ _. classBodies G ks) (f .says ts G w l c at s) is)
 
-    pub classes-next : {u : ℕ} → v ≡ Fine u → {next : ℕ} → next ≡ wordAt tab 6 row → {r : Judged}
+    pub classes-next : {u : ℕ} → v ≡ Fine u → {next : ℕ} → next ≡ wordAt tab cNext row → {r : Judged}
         → ClassesJudged tab n classes (left - 1) next r → ClassesJudged tab n classes left row r
     unfolding classBodies
     classes-next is {next} e₆ {r} g = record { says = λ ts G w l ks h. go ts G w l ks (h .here) (h .stand) (h .few) }
@@ -223,7 +223,7 @@ module _ {tab : List ℕ} {n classes left row : ℕ} where
         go ts G w l [] at st few = absurd (omega (arith, at))
         go ts G w l (c ∷ ks) at (more-classes s c₆ st) few =
             rw (goes-on (bodies G (c .name .text) (c .methods)) (λ _. classBodies G ks) (f .says ts G w l c at s) is)
-            (g .says ts G w l ks (record { here = leads (w .tokens) at (s .named .token .there) 6 c₆ e₆; stand = st; few = omega arith }))
+            (g .says ts G w l ks (record { here = leads (w .tokens) at (s .named .token .there) cNext c₆ e₆; stand = st; few = omega arith }))
 
 -- ALL BODIES
 
@@ -234,8 +234,8 @@ mainScope n classes = record { tokens = n; classes = classes; owner = absent; pa
 none-listed : (tab : List ℕ) (n : ℕ) (ts : List Token) → ListedAt tab n ts absent []
 none-listed tab n ts = record { at = refl; stand = no-variables; few = omega arith }
 
-module _ {tab : List ℕ} {n classes from end : ℕ} (low : from ≡ 14) (high : end ≡ n) {v : Judged}
-    (f : StatementPost tab (mainScope n classes) from end 14 v) where
+module _ {tab : List ℕ} {n classes from end : ℕ} (low : from ≡ mainRow) (high : end ≡ n) {v : Judged}
+    (f : StatementPost tab (mainScope n classes) from end mainRow v) where
   main-settled : (ts : List Token) (p : Program) → Ready tab n ts p → length (p .classes) ≡ classes
       → v ≡ asJudged (judge (p .classes) mainContext (p .statement))
   main-settled ts p h l =
@@ -257,7 +257,7 @@ module _ {tab : List ℕ} {n classes from end : ℕ} (low : from ≡ 14) (high :
   bodies-main is =
       record { says = λ ts p h l. rw (stops (judge (p .classes) mainContext (p .statement)) (λ _. classBodies (p .classes) (p .classes)) (main-settled ts p h l) is) }
 
-  pub bodies-classes : {u : ℕ} → v ≡ Fine u → {first : ℕ} → first ≡ wordAt tab 6 0 → {r : Judged} → ClassesJudged tab n classes n first r
+  pub bodies-classes : {u : ℕ} → v ≡ Fine u → {first : ℕ} → first ≡ wordAt tab cNext 0 → {r : Judged} → ClassesJudged tab n classes n first r
       → BodiesJudged tab n classes r
   unfolding allBodies
   bodies-classes is e₆ g =
@@ -265,5 +265,5 @@ module _ {tab : List ℕ} {n classes from end : ℕ} (low : from ≡ 14) (high :
         says = λ ts p h l.
             rw (goes-on (judge (p .classes) mainContext (p .statement)) (λ _. classBodies (p .classes) (p .classes)) (main-settled ts p h l) is)
             (g .says ts (p .classes) (h .world) l (p .classes)
-            (record { here = sym (e₆ ∙ word-in tab 6 0 (omega arith) (h .first)); stand = h .world .classes; few = h .world .few }));
+            (record { here = sym (e₆ ∙ word-in tab cNext 0 (omega arith) (h .first)); stand = h .world .classes; few = h .world .few }));
       }

@@ -5,10 +5,11 @@ use mathlib.Core.Path.{_≡_, refl, sym, ap, _∙_, subst}
 use mathlib.Core.List.{List, [], _∷_}
 use lib.ListN.{length, replicate}
 use borrow.Author.Tests.{lt-ltb, le-ltb}
-use Rattle.base.specs.Codes.{tableLeast}
+use Rattle.base.specs.Codes.{tableLeast, tokensMost, tableTooShort}
 use Rattle.base.specs.laws.Lists.{getD-replicate-same}
 use Rattle.base.specs.Outcome.{Outcome, accepted, refused, _>>=_}
 use Rattle.base.specs.laws.Tests.{apart}
+use Rattle.base.specs.contracts.Table.{cNext}
 use Rattle.lexer.specs.Tokens.{Token}
 use Rattle.lexer.specs.laws.RowLaws.{token-of}
 use Rattle.parser.specs.Tree.{Class, Program}
@@ -85,11 +86,11 @@ many-classes : {tab : List ℕ} {n : ℕ} {ts : List Token} {ks : List Class} �
 many-classes lx no-classes = many-none {row = absent} (omega arith)
 many-classes lx (more-classes {k = k} s c₆ h) = many-more (row-there lx (k .name .row) (s .named .token .there)) c₆ (many-classes lx h)
 
-first-row : (tab : List ℕ) {n : ℕ} {ts : List Token} {p : Program} → Ready tab n ts p → {first : ℕ} → first ≡ wordAt tab 6 0
+first-row : (tab : List ℕ) {n : ℕ} {ts : List Token} {p : Program} → Ready tab n ts p → {first : ℕ} → first ≡ wordAt tab cNext 0
     → rowClasses (p .classes) ≡ first
-first-row tab h e = sym (e ∙ word-in tab 6 0 (omega arith) (h .first))
+first-row tab h e = sym (e ∙ word-in tab cNext 0 (omega arith) (h .first))
 
-module _ {tab : List ℕ} {n first : ℕ} (e₆ : first ≡ wordAt tab 6 0) {v : Judged} (f : ParentsJudged tab n first v) where
+module _ {tab : List ℕ} {n first : ℕ} (e₆ : first ≡ wordAt tab cNext 0) {v : Judged} (f : ParentsJudged tab n first v) where
   parents-told : (ts : List Token) (p : Program) → Ready tab n ts p → v ≡ asJudged (knownParents (p .classes) (p .classes))
   parents-told ts p h = f .says n ts (p .classes) (h .world) (p .classes) (classes-at h (first-row tab h e₆))
 
@@ -223,10 +224,10 @@ module _ (s : List ℕ) (a : Filled) (middle : List ℕ) (f : Fills (reading s) 
       record { answers = told-right s (checking s) r after x; finds = x }
 
   -- the bound that the table's functions ask for
-  pub find-few : {n m : ℕ} → a ≡ Tree n m → n ≤ 2048
+  pub find-few : {n m : ℕ} → a ≡ Tree n m → n ≤ tokensMost
   find-few {n} {m} is = go (reading s) f
     where
-      go : (o : Outcome Reading) → Fills o a middle → n ≤ 2048
+      go : (o : Outcome Reading) → Fills o a middle → n ≤ tokensMost
       go (accepted d) h = let z = h .0 in let l : length (d .stream) ≡ n = cc in omega (arith, l, h .1 .few)
       go (refused k p) h = let z = h in apart (cc)
 
@@ -242,13 +243,13 @@ module _ (s : List ℕ) (a : Filled) (middle : List ℕ) (f : Fills (reading s) 
 -- THE OPERATION
 
 module _ (s table : List ℕ) where
-  pub check-short : {r : CheckAnswer} → length table < 16384 → r .number ≡ 1 → r .position ≡ 0 → r .classes ≡ 0
+  pub check-short : {r : CheckAnswer} → length table < tableLeast → r .number ≡ tableTooShort → r .position ≡ 0 → r .classes ≡ 0
       → Checks s table (checkAnswerOf r) table
   unfolding check tableAfter
   check-short h e₁ e₂ e₃ =
       record { answer = rw (lt-ltb (length table) tableLeast h, e₁, e₂, e₃); table = rw (lt-ltb (length table) tableLeast h) }
 
-  pub check-done : (r : CheckAnswer) (middle : List ℕ) {after : List ℕ} → 16384 ≤ length table → length middle ≡ length table
+  pub check-done : (r : CheckAnswer) (middle : List ℕ) {after : List ℕ} → tableLeast ≤ length table → length middle ≡ length table
       → after ≡ replicate (length middle) 0
       → checkAnswerOf r ≡ checkAnswer (checking s) → Checks s table (checkAnswerOf r) after
   unfolding check tableAfter

@@ -19,7 +19,7 @@ ghost use lib.ListN.{length};
 ghost use Rattle.base.specs.contracts.Table.{rows};
 ghost use Rattle.base.specs.Word.{modulus};
 ghost use Rattle.reader.specs.contracts.WalkPost.{Walkable};
-ghost use Rattle.lookup.specs.contracts.Fields.{FieldsHeld};
+ghost use Rattle.lookup.specs.contracts.Fields.{FieldsHeld, fieldsLeast};
 ghost use Rattle.bodies.specs.contracts.Scoping.{Judgeable};
 ghost use Rattle.typecheck.specs.contracts.MethodPost.{CarriedJudged, BodyJudged, MethodsJudged, ClassJudged, ClassesJudged};
 ghost use Rattle.typecheck.specs.contracts.MethodPost.{BodiesJudged};
@@ -44,7 +44,7 @@ fn carried(table: &[u32], fields: &[u32], s: Scope, row: usize) -> Judged
 
 // The body of a method in the class whose name has the number `owner`.
 fn body(table: &[u32], fields: &[u32], n: usize, classes: usize, owner: usize, row: usize) -> Judged
-    requires { ⌜ Walkable (now table) n × (4096 ≤ length (now fields)) × FieldsHeld (now table) n classes owner (now fields)
+    requires { ⌜ Walkable (now table) n × (fieldsLeast ≤ length (now fields)) × FieldsHeld (now table) n classes owner (now fields)
         × (row < modulus) ⌝ }
     ensures { λ r. ⌜ BodyJudged (now (table .entry)) n classes owner row r ⌝ }
 {
@@ -77,7 +77,7 @@ fn methods(
     owner: usize,
     row: usize,
 ) -> Judged
-    requires { ⌜ Walkable (now table) n × (4096 ≤ length (now fields)) × FieldsHeld (now table) n classes owner (now fields) ⌝ }
+    requires { ⌜ Walkable (now table) n × (fieldsLeast ≤ length (now fields)) × FieldsHeld (now table) n classes owner (now fields) ⌝ }
     ensures { λ r. ⌜ MethodsJudged (now (table .entry)) n classes left owner row r ⌝ }
 {
     if ABSENT <= row {
@@ -98,7 +98,7 @@ fn methods(
 
 // The bodies of the class in a row.
 fn of_class(table: &[u32], fields: &mut [u32], n: usize, classes: usize, row: usize) -> Judged
-    requires { ⌜ Walkable (now table) n × (4096 ≤ length (now fields)) × (classes ≤ rows) ⌝ }
+    requires { ⌜ Walkable (now table) n × (fieldsLeast ≤ length (now fields)) × (classes ≤ rows) ⌝ }
     ensures { λ r. ⌜ ClassJudged (now (table .entry)) n classes row r ⌝ }
 {
     let first = word(table, columns::METHODS, row);
@@ -119,7 +119,7 @@ fn all(
     left: usize,
     row: usize,
 ) -> Judged
-    requires { ⌜ Walkable (now table) n × (4096 ≤ length (now fields)) × (classes ≤ rows) ⌝ }
+    requires { ⌜ Walkable (now table) n × (fieldsLeast ≤ length (now fields)) × (classes ≤ rows) ⌝ }
     ensures { λ r. ⌜ ClassesJudged (now (table .entry)) n classes left row r ⌝ }
 {
     if ABSENT <= row {

@@ -11,7 +11,9 @@ use lib.ListN.{length, getD, length-map}
 use borrow.Author.Tests.{eq-eqb, ne-eqb}
 use Rattle.base.specs.Outcome.{Outcome}
 use Rattle.base.specs.laws.Tests.{apart}
-use Rattle.lexer.specs.Kinds.{kTimes}
+use Rattle.base.specs.Codes.{tokensMost}
+use Rattle.base.specs.contracts.Table.{cNumber, cBegin, cFirst, cSecond}
+use Rattle.lexer.specs.Kinds.{kTimes, kLiteral, kFixedLiteral, kFalse, kLength, kNew, kPort, kThis, kTrue, kAnd, kNot, kDot, kOpenBracket}
 use Rattle.lexer.specs.Tokens.{Token}
 use Rattle.lexer.specs.contracts.Rows.{firstNamed}
 use Rattle.parser.specs.Tree.{Operator, Operator.and, Operator.less, Operator.plus, Operator.minus, Operator.times}
@@ -26,7 +28,7 @@ use Rattle.typesystem.specs.Judge.{arity, judge}
 use Rattle.lookup.specs.declared.answer.Judged.{Judged}
 use Rattle.lookup.specs.declared.answer.Judged.the-variants.{Fine, Refused}
 use Rattle.lookup.specs.contracts.Answers.{Judges, well, ill}
-use Rattle.lookup.specs.contracts.HeldClasses.{wordAt, NameNumber, Lexemes, code-fixed, code-plain}
+use Rattle.lookup.specs.contracts.HeldClasses.{wordAt, NameNumber, Lexemes, code-fixed, code-plain, fixedNumber}
 use Rattle.lookup.specs.laws.HeldLaws.{same-codes, other-codes}
 use Rattle.lookup.specs.contracts.Lookups.{Counts}
 use Rattle.lookup.specs.contracts.Shows.{PartAt, Form, aLiteral, aFixedLiteral, aTruth, aVariable, aThis, aNewArray, aNewObject, aNegation}
@@ -43,7 +45,7 @@ use Rattle.writer.specs.declared.job.Job.{Job}
 use Rattle.writer.specs.contracts.Scoping.{Sees, SlotPost}
 use Rattle.writer.specs.contracts.Jobs.{partOf, oneLess, PartPost}
 use Rattle.codegen.specs.contracts.Code as Code
-use Rattle.codegen.specs.contracts.Code.{push, load, self, negate, operate, keep, fetch, measure, makeArray, makeObject, readRegister}
+use Rattle.codegen.specs.contracts.Code.{push, load, self, negate, operate, keep, fetch, measure, makeArray, makeObject, readRegister, iMark, iPush, iLoad, iSelf, iNegate, iOperate, iKeep, iFetch, iMeasure, iMakeArray, iMakeObject, iCall, iReadRegister, iScale}
 use Rattle.codegen.specs.contracts.Compile.{endBinary, judgedFixed, timesOf, operatorCode, emitBinary, end, emit, cellsOf}
 use Rattle.writer.specs.contracts.Words.{words, encode}
 use Rattle.writer.specs.laws.Lengths.{grows}
@@ -52,9 +54,10 @@ use Rattle.writer.specs.contracts.Posts.{instructionOf, ScalesPost, Expr
 use Rattle.writer.specs.contracts.Posts.{LoadPost, FollowedPost, LocatedPost, PairPost, ConjunctionPost}
 use Rattle.writer.proofs.RowLaws.{positive, fewer, counted}
 use Rattle.writer.proofs.PieceLaws.{put-one, next-to, over, Opens, node-wrote}
+use Rattle.writer.specs.contracts.Sizing.{sizesFrom}
 
 pub few-tokens : {tab names : List ℕ} {ts : List Token} {G : List Class} {Γ : Context} {s : Scope} → Sees tab names ts G Γ s
-    → length ts ≤ 2048
+    → length ts ≤ tokensMost
 few-tokens w = omega (arith, w .scope .world .tokens .count, w .scope .world .tokens .few)
 
 pub lexemes : {tab names : List ℕ} {ts : List Token} {G : List Class} {Γ : Context} {s : Scope} → Sees tab names ts G Γ s
@@ -105,18 +108,18 @@ both-wrote {job = job} f g ts G Γ w x y h h′ l =
     let u = f .says ts G Γ w x h (omega (arith, grows y (end x (job .at)))) in
     next-to (emit G Γ y) (end y) u (g .says ts G Γ w y h′ (rw (u .ends) l))
 
-pub loaded-wrote : {tab names : List ℕ} {s : Scope} {job : Job} {x v r : ℕ} {c c′ : List ℕ} → x ≡ wordAt tab 2 (job .row)
-    → SlotPost tab s x v → PutPost (job .at) 2 v 0 0 c c′ r → LoadPost tab names s job c c′ r
+pub loaded-wrote : {tab names : List ℕ} {s : Scope} {job : Job} {x v r : ℕ} {c c′ : List ℕ} → x ≡ wordAt tab cNumber (job .row)
+    → SlotPost tab s x v → PutPost (job .at) iLoad v 0 0 c c′ r → LoadPost tab names s job c c′ r
 loaded-wrote e₂ g f =
     record {
       within = f .within;
       says = λ ts G Γ w y sp h.
-          put-one (load (meaning G Γ y)) (ap (λ (m : ℕ). words 2 m 0 0) (g .says ts G Γ (w .scope) y (rw e₂ sp))) f h;
+          put-one (load (meaning G Γ y)) (ap (λ (m : ℕ). words iLoad m 0 0) (g .says ts G Γ (w .scope) y (rw e₂ sp))) f h;
     }
 
-pub mark-put : (tab : List ℕ) (row : ℕ) {start at r : ℕ} {c c′ : List ℕ} → start ≡ wordAt tab 3 row → PutPost at 0 start 0 0 c c′ r
-    → PutPost at 0 (wordAt tab 3 row) 0 0 c c′ r
-mark-put tab row {start} {at} {r} {c} {c′} e₃ p = subst (λ (v : ℕ). PutPost at 0 v 0 0 c c′ r) e₃ p
+pub mark-put : (tab : List ℕ) (row : ℕ) {start at r : ℕ} {c c′ : List ℕ} → start ≡ wordAt tab cBegin row → PutPost at iMark start 0 0 c c′ r
+    → PutPost at iMark (wordAt tab cBegin row) 0 0 c c′ r
+mark-put tab row {start} {at} {r} {c} {c′} e₃ p = subst (λ (v : ℕ). PutPost at iMark v 0 0 c c′ r) e₃ p
 
 pub followed-wrote : {tab names : List ℕ} {s : Scope} {op arg : ℕ} {job : Job} {a r : ℕ} {c c₁ c₂ : List ℕ}
     → WritePost tab names s expression job c c₁ a → PutPost a op arg 0 0 c₁ c₂ r → FollowedPost tab names s op arg job c c₂ r
@@ -129,13 +132,13 @@ followed-wrote f p =
     }
 
 pub located-wrote : {tab names : List ℕ} {s : Scope} {op start : ℕ} {job first : Job} {r : ℕ} {c c′ : List ℕ}
-    → start ≡ wordAt tab 3 (job .row) → PartPost tab 4 job (job .at) first → FollowedPost tab names s op start first c c′ r
+    → start ≡ wordAt tab cBegin (job .row) → PartPost tab cFirst job (job .at) first → FollowedPost tab names s op start first c c′ r
     → LocatedPost tab names s op job c c′ r
 located-wrote {tab} {names} {s} {op} {job = job} {r = r} {c} {c′} e₃ e₄ f =
-    subst (λ (i : ℕ). FollowedPost tab names s op i (partOf tab 4 job (job .at)) c c′ r) e₃ (found-followed e₄ f)
+    subst (λ (i : ℕ). FollowedPost tab names s op i (partOf tab cFirst job (job .at)) c c′ r) e₃ (found-followed e₄ f)
 
 pub pair-wrote : {tab names : List ℕ} {s : Scope} {op arg : ℕ} {job first second : Job} {a r : ℕ} {c c₁ c₂ : List ℕ}
-    → PartPost tab 4 job (job .at) first → WritePost tab names s expression first c c₁ a → PartPost tab 5 job a second
+    → PartPost tab cFirst job (job .at) first → WritePost tab names s expression first c c₁ a → PartPost tab cSecond job a second
     → FollowedPost tab names s op arg second c₁ c₂ r → PairPost tab names s op arg job c c₂ r
 pair-wrote {job = job} e₄ f e₅ g =
     record {
@@ -147,14 +150,14 @@ pair-wrote {job = job} e₄ f e₅ g =
     }
 
 pub located-pair-wrote : {tab names : List ℕ} {s : Scope} {op start : ℕ} {job : Job} {r : ℕ} {c c′ : List ℕ}
-    → start ≡ wordAt tab 3 (job .row) → PairPost tab names s op start job c c′ r
-    → PairPost tab names s op (wordAt tab 3 (job .row)) job c c′ r
+    → start ≡ wordAt tab cBegin (job .row) → PairPost tab names s op start job c c′ r
+    → PairPost tab names s op (wordAt tab cBegin (job .row)) job c c′ r
 located-pair-wrote {tab} {names} {s} {op} {job = job} {r} {c} {c′} e₃ f =
     subst (λ (i : ℕ). PairPost tab names s op i job c c′ r) e₃ f
 
 pub conjunction-wrote : {tab names : List ℕ} {s : Scope} {job first second : Job} {a n b r : ℕ} {c c₁ c₂ c₃ : List ℕ}
-    → PartPost tab 4 job (job .at) first → WritePost tab names s expression first c c₁ a → NextPost a n → PartPost tab 5 job n second
-    → WritePost tab names s expression second c₁ c₂ b → PutPost a 11 b 0 0 c₂ c₃ r → ConjunctionPost tab names s job c c₃ b
+    → PartPost tab cFirst job (job .at) first → WritePost tab names s expression first c c₁ a → NextPost a n → PartPost tab cSecond job n second
+    → WritePost tab names s expression second c₁ c₂ b → PutPost a iKeep b 0 0 c₂ c₃ r → ConjunctionPost tab names s job c c₃ b
 conjunction-wrote {job = job} {a = a} {b = b} e₄ f m e₅ g p =
     record {
       within = g .within;
@@ -164,7 +167,7 @@ conjunction-wrote {job = job} {a = a} {b = b} e₄ f m e₅ g p =
           let v = found-wrote e₅ g .says ts G Γ w t y (rw (m .next low, u .ends) h) in
           let z : b ≡ end t (suc a) = v .ends ∙ ap (end t) (m .next low) in
           next-to (λ j k. keep (end t (suc j)) ∷ emit G Γ t (suc j) k) (λ j. end t (suc j)) u
-          (over (keep (end t (suc a))) (emit G Γ t) (end t) m v (ap (λ (i : ℕ). words 11 i 0 0) z) p low (grows t (suc a)));
+          (over (keep (end t (suc a))) (emit G Γ t) (end t) m v (ap (λ (i : ℕ). words iKeep i 0 0) z) p low (grows t (suc a)));
     }
 
 -- FORMS
@@ -182,8 +185,8 @@ module _ {tab names : List ℕ} {s : Scope} {job : Job} {r : ℕ} {c c′ : List
   formed {F} {H} e low f =
       subst (λ (J : Form). ExpressionPost tab names s J job c c′ r) e (record { within = low; says = f })
 
-  pub creation-wrote : {x start size : ℕ} → x ≡ wordAt tab 2 (job .row + 1) → start ≡ wordAt tab 3 (job .row) → size ≡ getD names (4096 + x) 0
-      → PutPost (job .at) 17 start x size c c′ r → ExpressionPost tab names s aNewObject job c c′ r
+  pub creation-wrote : {x start size : ℕ} → x ≡ wordAt tab cNumber (job .row + 1) → start ≡ wordAt tab cBegin (job .row) → size ≡ getD names (sizesFrom + x) 0
+      → PutPost (job .at) iMakeObject start x size c c′ r → ExpressionPost tab names s aNewObject job c c′ r
   creation-wrote {x} {start} {size} e₂ e₃ e f = formed refl (f .within) go
     where
       go : Says tab names s aNewObject job c c′ r
@@ -192,136 +195,136 @@ module _ {tab names : List ℕ} {s : Scope} {job : Job} {r : ℕ} {c c′ : List
           = e ∙ w .sizes .says (d .text) x (rw e₂ sp) ∙ sym (length-map (fieldsOf G (d .text)) (λ v. slot (initial (v .type .type)))) in
           put-one (makeObject p (d .text) (cellsOf G (d .text))) (rw (e₃ ∙ q, spelt e₂ sp, many)) f h
 
-  pub call-wrote : {first given : Job} {a b start method count : ℕ} {c₁ c₂ : List ℕ} → PartPost tab 4 job (job .at) first
-      → WritePost tab names s expression first c c₁ a → PartPost tab 5 job a given
-      → WritePost tab names s arguments given c₁ c₂ b → start ≡ wordAt tab 3 (job .row) → method ≡ wordAt tab 2 (job .row + 1)
-      → Counts tab (given .left) (given .row) count → PutPost b 18 start method count c₂ c′ r
+  pub call-wrote : {first given : Job} {a b start method count : ℕ} {c₁ c₂ : List ℕ} → PartPost tab cFirst job (job .at) first
+      → WritePost tab names s expression first c c₁ a → PartPost tab cSecond job a given
+      → WritePost tab names s arguments given c₁ c₂ b → start ≡ wordAt tab cBegin (job .row) → method ≡ wordAt tab cNumber (job .row + 1)
+      → Counts tab (given .left) (given .row) count → PutPost b iCall start method count c₂ c′ r
       → ExpressionPost tab names s aCall job c c′ r
   call-wrote {a = a} {start = start} {method = method} {count = count} e₄ f e₅ g e₃ e₂ n p = formed refl (p .within) go
     where
-      many : Counts tab (job .left) (wordAt tab 5 (job .row)) count
+      many : Counts tab (job .left) (wordAt tab cSecond (job .row)) count
       many = subst (λ (i : Job). Counts tab (i .left) (i .row) count) (found e₅) n
 
       go : Says tab names s aCall job c c′ r
       go ts G Γ w e (shows-call {p = q} {e = l} {m = m} {es = es} st sp at′ x y) h =
           let u = both-wrote (found-wrote e₄ f) (found-wrote e₅ g) ts G Γ w l es x y (omega arith) in
           let i = Code.call q (m .text) (arity es) in
-          let z : words 18 start method count ≡ encode (firstNamed ts) i
+          let z : words iCall start method count ≡ encode (firstNamed ts) i
           = rw (e₃ ∙ st, spelt e₂ sp, counted {ts = ts} {n = s .tokens} (few-tokens w) many es y) in
           next-to (λ j k. i ∷ k) suc u (put-one i z p (rw (u .ends) h))
 
-  truth-wrote : (k : ℕ) (b : Bool) {v : ℕ} → ((ν : List ℕ → ℕ) → words 1 v 0 0 ≡ encode ν (push (flag b))) → aTruth b ≡ formAtom k
-      → PutPost (job .at) 1 v 0 0 c c′ r → ExpressionPost tab names s (formAtom k) job c c′ r
+  truth-wrote : (k : ℕ) (b : Bool) {v : ℕ} → ((ν : List ℕ → ℕ) → words iPush v 0 0 ≡ encode ν (push (flag b))) → aTruth b ≡ formAtom k
+      → PutPost (job .at) iPush v 0 0 c c′ r → ExpressionPost tab names s (formAtom k) job c c′ r
   truth-wrote k b is form f = formed form (f .within) go
     where
       go : Says tab names s (aTruth b) job c c′ r
       go ts G Γ w e (shows-truth q) h = put-one (push (flag b)) (is (firstNamed ts)) f h
 
   module _ {k : ℕ} where
-    pub atom-literal : k ≡ 4 → {v : ℕ} → v ≡ wordAt tab 2 (job .row) → PutPost (job .at) 1 v 0 0 c c′ r
+    pub atom-literal : k ≡ kLiteral → {v : ℕ} → v ≡ wordAt tab cNumber (job .row) → PutPost (job .at) iPush v 0 0 c c′ r
         → ExpressionPost tab names s (formAtom k) job c c′ r
     unfolding formAtom
     atom-literal is {v} e₂ f = formed (sym (ap formAtom is)) (f .within) go
       where
         go : Says tab names s aLiteral job c c′ r
-        go ts G Γ w e (shows-literal {v = n} q z) h = put-one (push (number n)) (ap (λ (m : ℕ). words 1 m 0 0) (e₂ ∙ z)) f h
+        go ts G Γ w e (shows-literal {v = n} q z) h = put-one (push (number n)) (ap (λ (m : ℕ). words iPush m 0 0) (e₂ ∙ z)) f h
 
-    pub atom-fixed-literal : k ≡ 44 → {v : ℕ} → v ≡ wordAt tab 2 (job .row) → PutPost (job .at) 1 v 0 0 c c′ r
+    pub atom-fixed-literal : k ≡ kFixedLiteral → {v : ℕ} → v ≡ wordAt tab cNumber (job .row) → PutPost (job .at) iPush v 0 0 c c′ r
         → ExpressionPost tab names s (formAtom k) job c c′ r
     unfolding formAtom
     atom-fixed-literal is {v} e₂ f = formed (sym (ap formAtom is)) (f .within) go
       where
         go : Says tab names s aFixedLiteral job c c′ r
-        go ts G Γ w e (shows-fixed-literal {v = n} q z) h = put-one (push (thousandths n)) (ap (λ (m : ℕ). words 1 m 0 0) (e₂ ∙ z)) f h
+        go ts G Γ w e (shows-fixed-literal {v = n} q z) h = put-one (push (thousandths n)) (ap (λ (m : ℕ). words iPush m 0 0) (e₂ ∙ z)) f h
 
-    pub atom-true : k ≡ 21 → PutPost (job .at) 1 1 0 0 c c′ r → ExpressionPost tab names s (formAtom k) job c c′ r
+    pub atom-true : k ≡ kTrue → PutPost (job .at) iPush 1 0 0 c c′ r → ExpressionPost tab names s (formAtom k) job c c′ r
     unfolding formAtom
     atom-true is f = truth-wrote k true (λ ν. refl) (sym (ap formAtom is)) f
 
-    pub atom-false : k ≡ 9 → PutPost (job .at) 1 0 0 0 c c′ r → ExpressionPost tab names s (formAtom k) job c c′ r
+    pub atom-false : k ≡ kFalse → PutPost (job .at) iPush 0 0 0 c c′ r → ExpressionPost tab names s (formAtom k) job c c′ r
     unfolding formAtom
     atom-false is f = truth-wrote k false (λ ν. refl) (sym (ap formAtom is)) f
 
-    pub atom-this : k ≡ 20 → PutPost (job .at) 4 0 0 0 c c′ r → ExpressionPost tab names s (formAtom k) job c c′ r
+    pub atom-this : k ≡ kThis → PutPost (job .at) iSelf 0 0 0 c c′ r → ExpressionPost tab names s (formAtom k) job c c′ r
     unfolding formAtom
     atom-this is f = formed (sym (ap formAtom is)) (f .within) go
       where
         go : Says tab names s aThis job c c′ r
         go ts G Γ w e (shows-this q) h = put-one self refl f h
 
-    pub atom-name : (k ≡ 4 → ⊥) → (k ≡ 44 → ⊥) → (k ≡ 21 → ⊥) → (k ≡ 9 → ⊥) → (k ≡ 20 → ⊥) → LoadPost tab names s job c c′ r
+    pub atom-name : (k ≡ kLiteral → ⊥) → (k ≡ kFixedLiteral → ⊥) → (k ≡ kTrue → ⊥) → (k ≡ kFalse → ⊥) → (k ≡ kThis → ⊥) → LoadPost tab names s job c c′ r
         → ExpressionPost tab names s (formAtom k) job c c′ r
     unfolding formAtom
     atom-name n₁ n₂ n₃ n₄ n₅ f =
-        formed (rw (ne-eqb k 4 n₁, ne-eqb k 44 n₂, ne-eqb k 21 n₃, ne-eqb k 9 n₄, ne-eqb k 20 n₅)) (f .within) go
+        formed (rw (ne-eqb k kLiteral n₁, ne-eqb k kFixedLiteral n₂, ne-eqb k kTrue n₃, ne-eqb k kFalse n₄, ne-eqb k kThis n₅)) (f .within) go
       where
         go : Says tab names s aVariable job c c′ r
         go ts G Γ w e (shows-variable {x = y} q sp) h = f .says ts G Γ w y sp h
 
   module _ {k : ℕ} where
-    module _ (is : k ≡ 14) {x : ℕ} (read : x ≡ kindInTable tab (s .tokens) (job .row + 2)) where
-      pub compound-array : x ≡ 36 → LocatedPost tab names s 14 job c c′ r
+    module _ (is : k ≡ kNew) {x : ℕ} (read : x ≡ kindInTable tab (s .tokens) (job .row + 2)) where
+      pub compound-array : x ≡ kOpenBracket → LocatedPost tab names s iMakeArray job c c′ r
           → CompoundPost tab names s k job c c′ r
       unfolding formCompound
-      compound-array told f = formed (by-kind tab (s .tokens) (job .row) 14 is (ap (formCompound 14 (kindInTable tab (s .tokens) (job .row + 1))) (sym read ∙ told))) (f .within) go
+      compound-array told f = formed (by-kind tab (s .tokens) (job .row) kNew is (ap (formCompound kNew (kindInTable tab (s .tokens) (job .row + 1))) (sym read ∙ told))) (f .within) go
         where
           go : Says tab names s aNewArray job c c′ r
           go ts G Γ w e (shows-new-array {p = p} {u = u} {e = l} q t v x) h =
-              f .says ts G Γ w (makeArray p (u .element)) (ap (λ (n : ℕ). words 14 n 0 0) q) l x h
+              f .says ts G Γ w (makeArray p (u .element)) (ap (λ (n : ℕ). words iMakeArray n 0 0) q) l x h
 
-      pub compound-object : (x ≡ 36 → ⊥) → ExpressionPost tab names s aNewObject job c c′ r
+      pub compound-object : (x ≡ kOpenBracket → ⊥) → ExpressionPost tab names s aNewObject job c c′ r
           → CompoundPost tab names s k job c c′ r
       unfolding formCompound
-      compound-object other f = formed (by-kind tab (s .tokens) (job .row) 14 is (rw (sym read, ne-eqb x 36 other))) (f .within) (f .says)
+      compound-object other f = formed (by-kind tab (s .tokens) (job .row) kNew is (rw (sym read, ne-eqb x kOpenBracket other))) (f .within) (f .says)
 
-    module _ (is : k ≡ 31) {x : ℕ} (read : x ≡ kindInTable tab (s .tokens) (job .row + 1)) where
-      pub compound-length : x ≡ 12 → LocatedPost tab names s 13 job c c′ r
+    module _ (is : k ≡ kDot) {x : ℕ} (read : x ≡ kindInTable tab (s .tokens) (job .row + 1)) where
+      pub compound-length : x ≡ kLength → LocatedPost tab names s iMeasure job c c′ r
           → CompoundPost tab names s k job c c′ r
       unfolding formCompound
-      compound-length told f = formed (by-kind tab (s .tokens) (job .row) 31 is (ap (λ (j : ℕ). formCompound 31 j (kindInTable tab (s .tokens) (job .row + 2))) (sym read ∙ told))) (f .within) go
+      compound-length told f = formed (by-kind tab (s .tokens) (job .row) kDot is (ap (λ (j : ℕ). formCompound kDot j (kindInTable tab (s .tokens) (job .row + 2))) (sym read ∙ told))) (f .within) go
         where
           go : Says tab names s aLength job c c′ r
-          go ts G Γ w e (shows-length {p = p} {e = l} q x) h = f .says ts G Γ w (measure p) (ap (λ (n : ℕ). words 13 n 0 0) q) l x h
+          go ts G Γ w e (shows-length {p = p} {e = l} q x) h = f .says ts G Γ w (measure p) (ap (λ (n : ℕ). words iMeasure n 0 0) q) l x h
 
-      pub compound-call : (x ≡ 12 → ⊥) → ExpressionPost tab names s aCall job c c′ r
+      pub compound-call : (x ≡ kLength → ⊥) → ExpressionPost tab names s aCall job c c′ r
           → CompoundPost tab names s k job c c′ r
       unfolding formCompound
-      compound-call other f = formed (by-kind tab (s .tokens) (job .row) 31 is (rw (sym read, ne-eqb x 12 other))) (f .within) (f .says)
+      compound-call other f = formed (by-kind tab (s .tokens) (job .row) kDot is (rw (sym read, ne-eqb x kLength other))) (f .within) (f .says)
 
-    pub compound-not : k ≡ 29 → {first : Job} → PartPost tab 4 job (job .at) first → FollowedPost tab names s 5 0 first c c′ r
+    pub compound-not : k ≡ kNot → {first : Job} → PartPost tab cFirst job (job .at) first → FollowedPost tab names s iNegate 0 first c c′ r
         → CompoundPost tab names s k job c c′ r
     unfolding formCompound
-    compound-not is e₄ f = formed (by-kind tab (s .tokens) (job .row) 29 is refl) (f .within) go
+    compound-not is e₄ f = formed (by-kind tab (s .tokens) (job .row) kNot is refl) (f .within) go
       where
         go : Says tab names s aNegation job c c′ r
         go ts G Γ w e (shows-negation {e = l} q x) h = found-followed e₄ f .says ts G Γ w negate refl l x h
 
-    pub compound-get : k ≡ 40 → LocatedPost tab names s 19 job c c′ r
+    pub compound-get : k ≡ kPort → LocatedPost tab names s iReadRegister job c c′ r
         → CompoundPost tab names s k job c c′ r
     unfolding formCompound
-    compound-get is f = formed (by-kind tab (s .tokens) (job .row) 40 is refl) (f .within) go
+    compound-get is f = formed (by-kind tab (s .tokens) (job .row) kPort is refl) (f .within) go
       where
         go : Says tab names s aPortGet job c c′ r
         go ts G Γ w e (shows-port-get {p = p} {e = l} q x) h =
-            f .says ts G Γ w (readRegister p) (ap (λ (n : ℕ). words 19 n 0 0) q) l x h
+            f .says ts G Γ w (readRegister p) (ap (λ (n : ℕ). words iReadRegister n 0 0) q) l x h
 
-    pub compound-element : k ≡ 36 → PairPost tab names s 12 (wordAt tab 3 (job .row)) job c c′ r
+    pub compound-element : k ≡ kOpenBracket → PairPost tab names s iFetch (wordAt tab cBegin (job .row)) job c c′ r
         → CompoundPost tab names s k job c c′ r
     unfolding formCompound
-    compound-element is f = formed (by-kind tab (s .tokens) (job .row) 36 is refl) (f .within) go
+    compound-element is f = formed (by-kind tab (s .tokens) (job .row) kOpenBracket is refl) (f .within) go
       where
         go : Says tab names s anElement job c c′ r
         go ts G Γ w e (shows-element {p = p} {a = l} {i = m} q x y) h =
-            f .says ts G Γ w (fetch p) (ap (λ (n : ℕ). words 12 n 0 0) q) l m x y h
+            f .says ts G Γ w (fetch p) (ap (λ (n : ℕ). words iFetch n 0 0) q) l m x y h
 
-    pub compound-binary : (k ≡ 14 → ⊥) → (k ≡ 31 → ⊥) → (k ≡ 29 → ⊥) → (k ≡ 40 → ⊥) → (k ≡ 36 → ⊥)
+    pub compound-binary : (k ≡ kNew → ⊥) → (k ≡ kDot → ⊥) → (k ≡ kNot → ⊥) → (k ≡ kPort → ⊥) → (k ≡ kOpenBracket → ⊥)
         → ExpressionPost tab names s aBinary job c c′ r → CompoundPost tab names s k job c c′ r
     unfolding formCompound
     compound-binary n₁ n₂ n₃ n₄ n₅ f =
-        formed (rw (ne-eqb k 14 n₁, ne-eqb k 31 n₂, ne-eqb k 29 n₃, ne-eqb k 40 n₄, ne-eqb k 36 n₅)) (f .within) (f .says)
+        formed (rw (ne-eqb k kNew n₁, ne-eqb k kDot n₂, ne-eqb k kNot n₃, ne-eqb k kPort n₄, ne-eqb k kOpenBracket n₅)) (f .within) (f .says)
 
 -- a number of a name is that of a token
-pub creation-none : {tab names : List ℕ} {s : Scope} {job : Job} {c : List ℕ} {x : ℕ} → x ≡ wordAt tab 2 (job .row + 1) → absent ≤ x
+pub creation-none : {tab names : List ℕ} {s : Scope} {job : Job} {c : List ℕ} {x : ℕ} → x ≡ wordAt tab cNumber (job .row + 1) → absent ≤ x
     → job .at ≤ room → ExpressionPost tab names s aNewObject job c c (job .at)
 creation-none {tab} {names} {s} {job} {c} {x} e₂ far low = record { within = low; says = go }
   where
@@ -331,7 +334,7 @@ creation-none {tab} {names} {s} {job} {c} {x} e₂ far low = record { within = l
 -- OPERATORS
 
 -- the kind of its token tells `&&` from the other operators
-and-kind : (o : Operator) → isAnd o ≡ eqb (operatorKind o) 24
+and-kind : (o : Operator) → isAnd o ≡ eqb (operatorKind o) kAnd
 and-kind and = refl
 and-kind less = refl
 and-kind plus = refl
@@ -360,12 +363,12 @@ times-code G Γ l times is {b} e = rw (sym e) (by b)
 
 -- whether an answer is that for fixed
 judged-fixed : {tab : List ℕ} {n : ℕ} {ts : List Token} → Lexemes tab n ts → {o : Outcome Ty} {v : Judged} {t : ℕ} → Judges ts o v
-    → v ≡ Fine t → eqb t 2050 ≡ judgedFixed o
+    → v ≡ Fine t → eqb t fixedNumber ≡ judgedFixed o
 judged-fixed lx {t = t} (well {w = w} d) is =
     let z : w ≡ t = cc in
-    rw (sym z) (elim (ℕ-discrete w 2050) [
-      | yes e ↦ eq-eqb w 2050 e ∙ sym (same-codes lx (code-plain (code-fixed refl)) d (sym e))
-      | no e ↦ ne-eqb w 2050 e ∙ sym (other-codes lx (code-plain (code-fixed refl)) d (λ y. e (sym y)))
+    rw (sym z) (elim (ℕ-discrete w fixedNumber) [
+      | yes e ↦ eq-eqb w fixedNumber e ∙ sym (same-codes lx (code-plain (code-fixed refl)) d (sym e))
+      | no e ↦ ne-eqb w fixedNumber e ∙ sym (other-codes lx (code-plain (code-fixed refl)) d (λ y. e (sym y)))
     ])
 judged-fixed lx ill is = apart (cc)
 
@@ -379,7 +382,7 @@ module _ {tab : List ℕ} {s : Scope} {k row : ℕ} where
 
   module _ (times : k ≡ kTimes) {from end : ℕ} (low : from ≡ 0) (high : end ≡ s .tokens) {v : Judged}
       (f : Bodies.ExpressionPost tab s from end row v) where
-    pub scales-judged : {t : ℕ} → v ≡ Fine t → ScalesPost tab s k row (eqb t 2050)
+    pub scales-judged : {t : ℕ} → v ≡ Fine t → ScalesPost tab s k row (eqb t fixedNumber)
     scales-judged fine =
         record {
           says = λ ts G Γ w o is l h.
@@ -403,14 +406,14 @@ wrote ts G Γ o l m {at} {r} {c} {c′} e f =
     (sym e) f
 
 module _ {tab names : List ℕ} {s : Scope} {job : Job} {r : ℕ} {c c′ : List ℕ} {k : ℕ} (kind : k ≡ kindInTable tab (s .tokens) (job .row)) where
-  pub binary-and : k ≡ 24 → ConjunctionPost tab names s job c c′ r → ExpressionPost tab names s aBinary job c c′ r
+  pub binary-and : k ≡ kAnd → ConjunctionPost tab names s job c c′ r → ExpressionPost tab names s aBinary job c c′ r
   binary-and is f = record { within = f .within; says = go }
     where
       go : Says tab names s aBinary job c c′ r
       go ts G Γ w e (shows-binary {o = o} {l = l} {r = m} q z x y) =
-          wrote ts G Γ o l m (and-kind o ∙ ap (λ (j : ℕ). eqb j 24) (sym z ∙ sym kind ∙ is)) (f .says ts G Γ w l m x y)
+          wrote ts G Γ o l m (and-kind o ∙ ap (λ (j : ℕ). eqb j kAnd) (sym z ∙ sym kind ∙ is)) (f .says ts G Γ w l m x y)
 
-  module _ (other : k ≡ 24 → ⊥) {first : ℕ} (e₄ : first ≡ wordAt tab 4 (job .row)) {b : Bool} (scales : ScalesPost tab s k first b) where
+  module _ (other : k ≡ kAnd → ⊥) {first : ℕ} (e₄ : first ≡ wordAt tab cFirst (job .row)) {b : Bool} (scales : ScalesPost tab s k first b) where
     -- words that are those of the operator's instruction
     binary-pair : {op arg : ℕ} → ((ν : List ℕ → ℕ) (o : Operator) → k ≡ operatorKind o → words op arg 0 0 ≡ encode ν (instructionOf b o))
         → PairPost tab names s op arg job c c′ r → ExpressionPost tab names s aBinary job c c′ r
@@ -421,13 +424,13 @@ module _ {tab names : List ℕ} {s : Scope} {job : Job} {r : ℕ} {c c′ : List
             let lies : PartIn tab ts first 0 (s .tokens) l =
             record { at = x .at ∙ sym e₄; holds = x .holds; matches = x .matches; within = x .within .spans } in
             let code = scales .says ts G Γ (w .scope) o (kind ∙ z) l lies in
-            wrote ts G Γ o l m (and-kind o ∙ ne-eqb (operatorKind o) 24 (λ i. other (kind ∙ z ∙ i)))
+            wrote ts G Γ o l m (and-kind o ∙ ne-eqb (operatorKind o) kAnd (λ i. other (kind ∙ z ∙ i)))
             (f .says ts G Γ w (operatorCode G Γ o l) (is (firstNamed ts) o (kind ∙ z) ∙ ap (encode (firstNamed ts)) (sym code)) l m x y)
 
-    pub binary-scale : b ≡ true → PairPost tab names s 21 0 job c c′ r → ExpressionPost tab names s aBinary job c c′ r
+    pub binary-scale : b ≡ true → PairPost tab names s iScale 0 job c c′ r → ExpressionPost tab names s aBinary job c c′ r
     binary-scale yes′ f = binary-pair (λ ν o is. rw yes′) f
 
-    pub binary-operation : b ≡ false → PairPost tab names s 8 k job c c′ r
+    pub binary-operation : b ≡ false → PairPost tab names s iOperate k job c c′ r
         → ExpressionPost tab names s aBinary job c c′ r
     binary-operation no′ f = binary-pair (λ ν o is. rw (no′, is)) f
 
@@ -453,7 +456,7 @@ module _ {tab names : List ℕ} {s : Scope} {job : Job} {c : List ℕ} where
   expression-none z low = record { within = low; says = λ ts G Γ w e h. absurd (omega (arith, positive e, h .within .few)) }
 
   module _ (more : job .left ≡ 0 → ⊥) {k i : ℕ} {c₁ : List ℕ} (kind : k ≡ kindInTable tab (s .tokens) (job .row))
-      (p : PutPost (job .at) 0 (wordAt tab 3 (job .row)) 0 0 c c₁ i) {r : ℕ} {c₂ : List ℕ} {b : Bool} (test : b ≡ isAtom k) where
+      (p : PutPost (job .at) iMark (wordAt tab cBegin (job .row)) 0 0 c c₁ i) {r : ℕ} {c₂ : List ℕ} {b : Bool} (test : b ≡ isAtom k) where
     behind-mark : {F : Form} → formE k (kindInTable tab (s .tokens) (job .row + 1)) (kindInTable tab (s .tokens) (job .row + 2)) ≡ F
         → ExpressionPost tab names s F (oneLess job i) c₁ c₂ r → WritePost tab names s expression job c c₂ r
     behind-mark {F} form f =

@@ -5,6 +5,8 @@ use native.Mathlib.Omega.{arith}
 use mathlib.Core.Path.{_≡_, refl, subst}
 use mathlib.Core.List.{List}
 use lib.ListN.{length}
+use Rattle.base.specs.Codes.{tokensMost}
+use Rattle.base.specs.contracts.Table.{cNext}
 use Rattle.lexer.specs.Tokens.{Token}
 use Rattle.lexer.specs.contracts.Rows.{firstNamed}
 use Rattle.parser.specs.Tree.{Sort, Sort.expression, Sort.arguments, Sort.statement, Sort.statements, Part, Class}
@@ -40,7 +42,7 @@ spent of-arguments z (argument e es) few = absurd (omega (arith, positive e))
 spent of-statements z noStatements few = refl
 spent of-statements z (sequence t ss) few = absurd (omega (arith, positive-statement t))
 
-past : {p q : Sort} (l : Lists p q) {tab : List ℕ} {ts : List Token} {n row left : ℕ} → length ts ≤ 2048 → absent ≤ row → (t : Part q)
+past : {p q : Sort} (l : Lists p q) {tab : List ℕ} {ts : List Token} {n row left : ℕ} → length ts ≤ tokensMost → absent ≤ row → (t : Part q)
     → PartAt tab ts row (PartBounded n left q) t → none l ≡ t
 past of-arguments few far t h = ended few far t h
 past of-statements few far t h = endedS few far t h
@@ -53,7 +55,7 @@ nothing of-statements ν G Γ = record { ends = refl; code = no-code }
 
 module _ {p q : Sort} (l : Lists p q) {tab names : List ℕ} {s : Scope} {job : Job} {c : List ℕ} where
   empty-wrote : job .at ≤ room
-      → ((ts : List Token) → length ts ≤ 2048 → (t : Part q) → PartAt tab ts (job .row) (PartBounded (s .tokens) (job .left) q) t → none l ≡ t)
+      → ((ts : List Token) → length ts ≤ tokensMost → (t : Part q) → PartAt tab ts (job .row) (PartBounded (s .tokens) (job .left) q) t → none l ≡ t)
       → WritePost tab names s q job c c (job .at)
   empty-wrote low is =
       record {
@@ -72,7 +74,7 @@ module _ {p q : Sort} (l : Lists p q) {tab names : List ℕ} {s : Scope} {job : 
 
 -- a list that goes on
 goes-wrote : {p q : Sort} (l : Lists p q) {tab names : List ℕ} {s : Scope} {job : Job} {a r : ℕ} {c c₁ c₂ : List ℕ} → (job .left ≡ 0 → ⊥)
-    → job .row < absent → WritePost tab names s p job c c₁ a → WritePost tab names s q (partOf tab 6 (oneLess job a) a) c₁ c₂ r
+    → job .row < absent → WritePost tab names s p job c c₁ a → WritePost tab names s q (partOf tab cNext (oneLess job a) a) c₁ c₂ r
     → Whatever tab names s λ ts G Γ. (t : Part q) → PartAt tab ts (job .row) (PartBounded (s .tokens) (job .left) q) t
     → Written ts (emit G Γ t (job .at)) (end t (job .at)) (job .at) c c₂ r
 unfolding emit end
@@ -92,6 +94,6 @@ goes-wrote of-statements {tab} {s = s} {job} {r = r} {c} {c₂ = c₂} more near
     go ss (one-more-statement {t = first} {ss = rest} x y) = both-wrote f g ts G Γ w first rest x y
 
 pub list-more : {p q : Sort} (l : Lists p q) {tab names : List ℕ} {s : Scope} {job rest : Job} {at a r : ℕ} {c c₁ c₂ : List ℕ}
-    → (job .left ≡ 0 → ⊥) → job .row < absent → WritePost tab names s p job c c₁ a → PartPost tab 6 (oneLess job at) a rest
+    → (job .left ≡ 0 → ⊥) → job .row < absent → WritePost tab names s p job c c₁ a → PartPost tab cNext (oneLess job at) a rest
     → WritePost tab names s q rest c₁ c₂ r → WritePost tab names s q job c c₂ r
 list-more l more near f e₆ g = record { within = g .within; says = goes-wrote l more near f (found-wrote e₆ g) }

@@ -11,13 +11,13 @@ use Rattle.parser.specs.Tree.{Sort, Sort.expression, Sort.statements, Part, Met
 use Rattle.parser.specs.contracts.Layout.{absent, rowOf, rowMethods}
 use Rattle.reader.specs.contracts.Holds.{Holds}
 use Rattle.reader.specs.contracts.Matches.{Matches}
-use Rattle.base.specs.contracts.Table.{col}
+use Rattle.base.specs.contracts.Table.{col, cNext, cParameters, cLocals, cBody, cValue}
 use Rattle.typesystem.specs.ClassTable.{contextOf}
 use Rattle.lookup.specs.contracts.Shows.{PartAt}
 use Rattle.lookup.specs.contracts.HeldClasses.{wordAt, a-name, MethodHeld, MethodsHeld, more-methods}
 use Rattle.lookup.specs.laws.HeldLaws.{word-in, row-there}
 use Rattle.bodies.specs.declared.scope.Scope.{Scope}
-use Rattle.codegen.specs.contracts.Code.{return}
+use Rattle.codegen.specs.contracts.Code.{return, iReturn}
 use Rattle.codegen.specs.contracts.Compile.{emit, middle, valueEnd, endMethods, emitMethods}
 use Rattle.writer.specs.laws.Emits.{no-code}
 use Rattle.writer.specs.laws.Lengths.{grows}
@@ -49,9 +49,9 @@ abbrev ofMethod : (n row at : ℕ) → Job
 ofMethod n row at = record { left = n; row = row + 1; at = at }
 
 pub method-wrote : {tab names : List ℕ} {n classes owner row at p l : ℕ} {body value : Job} {a b r : ℕ} {c c₁ c₂ c₃ : List ℕ}
-    → p ≡ wordAt tab 4 row → l ≡ wordAt tab 5 row → PartPost tab 4 (ofMethod n row at) at body
-    → WritePost tab names (scopeOf n classes owner p l) statements body c c₁ a → PartPost tab 5 (ofMethod n row at) a value
-    → WritePost tab names (scopeOf n classes owner p l) expression value c₁ c₂ b → PutPost b 6 0 0 0 c₂ c₃ r
+    → p ≡ wordAt tab cParameters row → l ≡ wordAt tab cLocals row → PartPost tab cBody (ofMethod n row at) at body
+    → WritePost tab names (scopeOf n classes owner p l) statements body c c₁ a → PartPost tab cValue (ofMethod n row at) a value
+    → WritePost tab names (scopeOf n classes owner p l) expression value c₁ c₂ b → PutPost b iReturn 0 0 0 c₂ c₃ r
     → MethodPost tab names n classes owner row at c c₃ r
 method-wrote {tab} {names} {n} {classes} {owner} {row} {at} {p} {l} {r = r} {c} {c₁} {c₂} {c₃} e₄ e₅ e₄′ f e₅′ g o =
     record { within = o .within; says = go }
@@ -75,14 +75,14 @@ method-wrote {tab} {names} {n} {classes} {owner} {row} {at} {p} {l} {r = r} {c} 
                 given = F .parameters;
                 own = F .locals;
                 seen = refl;
-                given-listed = record { at = sym (word tab 4 e₄ is near (h .first)); stand = h .parameters; few = h .few-parameters };
-                own-listed = record { at = sym (word tab 5 e₅ is near (h .second)); stand = h .locals; few = h .few-locals };
+                given-listed = record { at = sym (word tab cParameters e₄ is near (h .first)); stand = h .parameters; few = h .few-parameters };
+                own-listed = record { at = sym (word tab cLocals e₅ is near (h .second)); stand = h .locals; few = h .few-locals };
               };
           sizes = w .sizes;
         } in
-        let x = part tab ts 4 n (F .body) refl is′ near′ (h .start) (h .body) (h .body-matches)
+        let x = part tab ts cBody n (F .body) refl is′ near′ (h .start) (h .body) (h .body-matches)
         (whole (F .body) (F .name .row) (h .body-nodes) (h .body-within)) in
-        let y = part tab ts 5 n (F .value) refl is′ near′ (h .return) (h .value) (h .value-matches)
+        let y = part tab ts cValue n (F .value) refl is′ near′ (h .return) (h .value) (h .value-matches)
         (whole (F .value) (F .name .row) (h .value-nodes) (h .value-within)) in
         let u = both-wrote (found-wrote e₄′ f) (found-wrote e₅′ g) ts G (contextOf d F) sees (F .body) (F .value) x y (omega arith) in
         next-to (λ j k. return ∷ k) suc u (put-one return refl o (rw (u .ends) low))
@@ -114,13 +114,13 @@ module _ {tab names : List ℕ} {n classes owner : ℕ} {job : Job} {c E : List 
           absurd (omega (arith, is, row-there (w .world .tokens) (F .name .row) (h .head .name .token .there)))
 
   pub methods-more : (job .left ≡ 0 → ⊥) → job .row < absent → {rest : Job} {at a r : ℕ} {c₁ c₂ E₁ E₂ : List ℕ} → E₁ ≡ set E (job .row) (job .at)
-      → MethodPost tab names n classes owner (job .row) (job .at) c c₁ a → PartPost tab 6 (oneLess job at) a rest
+      → MethodPost tab names n classes owner (job .row) (job .at) c c₁ a → PartPost tab cNext (oneLess job at) a rest
       → MethodsPost tab names n classes owner rest c₁ c₂ E₁ E₂ r
       → MethodsPost tab names n classes owner job c c₂ E E₂ r
   unfolding emitMethods endMethods entered
   methods-more more near {rest} {at} {a} {r} {c₁} {c₂} {E₁} {E₂} new f e₆ g = record { within = g .within; says = go }
     where
-      g′ : MethodsPost tab names n classes owner (partOf tab 6 (oneLess job at) a) c₁ c₂ E₁ E₂ r
+      g′ : MethodsPost tab names n classes owner (partOf tab cNext (oneLess job at) a) c₁ c₂ E₁ E₂ r
       g′ = subst (λ (i : Job). MethodsPost tab names n classes owner i c₁ c₂ E₁ E₂ r) (found e₆) g
 
       go : (ts : List Token) (G : List Class) (d : List ℕ) → SeesClass tab names n classes owner ts G d → (M : List Method)
@@ -130,5 +130,5 @@ module _ {tab names : List ℕ} {n classes owner : ℕ} {job : Job} {c E : List 
       go ts G d w [] is h few l = absurd (omega (arith, is))
       go ts G d w (F ∷ M) is (more-methods h e hs) few l =
           let u = f .says ts G d w F is h (omega (arith, grows-methods M (suc (valueEnd F (job .at))))) in
-          let v = g′ .says ts G d w M (sym (word tab 6 refl is (omega (arith, is)) e)) hs (omega arith) (rw (u .ends) l) in
+          let v = g′ .says ts G d w M (sym (word tab cNext refl is (omega (arith, is)) e)) hs (omega arith) (rw (u .ends) l) in
           (next-to (emitMethods G d M) (endMethods M) u (v .0), v .1 ∙ rw (u .ends, new, is))

@@ -7,7 +7,7 @@ use lib.ListN.{set}
 use Rattle.parser.specs.Tree.{Sort, Part, Class}
 use Rattle.parser.specs.Measure.{nodes}
 use Rattle.typesystem.specs.ClassTable.{Context}
-use Rattle.codegen.specs.contracts.Code.{Instruction, mark}
+use Rattle.codegen.specs.contracts.Code.{Instruction, mark, iMark}
 use Rattle.codegen.specs.contracts.Compile.{end, emit}
 use Rattle.writer.specs.contracts.Words.{words, encode, putAt, store}
 use Rattle.writer.specs.laws.Emits.{behind, before, one}
@@ -35,11 +35,11 @@ pub record Opens (G : List Class) (Γ : Context) {q : Sort} (t : Part q) (start 
 
 pub node-wrote : {G : List Class} {Γ : Context} {q : Sort} {t : Part q} {start : ℕ} {inner : ℕ → Piece} {stop : ℕ → ℕ}
     → Opens G Γ t start inner stop → 1 ≤ nodes t → {ν : List ℕ → ℕ} {v at i r : ℕ} {c c₁ c₂ : List ℕ} → v ≡ start
-    → PutPost at 0 v 0 0 c c₁ i → end t at ≤ room → (stop i ≤ room → Wrote ν (inner i) (stop i) i c₁ c₂ r)
+    → PutPost at iMark v 0 0 c c₁ i → end t at ≤ room → (stop i ≤ room → Wrote ν (inner i) (stop i) i c₁ c₂ r)
     → Wrote ν (emit G Γ t at) (end t at) at c c₂ r
 node-wrote {t = t} {start} {inner} {stop} o some {ν} {at = at} {c = c} e p h f =
     let low : suc at ≤ room = omega (arith, sized t at .least) in
-    let m = put-one (mark start) (ap (λ (n : ℕ). words 0 n 0 0) e) p low in
+    let m = put-one (mark start) (ap (λ (n : ℕ). words iMark n 0 0) e) p low in
     let w = next-to inner stop m (f (rw (p .next low) (omega (arith, o .ends at)))) in
     record {
       ends = w .ends ∙ sym (o .ends at);

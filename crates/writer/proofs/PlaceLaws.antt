@@ -1,4 +1,4 @@
--- What looking for a variable's place meets: a list is walked by column 6.
+-- What looking for a variable's place meets: a list is walked by `cNext`.
 use Prim.Native.Nat.{ℕ, _+_, _-_, _≤_, _<_}
 use native.Mathlib.Omega.{arith}
 use mathlib.Core.Path.{_≡_, refl, sym, ap, _∙_, subst}
@@ -8,6 +8,7 @@ use mathlib.Core.Option.{Option, none, some}
 use lib.ListN.{length}
 use Rattle.base.specs.Choice.{if_then_else_, option}
 use Rattle.base.specs.Bytes.{same}
+use Rattle.base.specs.contracts.Table.{cNumber, cNext, rows}
 use Rattle.lexer.specs.Tokens.{Token}
 use Rattle.parser.specs.Tree.{Variable}
 use Rattle.parser.specs.contracts.Layout.{absent, rowVariables}
@@ -40,8 +41,8 @@ module _ {tab : List ℕ} {left row x at : ℕ} where
       go n ts lx [] d s text = refl
       go n ts lx (v ∷ vs) d (more-variables m e₃ e₆ s) text = absurd (omega (arith, d, row-there lx (v .name .row) (m .name .token .there)))
 
-  module _ (near : row < absent) {w : ℕ} (word : w ≡ wordAt tab 2 row) where
-    pub place-here : w ≡ x → at + left ≤ 2048 → PlacePost tab left row x at at
+  module _ (near : row < absent) {w : ℕ} (word : w ≡ wordAt tab cNumber row) where
+    pub place-here : w ≡ x → at + left ≤ rows → PlacePost tab left row x at at
     unfolding variableNamed
     place-here is low = record { most = omega arith; says = λ n ts lx vs d s few text sp. go n ts lx vs d s text sp }
       where
@@ -50,9 +51,9 @@ module _ {tab : List ℕ} {left row x at : ℕ} where
             → at ≡ placeFrom at (variableNamed vs text)
         go n ts lx [] d s text sp = absurd (omega (arith, d))
         go n ts lx (v ∷ vs) d (more-variables m c₃ c₆ s) text sp =
-            rw (same-names (subst (NameNumber ts (v .name .text)) (ap (wordAt tab 2) d ∙ sym word) (name-word lx (v .name .row) (m .name .token))) sp is) (omega arith)
+            rw (same-names (subst (NameNumber ts (v .name .text)) (ap (wordAt tab cNumber) d ∙ sym word) (name-word lx (v .name .row) (m .name .token))) sp is) (omega arith)
 
-    pub place-next : (w ≡ x → ⊥) → {next r : ℕ} → next ≡ wordAt tab 6 row → PlacePost tab (left - 1) next x (at + 1) r
+    pub place-next : (w ≡ x → ⊥) → {next r : ℕ} → next ≡ wordAt tab cNext row → PlacePost tab (left - 1) next x (at + 1) r
         → PlacePost tab left row x at r
     unfolding variableNamed
     place-next other {next} {r} e₆ h = record { most = h .most; says = λ n ts lx vs d s few text sp. go n ts lx vs d s few text sp }
@@ -62,8 +63,8 @@ module _ {tab : List ℕ} {left row x at : ℕ} where
             → NameNumber ts text x → r ≡ placeFrom at (variableNamed vs text)
         go n ts lx [] d s few text sp = absurd (omega (arith, d))
         go n ts lx (v ∷ vs) d (more-variables m c₃ c₆ s) few text sp =
-            rw (other-names (subst (NameNumber ts (v .name .text)) (ap (wordAt tab 2) d ∙ sym word) (name-word lx (v .name .row) (m .name .token))) sp other)
-            (h .says n ts lx vs (sym (word-in tab 6 (v .name .row) (omega (arith, d, near)) c₆) ∙ ap (wordAt tab 6) d ∙ sym e₆) s (omega arith) text sp
+            rw (other-names (subst (NameNumber ts (v .name .text)) (ap (wordAt tab cNumber) d ∙ sym word) (name-word lx (v .name .row) (m .name .token))) sp other)
+            (h .says n ts lx vs (sym (word-in tab cNext (v .name .row) (omega (arith, d, near)) c₆) ∙ ap (wordAt tab cNext) d ∙ sym e₆) s (omega arith) text sp
             ∙ place-next-one at (variableNamed vs text))
 
 -- a variable's place is one of its list

@@ -5,10 +5,11 @@ use mathlib.Core.Path.{_≡_, refl, sym, ap, _∙_}
 use mathlib.Core.List.{List, [], _∷_}
 use lib.ListN.{length, getD, replicate}
 use Rattle.base.specs.laws.Lists.{getD-replicate-same}
+use Rattle.base.specs.contracts.Table.{cNext}
 use Rattle.lexer.specs.Tokens.{Token}
 use Rattle.lexer.specs.contracts.Rows.{firstNamed}
 use Rattle.parser.specs.Tree.{Sort.statement, Program}
-use Rattle.parser.specs.contracts.Layout.{absent, rowClasses}
+use Rattle.parser.specs.contracts.Layout.{absent, rowClasses, mainRow}
 use Rattle.parser.specs.Grammar.{DerivesProgram}
 use Rattle.typesystem.specs.ClassTable.{mainContext}
 use Rattle.lookup.specs.contracts.Shows.{PartAt}
@@ -17,7 +18,7 @@ use Rattle.lookup.specs.laws.HeldLaws.{word-in}
 use Rattle.lookup.specs.contracts.Fields.{FieldsFilled}
 use Rattle.bodies.specs.declared.scope.Scope.{Scope}
 use Rattle.declarations.specs.contracts.Indexing.{Ready}
-use Rattle.codegen.specs.contracts.Code.{halt}
+use Rattle.codegen.specs.contracts.Code.{halt, iHalt}
 use Rattle.codegen.specs.contracts.Compile.{end, emit, emitClasses, compile}
 use Rattle.writer.specs.contracts.Words.{store}
 use Rattle.writer.specs.contracts.Sizing.{SizesHeld, SizesPost}
@@ -48,7 +49,7 @@ begun size {names₁ = names₁} zero s f =
 -- MAIN
 
 pub main-wrote : {tab names : List ℕ} {s : Scope} {a r : ℕ} {c c₁ c₂ : List ℕ} → SeesNone s
-    → WritePost tab names s statement (record { left = s .tokens; row = 14; at = 0 }) c c₁ a → PutPost a 7 0 0 0 c₁ c₂ r
+    → WritePost tab names s statement (record { left = s .tokens; row = mainRow; at = 0 }) c c₁ a → PutPost a iHalt 0 0 0 c₁ c₂ r
     → MainPost tab names (s .tokens) (s .classes) c c₂ r
 main-wrote {tab} {names} {s} {a} {r} {c} {c₁} {c₂} none f o = record { within = o .within; says = go }
   where
@@ -71,19 +72,19 @@ main-wrote {tab} {names} {s} {a} {r} {c} {c₁} {c₂} none f o = record { withi
               };
           sizes = sizes;
         } in
-        let x : PartAt tab ts 14 (PartBounded (s .tokens) (s .tokens) statement) (p .statement) =
+        let x : PartAt tab ts mainRow (PartBounded (s .tokens) (s .tokens) statement) (p .statement) =
         record {
           at = w .row;
           holds = w .statement;
           matches = w .matches;
-          within = whole (p .statement) 14 (w .statement-nodes) (w .statement-within);
+          within = whole (p .statement) mainRow (w .statement-nodes) (w .statement-within);
         } in
         let u = f .says ts (p .classes) mainContext sees (p .statement) x (omega arith) in
         next-to (λ j k. halt ∷ k) suc u (put-one halt refl o (rw (u .ends) lim))
 
 -- ALL
 
-pub all-wrote : {tab names : List ℕ} {n classes first a : ℕ} {c c₁ c₂ E E₂ : List ℕ} → first ≡ wordAt tab 6 0
+pub all-wrote : {tab names : List ℕ} {n classes first a : ℕ} {c c₁ c₂ E E₂ : List ℕ} → first ≡ wordAt tab cNext 0
     → BeginPost tab n classes first names → MainPost tab names n classes c c₁ a
     → ClassesPost tab n classes (record { left = n; row = first; at = a }) names c₁ c₂ E E₂ → Writes tab n classes c c₂ E E₂
 unfolding compile
@@ -94,7 +95,7 @@ all-wrote {tab} {names} {n} {classes} {first} {a} {c} {c₁} {c₂} {E} {E₂} e
     go ts p w d l =
         let G = p .classes in
         let stop = suc (end (p .statement) 0) in
-        let here : rowClasses G ≡ first = sym (w .first) ∙ sym (word-in tab 6 0 (omega arith) refl) ∙ sym e₆ in
+        let here : rowClasses G ≡ first = sym (w .first) ∙ sym (word-in tab cNext 0 (omega arith) refl) ∙ sym e₆ in
         let sizes = b .sizes ts G (w .world) l here in
         let fits = program-room d in
         let u = m .says ts p w l sizes (omega (arith, grows-classes G stop)) in

@@ -5,6 +5,7 @@ use native.Mathlib.Omega.{arith}
 use mathlib.Core.Path.{_≡_, subst}
 use mathlib.Core.List.{List}
 use lib.ListN.{length}
+use Rattle.base.specs.Codes.{tokensMost}
 use Rattle.lexer.specs.Tokens.{Token}
 use Rattle.parser.specs.Tree.{Sort, Sort.expression, Sort.arguments, Sort.statement, Sort.statements, Part, Expression, Statement}
 use Rattle.parser.specs.Tree.{Part.literal, Part.truth, Part.variable, Part.this, Part.newArray, Part.newObject, Part.negation, Part.binary}
@@ -130,7 +131,7 @@ module _ (n row left : ℕ) (more : left ≡ 0 → ⊥) where
 -- COUNTING
 
 -- the rows of arguments lead to one another
-arguments-many : {tab : List ℕ} (ts : List Token) → length ts ≤ 2048 → (es : Part arguments) → Holds tab es → Matches ts es
+arguments-many : {tab : List ℕ} (ts : List Token) → length ts ≤ tokensMost → (es : Part arguments) → Holds tab es → Matches ts es
     → Many tab (rowOf es) (arity es)
 unfolding Holds Matches arity
 arguments-many ts few noArguments h m = many-none {row = absent} (omega arith)
@@ -143,7 +144,7 @@ unfolding nodes arity
 arity-few noArguments = omega arith
 arity-few (argument e es) = omega (arith, positive e, arity-few es)
 
-pub counted : {tab : List ℕ} {ts : List Token} {n left row r : ℕ} → length ts ≤ 2048 → Counts tab left row r → (es : Part arguments)
+pub counted : {tab : List ℕ} {ts : List Token} {n left row r : ℕ} → length ts ≤ tokensMost → Counts tab left row r → (es : Part arguments)
     → PartAt tab ts row (PartBounded n left arguments) es → r ≡ arity es
 counted {tab} {ts} few c es h =
     c .says (arity es) (subst (λ (i : ℕ). Many tab i (arity es)) (h .at) (arguments-many ts few es (h .holds) (h .matches)))

@@ -9,6 +9,8 @@ use mathlib.Core.Option.{Option, none, some}
 use lib.ListN.{length, getD}
 use Rattle.base.specs.Choice.{if_then_else_, option}
 use Rattle.base.specs.Bytes.{same}
+use Rattle.base.specs.Codes.{tokensMost, variablesMost}
+use Rattle.base.specs.Word.{modulus}
 use Rattle.lexer.specs.Tokens.{Token}
 use Rattle.parser.specs.Tree.{Variable, Class}
 use Rattle.typesystem.specs.ClassTable.{Slot, moved, Context, ofRow, ofObject, meaning, variableNamed, nearestField, chain}
@@ -17,7 +19,7 @@ use Rattle.parser.specs.contracts.Layout.{absent}
 use Rattle.lookup.specs.contracts.HeldClasses.{NameNumber, noType, ClassTableHeld, chainFrom, ListedAt}
 use Rattle.lookup.specs.laws.HeldLaws.{codes-below}
 use Rattle.lookup.specs.contracts.Lookups.{Many, Counts}
-use Rattle.lookup.specs.contracts.Fields.{TellsAt, no-field, a-field, FieldsHeld}
+use Rattle.lookup.specs.contracts.Fields.{TellsAt, no-field, a-field, FieldsHeld, slotsFrom}
 use Rattle.lookup.specs.laws.VariableLaws.{variable-left, variables-many}
 use Rattle.bodies.specs.declared.scope.Scope.{Scope}
 use Rattle.bodies.specs.contracts.Scoping.{InScope}
@@ -31,7 +33,7 @@ use Rattle.writer.proofs.PlaceLaws.{place-below}
 -- a field by number
 abbrev objectSlot : Option Slot → ℕ
 objectSlot none = absent
-objectSlot (some s) = 32 + s .place
+objectSlot (some s) = variablesMost + s .place
 
 meaning-row : (G : List Class) (Γ : Context) (x : List ℕ) {s : Slot} → variableNamed (Γ .variables) x ≡ some s
     → meaning G Γ x ≡ some (ofRow s)
@@ -87,7 +89,7 @@ found : (i : ℕ) (o : Option Slot) → i < absent → i ≡ placeFrom 0 o → (
 found i none low e = absurd (omega (arith, e))
 found i (some s) low e = (s, refl, omega (arith, e))
 
-missing : (i : ℕ) (vs : List Variable) (x : List ℕ) → absent ≤ i → length vs ≤ 2048 → i ≡ placeFrom 0 (variableNamed vs x)
+missing : (i : ℕ) (vs : List Variable) (x : List ℕ) → absent ≤ i → length vs ≤ tokensMost → i ≡ placeFrom 0 (variableNamed vs x)
     → variableNamed vs x ≡ none
 missing i vs x high few e = go (variableNamed vs x) (λ s q. place-below vs x q) e
   where
@@ -111,7 +113,7 @@ module _ {tab : List ℕ} {s : Scope} {x : ℕ} where
           let f = found i (variableNamed (w .given) text) low (place-in (w .world) (w .given-listed) h text sp) in
           rw (meaning-row G Γ text (ap (λ (vs : List Variable). variableNamed vs text) (w .seen) ∙ variable-left (w .given) (w .own) text (f .1))) (f .2)
 
-  module _ (few : s .tokens ≤ 2048) {i : ℕ} (h : PlacePost tab (s .tokens) (s .parameters) x 0 i) (high : absent ≤ i) where
+  module _ (few : s .tokens ≤ tokensMost) {i : ℕ} (h : PlacePost tab (s .tokens) (s .parameters) x 0 i) (high : absent ≤ i) where
     not-given : {ts : List Token} {G : List Class} {Γ : Context} (w : InScope tab ts G Γ s) (text : List ℕ) → NameNumber ts text x
         → variableNamed (w .given) text ≡ none
     not-given w text sp =
@@ -148,7 +150,7 @@ module _ {tab : List ℕ} {s : Scope} {x : ℕ} where
         tells {ts} {G} {Γ} w text sp =
             rw (w .many) (held .says ts G (w .world) (Γ .owner) (w .declarer) .says text x sp)
 
-        pub slot-held : getD names x 0 < noType → getD names (2048 + x) 0 < 4294967296 → SlotPost tab s x (getD names (2048 + x) 0)
+        pub slot-held : getD names x 0 < noType → getD names (slotsFrom + x) 0 < modulus → SlotPost tab s x (getD names (slotsFrom + x) 0)
         slot-held known fits =
             record {
               most = fits;
@@ -156,7 +158,7 @@ module _ {tab : List ℕ} {s : Scope} {x : ℕ} where
                   go (nearestField (chainFrom (length G) G (Γ .owner)) text) (tells w text sp) ∙ sym (object w text sp);
             }
           where
-            go : {ts : List Token} (o : Option Slot) → TellsAt ts names x o → getD names (2048 + x) 0 ≡ objectSlot o
+            go : {ts : List Token} (o : Option Slot) → TellsAt ts names x o → getD names (slotsFrom + x) 0 ≡ objectSlot o
             go none (no-field z) = absurd (omega (arith, z))
             go (some t) (a-field c z) = z
 
@@ -165,10 +167,10 @@ module _ {tab : List ℕ} {s : Scope} {x : ℕ} where
             record {
               most = omega arith;
               says = λ ts G Γ w text sp.
-                  let short : length ts ≤ 2048 = omega (arith, w .world .tokens .count, w .world .tokens .few) in
+                  let short : length ts ≤ tokensMost = omega (arith, w .world .tokens .count, w .world .tokens .few) in
                   go short (nearestField (chainFrom (length G) G (Γ .owner)) text) (tells w text sp) ∙ sym (object w text sp);
             }
           where
-            go : {ts : List Token} → length ts ≤ 2048 → (o : Option Slot) → TellsAt ts names x o → absent ≡ objectSlot o
+            go : {ts : List Token} → length ts ≤ tokensMost → (o : Option Slot) → TellsAt ts names x o → absent ≡ objectSlot o
             go short none h = refl
             go short (some t) (a-field c z) = absurd (omega (arith, codes-below short c))

@@ -8,6 +8,7 @@ use mathlib.Core.List.{List, [], _∷_}
 use mathlib.Core.Option.{Option, none, some}
 use lib.ListN.{length, getD, set}
 use lib.Seq.{getD-set-same, getD-set-other}
+use Rattle.base.specs.contracts.Table.{cNumber, cNext}
 use Rattle.lexer.specs.Tokens.{Token}
 use Rattle.parser.specs.Tree.{Class}
 use Rattle.parser.specs.contracts.Layout.{absent, rowClasses}
@@ -16,7 +17,7 @@ use Rattle.lookup.specs.contracts.HeldClasses.{wordAt, NameNumber, a-name, Clas
 use Rattle.lookup.specs.laws.HeldLaws.{word-in, name-word, row-there, same-names, other-names}
 use Rattle.lookup.specs.laws.ChainLaws.{chain-none}
 use Rattle.lookup.specs.contracts.Fields.{ObjectSize}
-use Rattle.writer.specs.contracts.Sizing.{SizesHeld, SizePost, counted, SizesPost}
+use Rattle.writer.specs.contracts.Sizing.{SizesHeld, SizePost, counted, SizesPost, sizesFrom, namesLeast}
 
 -- ONE CLASS
 
@@ -25,16 +26,16 @@ unfolding fieldsOf chain
 size-of G x = refl
 
 module _ {tab : List ℕ} {n classes x : ℕ} {before : List ℕ} where
-  pub size-written : x < absent → 6144 ≤ length before → {v : ℕ} → ObjectSize tab n classes x v → {after : List ℕ}
-      → after ≡ set before (4096 + x) v
+  pub size-written : x < absent → namesLeast ≤ length before → {v : ℕ} → ObjectSize tab n classes x v → {after : List ℕ}
+      → after ≡ set before (sizesFrom + x) v
       → SizePost tab n classes x before after
   size-written low large {v} h {after} e =
-      record { others = λ j other. ap (λ (l : List ℕ). getD l j 0) e ∙ getD-set-other before (4096 + x) j v 0 (λ z. other (sym z)); says = go }
+      record { others = λ j other. ap (λ (l : List ℕ). getD l j 0) e ∙ getD-set-other before (sizesFrom + x) j v 0 (λ z. other (sym z)); says = go }
     where
       go : (ts : List Token) (G : List Class) → ClassTableHeld tab n ts G → length G ≡ classes → (c : List ℕ) → NameNumber ts c x
-          → getD after (4096 + x) 0 ≡ length (fieldsOf G c)
+          → getD after (sizesFrom + x) 0 ≡ length (fieldsOf G c)
       go ts G w l c sp =
-          ap (λ (m : List ℕ). getD m (4096 + x) 0) e ∙ getD-set-same before (4096 + x) v 0 (omega arith)
+          ap (λ (m : List ℕ). getD m (sizesFrom + x) 0) e ∙ getD-set-same before (sizesFrom + x) v 0 (omega arith)
           ∙ h .says ts G w (some c) (a-name sp) ∙ ap (λ (i : ℕ). length (layout (chainFrom i G (some c)))) (sym l) ∙ size-of G c
 
   pub size-past : absent ≤ x → SizePost tab n classes x before before
@@ -49,7 +50,7 @@ module _ {tab : List ℕ} {n classes left row : ℕ} {before : List ℕ} where
   sizes-none z = record { says = λ ts G w l ks h c x sp. go G ks (h .few) c x }
     where
       go : (G ks : List Class) → length ks ≤ left → (c : List ℕ) (x : ℕ)
-          → getD before (4096 + x) 0 ≡ counted (getD before (4096 + x) 0) (length (fieldsOf G c)) (classNamed ks c)
+          → getD before (sizesFrom + x) 0 ≡ counted (getD before (sizesFrom + x) 0) (length (fieldsOf G c)) (classNamed ks c)
       go G [] few c x = refl
       go G (k ∷ ks) few c x = absurd (omega arith)
 
@@ -59,13 +60,13 @@ module _ {tab : List ℕ} {n classes left row : ℕ} {before : List ℕ} where
     where
       go : (ts : List Token) (G : List Class) → ClassTableHeld tab n ts G → (ks : List Class) → rowClasses ks ≡ row
           → ClassesHeld tab n ts ks → (c : List ℕ) (x : ℕ)
-          → getD before (4096 + x) 0 ≡ counted (getD before (4096 + x) 0) (length (fieldsOf G c)) (classNamed ks c)
+          → getD before (sizesFrom + x) 0 ≡ counted (getD before (sizesFrom + x) 0) (length (fieldsOf G c)) (classNamed ks c)
       go ts G w [] is h c x = refl
       go ts G w (k ∷ ks) is (more-classes s e h) c x =
           absurd (omega (arith, is, row-there (w .tokens) (k .name .row) (s .named .token .there)))
 
-  pub sizes-more : row < absent → {x : ℕ} → x ≡ wordAt tab 2 row → {mid : List ℕ} → SizePost tab n classes x before mid → {next : ℕ}
-      → next ≡ wordAt tab 6 row
+  pub sizes-more : row < absent → {x : ℕ} → x ≡ wordAt tab cNumber row → {mid : List ℕ} → SizePost tab n classes x before mid → {next : ℕ}
+      → next ≡ wordAt tab cNext row
       → {after : List ℕ} → SizesPost tab n classes (left - 1) next mid after → SizesPost tab n classes left row before after
   unfolding classNamed
   sizes-more near {x} e₂ {mid} p {next} e₆ {after} h =
@@ -78,21 +79,21 @@ module _ {tab : List ℕ} {n classes left row : ℕ} {before : List ℕ} where
       go : (ts : List Token) (G : List Class) → ClassTableHeld tab n ts G → length G ≡ classes → (ks : List Class) → rowClasses ks ≡ row
           → ClassesHeld tab n ts ks → length ks ≤ left
           → (c : List ℕ) (y : ℕ) → NameNumber ts c y
-          → getD after (4096 + y) 0 ≡ counted (getD before (4096 + y) 0) (length (fieldsOf G c)) (classNamed ks c)
+          → getD after (sizesFrom + y) 0 ≡ counted (getD before (sizesFrom + y) 0) (length (fieldsOf G c)) (classNamed ks c)
       go ts G w l [] is st few c y sp = absurd (omega (arith, is))
       go ts G w l (k ∷ ks) is (more-classes s e st) few c y sp =
-          let own : NameNumber ts (k .name .text) x = subst (NameNumber ts (k .name .text)) (ap (wordAt tab 2) is ∙ sym e₂) (name-word (w .tokens) (k .name .row) (s .named .token)) in
-          let here : rowClasses ks ≡ next = sym (word-in tab 6 (k .name .row) (omega (arith, is)) e) ∙ ap (wordAt tab 6) is ∙ sym e₆ in
+          let own : NameNumber ts (k .name .text) x = subst (NameNumber ts (k .name .text)) (ap (wordAt tab cNumber) is ∙ sym e₂) (name-word (w .tokens) (k .name .row) (s .named .token)) in
+          let here : rowClasses ks ≡ next = sym (word-in tab cNext (k .name .row) (omega (arith, is)) e) ∙ ap (wordAt tab cNext) is ∙ sym e₆ in
           let rest = h .says ts G w l ks (record { here = here; stand = st; few = omega arith }) c y sp in
           elim (ℕ-discrete x y) [
             | yes same ↦
-                let new : getD mid (4096 + y) 0 ≡ length (fieldsOf G c) =
-                ap (λ (i : ℕ). getD mid (4096 + i) 0) (sym same) ∙ p .says ts G w l c (subst (NameNumber ts c) (sym same) sp) in
+                let new : getD mid (sizesFrom + y) 0 ≡ length (fieldsOf G c) =
+                ap (λ (i : ℕ). getD mid (sizesFrom + i) 0) (sym same) ∙ p .says ts G w l c (subst (NameNumber ts c) (sym same) sp) in
                 rw (same-names own sp same)
                 (rest ∙ ap (λ (v : ℕ). counted v (length (fieldsOf G c)) (classNamed ks c)) new ∙ twice (length (fieldsOf G c)) (classNamed ks c))
             | no other ↦
                 rw (other-names own sp other)
-                (rest ∙ ap (λ (v : ℕ). counted v (length (fieldsOf G c)) (classNamed ks c)) (p .others (4096 + y) (λ z. other (omega arith))))
+                (rest ∙ ap (λ (v : ℕ). counted v (length (fieldsOf G c)) (classNamed ks c)) (p .others (sizesFrom + y) (λ z. other (omega arith))))
           ]
 
 -- ALL CLASSES
@@ -106,7 +107,7 @@ pub all-sizes : {tab : List ℕ} {n classes row : ℕ} {before after : List ℕ}
     → {ts : List Token} {G : List Class} → ClassTableHeld tab n ts G → length G ≡ classes → rowClasses G ≡ row → SizesHeld ts G after
 all-sizes {before = before} h zeros {ts} {G} w l is =
     record {
-      says = λ c x sp. h .says ts G w l G (record { here = is; stand = w .classes; few = w .few }) c x sp ∙ go c (getD before (4096 + x) 0) (zeros (4096 + x)) (classNamed G c) refl;
+      says = λ c x sp. h .says ts G w l G (record { here = is; stand = w .classes; few = w .few }) c x sp ∙ go c (getD before (sizesFrom + x) 0) (zeros (sizesFrom + x)) (classNamed G c) refl;
     }
   where
     go : (c : List ℕ) (old : ℕ) → old ≡ 0 → (o : Option Class) → classNamed G c ≡ o

@@ -21,17 +21,19 @@ ghost use Prim.Native.Nat.{_≤_, _<_};
 ghost use lib.ListN.{length};
 ghost use Rattle.base.specs.Word.{modulus};
 ghost use Rattle.base.specs.Codes.{tableLeast};
+ghost use Rattle.base.specs.contracts.Table.{cBegin};
 ghost use Rattle.parser.specs.Tree.{Sort};
 ghost use Rattle.lookup.specs.contracts.HeldClasses.{wordAt};
 ghost use Rattle.lookup.specs.contracts.Shows.{Form, formAtom};
 ghost use Rattle.bodies.specs.contracts.Scoping.{Judgeable};
+ghost use Rattle.codegen.specs.contracts.Code.{iMark};
 ghost use Rattle.writer.specs.contracts.Posts.{room, Writable, PutPost, LoadPost, WritePost, ExpressionPost, CompoundPost};
 ghost use Rattle.writer.specs.contracts.Posts.{FollowedPost, LocatedPost, PairPost, ConjunctionPost, ScalesPost};
 
 // The mark before a node: the position where it begins.
 pub fn mark(table: &[u32], code: &mut [u32], row: usize, at: usize) -> usize
     requires { ⌜ (tableLeast ≤ length (now table)) × (at ≤ room) ⌝ }
-    ensures { λ r. ⌜ PutPost at 0 (wordAt (now (table .entry)) 3 row) 0 0 (now (code .entry)) (now (code .exit)) r ⌝ }
+    ensures { λ r. ⌜ PutPost at iMark (wordAt (now (table .entry)) cBegin row) 0 0 (now (code .entry)) (now (code .exit)) r ⌝ }
 {
     let start = word(table, columns::BEGIN, row);
     put(code, at, numbers::MARK, start, 0, 0)
@@ -223,7 +225,7 @@ pub fn located_pair(
     p: Job,
 ) -> usize
     requires { ⌜ Writable (now table) (now names) s p × (op < modulus) ⌝ }
-    ensures { λ r. ⌜ PairPost (now (table .entry)) (now (names .entry)) s op (wordAt (now (table .entry)) 3 (p .row)) p (now (code .entry))
+    ensures { λ r. ⌜ PairPost (now (table .entry)) (now (names .entry)) s op (wordAt (now (table .entry)) cBegin (p .row)) p (now (code .entry))
         (now (code .exit)) r ⌝ }
 {
     let start = word(table, columns::BEGIN, p.row);

@@ -7,6 +7,8 @@ use mathlib.Core.Bool.{Bool}
 use lib.ListN.{length}
 use lib.Dec.{eqb}
 use Rattle.base.specs.Outcome.{accepted, _>>=_}
+use Rattle.base.specs.Codes.{tokensMost}
+use Rattle.base.specs.contracts.Table.{cStart, cNumber, cBegin, cSecond}
 use Rattle.lexer.specs.Kinds.{kNew, kDot}
 use Rattle.lexer.specs.Tokens.{Token}
 use Rattle.parser.specs.Tree.{Place, Name, Sort.arguments, Part, Part.this, Part.newObject, Expression, placeE, Ty, Ty.plain, Variable, Class}
@@ -24,9 +26,9 @@ use Rattle.bodies.specs.contracts.Scoping.{InScope, PartIn, ShowsIn}
 
 -- what the row of a call tells of the method's name and of the arguments, which lie among the tokens from `first` up to `end`
 pub record Invoked (tab : List ℕ) (ts : List Token) (first end row : ℕ) (m : Name) (es : Part arguments) : Type 0 where
-  pub number : NameNumber ts (m .text) (wordAt tab 2 (row + 1))
-  pub start : wordAt tab 1 (row + 1) ≡ m .start
-  pub given : PartIn tab ts (wordAt tab 5 row) first end es
+  pub number : NameNumber ts (m .text) (wordAt tab cNumber (row + 1))
+  pub start : wordAt tab cStart (row + 1) ≡ m .start
+  pub given : PartIn tab ts (wordAt tab cSecond row) first end es
 
 -- the answer for a node of this type, by that for its last part
 pub data TypedPost (t : ℕ) (part : Judged) : Judged → Type 0 where
@@ -37,10 +39,10 @@ module _ (tab : List ℕ) (s : Scope) where
   -- a name, which is a whole expression or the target of an assignment
   pub record NamePost (row : ℕ) (r : Judged) : Type 0 where
     pub says : (ts : List Token) (G : List Class) (Γ : Context) → InScope tab ts G Γ s → (p : Place) (x : List ℕ)
-        → wordAt tab 3 row ≡ p .start → NameNumber ts x (wordAt tab 2 row) → Judges ts (lookUp G Γ p x) r
+        → wordAt tab cBegin row ≡ p .start → NameNumber ts x (wordAt tab cNumber row) → Judges ts (lookUp G Γ p x) r
 
   pub record ThisPost (row : ℕ) (r : Judged) : Type 0 where
-    pub says : (ts : List Token) (G : List Class) (Γ : Context) → InScope tab ts G Γ s → (p : Place) → wordAt tab 3 row ≡ p .start
+    pub says : (ts : List Token) (G : List Class) (Γ : Context) → InScope tab ts G Γ s → (p : Place) → wordAt tab cBegin row ≡ p .start
         → Judges ts (judge G Γ (this p)) r
 
   -- an expression whose row shows this form
@@ -104,9 +106,9 @@ module _ (tab : List ℕ) (s : Scope) where
 -- `new C()`, in a table of n tokens
 pub record ObjectPost (tab : List ℕ) (n row : ℕ) (r : Judged) : Type 0 where
   pub says : (ts : List Token) (G : List Class) → ClassTableHeld tab n ts G → (Γ : Context) (p : Place) (c : Name)
-      → NameNumber ts (c .text) (wordAt tab 2 (row + 1)) → wordAt tab 1 (row + 1) ≡ c .start → Judges ts (judge G Γ (newObject p c)) r
+      → NameNumber ts (c .text) (wordAt tab cNumber (row + 1)) → wordAt tab cStart (row + 1) ≡ c .start → Judges ts (judge G Γ (newObject p c)) r
 
 -- no more than so many arguments
 pub record SameCount (tab : List ℕ) (left a p : ℕ) (r : Bool) : Type 0 where
-  pub says : (ts : List Token) → length ts ≤ 2048 → (es : Part arguments) → PartAt tab ts a (λ xs. arity xs ≤ left) es
+  pub says : (ts : List Token) → length ts ≤ tokensMost → (es : Part arguments) → PartAt tab ts a (λ xs. arity xs ≤ left) es
       → (vs : List Variable) → ListedAt tab left ts p vs → r ≡ eqb (arity es) (length vs)

@@ -6,7 +6,7 @@ use Rattle.lexer.specs.Tokens.{Token}
 use Rattle.parser.specs.Tree.{Operator, Ty}
 use Rattle.reader.specs.contracts.Matches.{operatorKind}
 use Rattle.typesystem.specs.Operators.{operation}
-use Rattle.lookup.specs.contracts.HeldClasses.{Lexemes, noType, Codes}
+use Rattle.lookup.specs.contracts.HeldClasses.{Lexemes, noType, Codes, intNumber, fixedNumber}
 use Rattle.lookup.specs.contracts.Lookups.{LookedUp}
 
 -- one line: a left operand of type `want` makes `result`
@@ -16,8 +16,8 @@ pub data LinePost (left want result : ℕ) : ℕ → Type 0 where
 
 -- two lines: int makes `integer`, fixed makes `fixed`
 pub data NumericPost (left integer fixed : ℕ) : ℕ → Type 0 where
-  int-line : left ≡ 2048 → NumericPost left integer fixed integer
-  fixed-line : {r : ℕ} → (left ≡ 2048 → ⊥) → LinePost left 2050 fixed r → NumericPost left integer fixed r
+  int-line : left ≡ intNumber → NumericPost left integer fixed integer
+  fixed-line : {r : ℕ} → (left ≡ intNumber → ⊥) → LinePost left fixedNumber fixed r → NumericPost left integer fixed r
 
 pub record OperationPost (kind left r : ℕ) : Type 0 where
   pub says : (tab : List ℕ) (n : ℕ) (ts : List Token) → Lexemes tab n ts → (o : Operator) → kind ≡ operatorKind o

@@ -11,14 +11,14 @@ use Rattle.reader.specs.contracts.WalkPost.{Walkable}
 use Rattle.typesystem.specs.ClassTable.{Context, Meaning, meaning, meaningType}
 use Rattle.lookup.specs.contracts.HeldClasses.{NameNumber, MaybeNumber, ClassTableHeld, ListedAt}
 use Rattle.lookup.specs.contracts.Lookups.{LookedUp}
-use Rattle.lookup.specs.contracts.Fields.{FieldsHeld}
+use Rattle.lookup.specs.contracts.Fields.{FieldsHeld, fieldsLeast}
 use Rattle.lookup.specs.contracts.Shows.{PartAt, Form, Shows, ShowsS}
 use Rattle.bodies.specs.declared.scope.Scope.{Scope}
 
 -- a table of so many tokens, and what the fields of the declaring class mean
 pub record Judgeable (tab fields : List ℕ) (s : Scope) : Type 0 where
   pub walkable : Walkable tab (s .tokens)
-  pub room : 4096 ≤ length fields
+  pub room : fieldsLeast ≤ length fields
   pub held : FieldsHeld tab (s .tokens) (s .classes) (s .owner) fields
 
 -- the scope is that of the context, in the class table that the table holds

@@ -3,6 +3,7 @@ use Prim.Native.Nat.{ℕ}
 use mathlib.Core.Path.{_≡_}
 use mathlib.Core.List.{List}
 use Rattle.base.specs.Outcome.{_>>=_}
+use Rattle.base.specs.contracts.Table.{cFirst, cSecond, cThird}
 use Rattle.lexer.specs.Tokens.{Token}
 use Rattle.parser.specs.Tree.{Sort.statements, Part, Expression, Statement, Element.int, Ty, Ty.plain, Class}
 use Rattle.reader.specs.contracts.Spans.{Among}
@@ -39,12 +40,12 @@ module _ (tab : List ℕ) (s : Scope) where
   -- the branches of an `if`, after its test
   pub record BranchesPost (first end row : ℕ) (r : Judged) : Type 0 where
     pub says : (ts : List Token) (G : List Class) (Γ : Context) → InScope tab ts G Γ s → (a b : Statement)
-        → PartIn tab ts (wordAt tab 5 row) first end a → PartIn tab ts (wordAt tab 7 row) first end b
+        → PartIn tab ts (wordAt tab cSecond row) first end a → PartIn tab ts (wordAt tab cThird row) first end b
         → r ≡ asJudged (judge G Γ a >>= λ _. judge G Γ b)
 
   -- index, and value of an element of this type; register and value of a put
   pub record ValuePost (first end row want : ℕ) (r : Judged) : Type 0 where
     pub says : (ts : List Token) (G : List Class) (Γ : Context) → InScope tab ts G Γ s → (i e : Expression)
-        → PartIn tab ts (wordAt tab 4 row) first end i → PartIn tab ts (wordAt tab 5 row) first end e
+        → PartIn tab ts (wordAt tab cFirst row) first end i → PartIn tab ts (wordAt tab cSecond row) first end e
         → (t : Ty) → Codes ts t want
         → r ≡ asJudged (judge G Γ i >>= λ u. must G i (plain int) u >>= λ _. judge G Γ e >>= λ u. must G e t u)

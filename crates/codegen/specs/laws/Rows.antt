@@ -6,6 +6,7 @@ use mathlib.Core.Option.{none}
 use mathlib.Core.Path.{_≡_, refl}
 use lib.ListN.{replicate}
 use lib.IntN.{pos, negsuc}
+use Rattle.base.specs.Codes.{success, budgetSpent, registersCount}
 use Rattle.parser.specs.Tree.{Place, Name, Element.int, Ty.plain, Variable, Method, Program, Operator.plus, Operator.minus, Operator.less, Operator.and, Operator.times, Numeral.intLiteral, Numeral.fixedLiteral}
 use Rattle.parser.specs.Tree.{Part.literal, Part.truth, Part.variable, Part.newObject, Part.binary, Part.call, Part.noArguments, Part.argument, Part.conditional, Part.loop, Part.assign, Part.block, Part.print, Part.noStatements, Part.sequence}
 use Rattle.typesystem.specs.ClassTable as ClassTable
@@ -99,13 +100,13 @@ limits b = record { budget = b; calls = 1; heap = 2; printed = 1 }
 
 -- with enough budget, and with the budget spent in the loop
 abbrev whole : Report
-whole = record { ending = ended 0 0; steps = 68; climbs = 1; words = 2; printed = pos 9 ∷ []; registers = replicate 16 0 }
+whole = record { ending = ended success 0; steps = 68; climbs = 1; words = 2; printed = pos 9 ∷ []; registers = replicate registersCount 0 }
 
 abbrev cut : Report
-cut = record { ending = ended 50 30; steps = 37; climbs = 1; words = 2; printed = []; registers = replicate 16 0 }
+cut = record { ending = ended budgetSpent 30; steps = 37; climbs = 1; words = 2; printed = []; registers = replicate registersCount 0 }
 
 abbrev below : Report
-below = record { ending = ended 0 0; steps = 6; climbs = 0; words = 0; printed = negsuc 0 ∷ []; registers = replicate 16 0 }
+below = record { ending = ended success 0; steps = 6; climbs = 0; words = 0; printed = negsuc 0 ∷ []; registers = replicate registersCount 0 }
 
 on-tree : (run lesson (limits 100) [] ≡ whole) × (run lesson (limits 37) [] ≡ cut) × (run volts (limits 100) [] ≡ below)
 unfolding run Limits.runWith Limits.guard Machine.plan Machine.go Machine.begin Machine.beginStatement Machine.second Machine.callMethod Machine.nextArgument Machine.nextStatement

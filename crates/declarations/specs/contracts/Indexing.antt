@@ -1,5 +1,5 @@
--- What making the index of the classes ensures: column 7 of the row that is the number of a name leads to the class of that name, and the
--- table is ready for the look-ups. Only column 7 is written, and not in the rows of `if` tokens, where a part stands.
+-- What making the index of the classes ensures: `cClass` of the row that is the number of a name leads to the class of that name, and the
+-- table is ready for the look-ups. Only this column is written, and not in the rows of `if` tokens, where a part stands.
 use Rattle.base.specs.Choice.{if_then_else_}
 use Prim.Native.Nat.{ℕ, zero, suc, _≤_, _<_}
 use mathlib.Core.Path.{_≡_}
@@ -8,13 +8,13 @@ use lib.ListN.{length}
 use lib.Dec.{eqb, ltb}
 use Rattle.base.specs.All.{All}
 use Rattle.base.specs.Outcome.{accepted}
-use Rattle.base.specs.contracts.Table.{rows, col, put, SameColumn}
+use Rattle.base.specs.contracts.Table.{rows, col, put, SameColumn, cKind, cNext, cThird, cClass}
 use Rattle.lexer.specs.Kinds.{kIf}
 use Rattle.lexer.specs.Tokens.{Token}
 use Rattle.parser.specs.Measure.{nodes}
 use Rattle.parser.specs.Tree.{Class, Program}
 use Rattle.parser.specs.Stream.{kindAt}
-use Rattle.parser.specs.contracts.Layout.{absent, rowOf, rowClasses}
+use Rattle.parser.specs.contracts.Layout.{absent, rowOf, rowClasses, mainRow}
 use Rattle.parser.specs.Read.{Reading}
 use Rattle.reader.specs.contracts.Holds.{Holds}
 use Rattle.reader.specs.contracts.Spans.{Spans}
@@ -30,9 +30,9 @@ use Rattle.declarations.specs.contracts.Judgements.{FoundByName}
 
 -- CLEARING
 
--- column 7 of a row cleared, but where its token is an `if`
+-- `cClass` of a row cleared, but where its token is an `if`
 unfoldable pub wiped : List ℕ → ℕ → List ℕ
-wiped tab i = if eqb (col tab 0 i) kIf then (λ _. tab) else λ _. put tab 7 i absent
+wiped tab i = if eqb (col tab cKind i) kIf then (λ _. tab) else λ _. put tab cClass i absent
 
 -- that of the first rows
 unfoldable pub cleared : ℕ → List ℕ → List ℕ
@@ -41,20 +41,20 @@ cleared (suc i) tab = wiped (cleared i tab) i
 
 -- ENTERING
 
--- column 7 of a row, if it is one
+-- `cClass` of a row, if it is one
 unfoldable pub indexed : List ℕ → (row class : ℕ) → List ℕ
-indexed tab row class = if ltb row absent then (λ _. put tab 7 row class) else λ _. tab
+indexed tab row class = if ltb row absent then (λ _. put tab cClass row class) else λ _. tab
 
 -- the names of classes match their tokens, and each leads to the next
 pub data ClassesNamed (tab : List ℕ) (ts : List Token) : List Class → Type 0 where
   none-named : ClassesNamed tab ts []
-  more-named : {k : Class} {ks : List Class} → NameMatches ts (k .name) → col tab 6 (k .name .row) ≡ rowClasses ks
+  more-named : {k : Class} {ks : List Class} → NameMatches ts (k .name) → col tab cNext (k .name .row) ≡ rowClasses ks
       → ClassesNamed tab ts ks → ClassesNamed tab ts (k ∷ ks)
 
 -- what is in the second table as it was in the first: all columns but the last, and that one in the rows of `if` tokens
 pub record ColumnsKept (ts : List Token) (tab tab′ : List ℕ) : Type 0 where
-  pub columns : (k : ℕ) → k < 7 → SameColumn k tab tab′
-  pub thirds : (i : ℕ) → i < rows → kindAt ts i ≡ kIf → col tab′ 7 i ≡ col tab 7 i
+  pub columns : (k : ℕ) → k < cClass → SameColumn k tab tab′
+  pub thirds : (i : ℕ) → i < rows → kindAt ts i ≡ kIf → col tab′ cThird i ≡ col tab cThird i
 
 -- the classes js are in the index
 pub record Shown (tab : List ℕ) (ts : List Token) (js : List Class) : Type 0 where
@@ -74,13 +74,13 @@ pub record EntriesMade (main left row : ℕ) (before : List ℕ) (r : Judged) (a
 -- the table holds a program, and its classes with their index
 pub record Ready (tab : List ℕ) (n : ℕ) (ts : List Token) (p : Program) : Type 0 where
   pub world : ClassTableHeld tab n ts (p .classes)
-  pub first : col tab 6 0 ≡ rowClasses (p .classes)
+  pub first : col tab cNext 0 ≡ rowClasses (p .classes)
   pub own : FoundByName (p .classes) (p .classes)
   pub statement : Holds tab (p .statement)
   pub matches : Matches ts (p .statement)
-  pub statement-within : Spans 14 n (p .statement)
+  pub statement-within : Spans mainRow n (p .statement)
   pub statement-nodes : nodes (p .statement) ≤ n
-  pub row : rowOf (p .statement) ≡ 14
+  pub row : rowOf (p .statement) ≡ mainRow
 
 -- 20, and where that accepts, the table is ready
 pub record IndexMade (n : ℕ) (before : List ℕ) (r : Judged) (after : List ℕ) : Type 0 where

@@ -3,16 +3,29 @@ use Prim.Native.Nat.{ℕ, _-_, _≤_}
 use mathlib.Core.List.{List, []}
 use mathlib.Core.Path.{_≡_}
 use mathlib.Core.Logic.{_⊎_}
-use lib.ListN.{length, drop}
-use Rattle.base.specs.Codes.{registersCount}
-use Rattle.device.specs.Device.{Device, reset, registers}
+use lib.ListN.{getD, drop}
+use Rattle.device.specs.Device.{Device, reset, bit, registers}
 use Rattle.device.specs.laws.Samples.{samples}
-use Rattle.device.specs.declared.state.Held.{Held}
+
+-- the register strip, of whose register 0 only the flags count, and how many samples were due so far
+pub record Held : Type 0 where
+  pub strip : List ℕ
+  pub taken : ℕ
+
+abbrev pub heldIn : (strip : List ℕ) (taken : ℕ) → Held
+heldIn s n = record { strip = s; taken = n }
 
 -- the device that the code holds: the samples that were due so far are taken from the tape
 abbrev pub deviceOf : (tape : List ℕ) → Held → Device
 deviceOf t h =
-    record { arrived = h .arrived; lost = h .lost; mask = h .mask; reading = h .reading; others = h .others; tape = drop (h .taken) t }
+    record {
+      arrived = bit 0 (getD (h .strip) 0 0);
+      lost = bit 1 (getD (h .strip) 0 0);
+      mask = getD (h .strip) 1 0;
+      reading = getD (h .strip) 2 0;
+      others = drop 3 (h .strip);
+      tape = drop (h .taken) t;
+    }
 
 -- its registers, whatever is on the tape
 abbrev pub registersOf : Held → List ℕ
@@ -28,6 +41,10 @@ pub record Becomes (f : Device → Device) (before after : Held) : Type 0 where
   pub same : after .taken ≡ before .taken
   pub is : (tape : List ℕ) → deviceOf tape after ≡ f (deviceOf tape before)
 
+-- the same of the strip, however many samples were due
+abbrev pub Alters : (f : Device → Device) (before after : List ℕ) → Type 0
+Alters f s s′ = (taken : ℕ) → Becomes f (heldIn s taken) (heldIn s′ taken)
+
 -- after all samples that are due
 pub record CaughtUp (tape : List ℕ) (due : ℕ) (before after : Held) : Type 0 where
   pub taken : after .taken ≡ due
@@ -36,10 +53,6 @@ pub record CaughtUp (tape : List ℕ) (due : ℕ) (before after : Held) : Type 0
 -- after a look: up to date where no sample is due that was taken before
 pub record Looks (tape : List ℕ) (due : ℕ) (before after : Held) : Type 0 where
   pub says : before .taken ≤ due → CaughtUp tape due before after
-
--- the register strip holds what the registers hold, where there are sixteen
-pub record ShownIn (h : Held) (strip : List ℕ) : Type 0 where
-  pub says : length (registersOf h) ≡ registersCount → strip ≡ registersOf h
 
 -- the lesser of two numbers
 pub record LesserOf (a b r : ℕ) : Type 0 where

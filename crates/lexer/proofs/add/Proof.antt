@@ -2,6 +2,7 @@
 use borrow.Author.Needs.{needs}
 use Prim.Native.Nat.{_<_}
 use native.Mathlib.Omega.{arith}
+use Rattle.base.specs.contracts.Table.{rows}
 use Rattle.lexer.proofs.Stores.{extended-plain}
 use Rattle.lexer.proofs.Verdicts.{judged-as, added-refused, added-name, added-plain}
 use Rattle.lexer.proofs.add.Statement.{statement}
@@ -46,7 +47,7 @@ returns-3 c =
     let p = g .pre .0 in
     let q = e .number2 .given .1 in
     let j = judged-as (a .count) (a .token .kind) (a .token .start) _ (v .judge .ensures) q in
-    let n : a .count < 2048 = omega (arith, j .0, p .chained .filled .few) in
+    let n : a .count < rows = omega (arith, j .0, p .chained .filled .few) in
     added-plain (v .judge .ensures) q (p .ordered) (p .inside) (extended-plain p n (j .1) (j .2) (c .before .before .store .ensures))
 
 pub add-spec : {M : Type 1} → statement M

@@ -1,12 +1,13 @@
--- The work table while the lexer fills it: the tokens are read off it, with column 7 for a token's length, and the names stand in chains.
--- Column 5 of row b is the head of bucket b and column 6 of a row the link to the next one of its chain: a row plus one, or 0 for none.
+-- The work table while the lexer fills it: the tokens are read off it, with `cLength` for a token's length, and the names stand in chains.
+-- `cHead` of row b is the head of bucket b and `cLink` of a row the link to the next one of its chain: a row plus one, or 0 for none.
 use Prim.Native.Nat.{ℕ, zero, suc, _+_, _*_, _-_, _%_, _≤_, _<_}
 use mathlib.Core.List.{List, [], _∷_, _++_}
 use mathlib.Core.Bool.{true}
 use mathlib.Core.Path.{_≡_}
 use lib.ListN.{length, take, drop}
 use Rattle.base.specs.Outcome.{Outcome, accepted, refused, _>>=_}
-use Rattle.base.specs.contracts.Table.{col, put, rows, size}
+use Rattle.base.specs.contracts.Table.{col, put, rows, size, cKind, cStart, cNumber, cHead, cLink, cLength}
+use Rattle.base.specs.Codes.{sourceMost}
 use Rattle.lexer.specs.Kinds.{kLiteral, kFixedLiteral, isName}
 use Rattle.lexer.specs.Tokens.{Token, token, decimal, thousandthsOf, turn}
 use Rattle.lexer.specs.contracts.Rows.{firstNamed}
@@ -16,14 +17,14 @@ use Rattle.lexer.specs.declared.Stored.the-variants.{Refused, Done}
 -- the bucket of a name
 unfoldable pub bucketFrom : (h : ℕ) → List ℕ → ℕ
 bucketFrom h [] = h
-bucketFrom h (b ∷ bs) = bucketFrom ((h * 31 + b) % 2048) bs
+bucketFrom h (b ∷ bs) = bucketFrom ((h * 31 + b) % rows) bs
 
 -- the bytes of the token of row i
 unfoldable pub textAt : (s tab : List ℕ) → ℕ → List ℕ
-textAt s tab i = take (col tab 7 i) (drop (col tab 1 i) s)
+textAt s tab i = take (col tab cLength i) (drop (col tab cStart i) s)
 
 abbrev pub rowToken : (s tab : List ℕ) → ℕ → Token
-rowToken s tab i = record { kind = col tab 0 i; start = col tab 1 i; text = textAt s tab i }
+rowToken s tab i = record { kind = col tab cKind i; start = col tab cStart i; text = textAt s tab i }
 
 -- the tokens of the first n rows
 unfoldable pub tokensOf : (s tab : List ℕ) → ℕ → List Token
@@ -44,29 +45,29 @@ tokenRow k i e number link = record { kind = k; start = i; number = number; link
 
 -- a row as it is stored
 unfoldable pub storedRow : List ℕ → ℕ → TokenRow → List ℕ
-storedRow tab i r = put (put (put (put (put tab 0 i (r .kind)) 1 i (r .start)) 2 i (r .number)) 6 i (r .link)) 7 i (r .length)
+storedRow tab i r = put (put (put (put (put tab cKind i (r .kind)) cStart i (r .start)) cNumber i (r .number)) cLink i (r .link)) cLength i (r .length)
 
 -- the first n buckets are empty
 pub record NoNames (tab : List ℕ) (n : ℕ) : Type 0 where
-  pub heads : (b : ℕ) → b < n → col tab 5 b ≡ 0
+  pub heads : (b : ℕ) → b < n → col tab cHead b ≡ 0
 
 -- a link to a name among the first n rows, or to none
 pub record Link (tab : List ℕ) (n x : ℕ) : Type 0 where
   pub below : x ≤ n
-  pub named : (j : ℕ) → x ≡ j + 1 → isName (col tab 0 j) ≡ true
+  pub named : (j : ℕ) → x ≡ j + 1 → isName (col tab cKind j) ≡ true
 
 -- a chain that begins with the link x has a row with the text t
 pub data Reaches (s tab : List ℕ) (n : ℕ) (t : List ℕ) : ℕ → Type 0 where
   here : {x : ℕ} (j : ℕ) → j < n → x ≡ j + 1 → textAt s tab j ≡ t → Reaches s tab n t x
-  next : {x : ℕ} (j : ℕ) → j < n → x ≡ j + 1 → Reaches s tab n t (col tab 6 j) → Reaches s tab n t x
+  next : {x : ℕ} (j : ℕ) → j < n → x ≡ j + 1 → Reaches s tab n t (col tab cLink j) → Reaches s tab n t x
 
 -- a row's number is right by the rows before it
 pub record Numbered (s tab : List ℕ) (i : ℕ) : Type 0 where
-  pub inside : col tab 1 i + col tab 7 i ≤ length s
-  pub link : Link tab i (col tab 6 i)
-  pub name : isName (col tab 0 i) ≡ true → col tab 2 i ≡ firstNamed (tokensOf s tab i) (textAt s tab i)
-  pub literal : col tab 0 i ≡ kLiteral → col tab 2 i ≡ decimal 0 (textAt s tab i)
-  pub fixed : col tab 0 i ≡ kFixedLiteral → col tab 2 i ≡ thousandthsOf (textAt s tab i)
+  pub inside : col tab cStart i + col tab cLength i ≤ length s
+  pub link : Link tab i (col tab cLink i)
+  pub name : isName (col tab cKind i) ≡ true → col tab cNumber i ≡ firstNamed (tokensOf s tab i) (textAt s tab i)
+  pub literal : col tab cKind i ≡ kLiteral → col tab cNumber i ≡ decimal 0 (textAt s tab i)
+  pub fixed : col tab cKind i ≡ kFixedLiteral → col tab cNumber i ≡ thousandthsOf (textAt s tab i)
 
 -- the first n rows hold tokens
 pub record RowsFilled (s tab : List ℕ) (n : ℕ) : Type 0 where
@@ -77,21 +78,21 @@ pub record RowsFilled (s tab : List ℕ) (n : ℕ) : Type 0 where
 -- and each name is in the chain of its bucket, or another with its text is
 pub record Chained (s tab : List ℕ) (n : ℕ) : Type 0 where
   pub filled : RowsFilled s tab n
-  pub heads : (b : ℕ) → b < rows → Link tab n (col tab 5 b)
-  pub found : (j : ℕ) → j < n → isName (col tab 0 j) ≡ true → Reaches s tab n (textAt s tab j) (col tab 5 (bucketFrom 0 (textAt s tab j)))
+  pub heads : (b : ℕ) → b < rows → Link tab n (col tab cHead b)
+  pub found : (j : ℕ) → j < n → isName (col tab cKind j) ≡ true → Reaches s tab n (textAt s tab j) (col tab cHead (bucketFrom 0 (textAt s tab j)))
 
 -- a chain, from the link `head` on, in which a name with the text t is looked for: if a row has it, the chain has
 pub record Sought (s tab : List ℕ) (n head : ℕ) (t : List ℕ) : Type 0 where
   pub filled : RowsFilled s tab n
   pub link : Link tab n head
-  pub found : (j : ℕ) → j < n → isName (col tab 0 j) ≡ true → textAt s tab j ≡ t → Reaches s tab n t head
+  pub found : (j : ℕ) → j < n → isName (col tab cKind j) ≡ true → textAt s tab j ≡ t → Reaches s tab n t head
 
 -- a token from i to e is to become row n
 pub record Adding (s tab : List ℕ) (n i e : ℕ) : Type 0 where
   pub chained : Chained s tab n
   pub ordered : i ≤ e
   pub inside : e ≤ length s
-  pub short : length s ≤ 16384
+  pub short : length s ≤ sourceMost
 
 -- it became that row
 pub record Extended (s tab : List ℕ) (n k i e : ℕ) (tab′ : List ℕ) : Type 0 where

@@ -1,4 +1,4 @@
--- What the lexer leaves in the work table, one row for each token: column 0 is the token's kind, column 1 its position, and column 2 the
+-- What the lexer leaves in the work table, one row for each token: `cKind` is the token's kind, `cStart` its position, and `cNumber` the
 -- number of a name or the value of a literal. The other columns may hold anything.
 use Prim.Native.Nat.{ℕ, _+_, _≤_}
 use mathlib.Core.List.{List, [], _∷_}
@@ -10,7 +10,7 @@ use Rattle.base.specs.Bytes.{same}
 use Rattle.base.specs.Choice.{if_then_else_}
 use Rattle.base.specs.Codes.{tokensMost}
 use Rattle.base.specs.Outcome.{Outcome, accepted, refused}
-use Rattle.base.specs.contracts.Table.{col}
+use Rattle.base.specs.contracts.Table.{col, cKind, cStart, cNumber}
 use Rattle.lexer.specs.Kinds.{kLiteral, kFixedLiteral, isName}
 use Rattle.lexer.specs.Tokens.{Token, decimal, thousandthsOf}
 use Rattle.lexer.specs.declared.Lexed.{Lexed}
@@ -23,11 +23,11 @@ firstNamed (t ∷ ts) text = if isName (t .kind) && same (t .text) text then (λ
 
 -- row i holds t, a token of ts
 pub record RowOf (tab : List ℕ) (ts : List Token) (i : ℕ) (t : Token) : Type 0 where
-  pub kind : col tab 0 i ≡ t .kind
-  pub start : col tab 1 i ≡ t .start
-  pub name : isName (t .kind) ≡ true → col tab 2 i ≡ firstNamed ts (t .text)
-  pub literal : t .kind ≡ kLiteral → col tab 2 i ≡ decimal 0 (t .text)
-  pub fixed : t .kind ≡ kFixedLiteral → col tab 2 i ≡ thousandthsOf (t .text)
+  pub kind : col tab cKind i ≡ t .kind
+  pub start : col tab cStart i ≡ t .start
+  pub name : isName (t .kind) ≡ true → col tab cNumber i ≡ firstNamed ts (t .text)
+  pub literal : t .kind ≡ kLiteral → col tab cNumber i ≡ decimal 0 (t .text)
+  pub fixed : t .kind ≡ kFixedLiteral → col tab cNumber i ≡ thousandthsOf (t .text)
 
 -- the table has a row for each token
 abbrev pub Rows : List ℕ → List Token → Type 0

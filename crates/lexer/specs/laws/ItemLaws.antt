@@ -15,8 +15,10 @@ use Rattle.base.specs.Bytes.{same}
 use Rattle.base.specs.Choice.{if_then_else_}
 use Rattle.base.specs.All.{All, all-nil, all-cons}
 use Rattle.base.specs.laws.Tests.{apart, and-true, and-false, or-neither, if-both}
+use Rattle.lexer.specs.Bytes.{bLineFeed, bUnderscore, bSlash, bAmpersand, bLess, bPlus, bMinus, bStar, bExclamation, bEquals, bDot}
+use Rattle.lexer.specs.Bytes.{bComma, bSemicolon, bOpen, bClose, bOpenBracket, bCloseBracket, bOpenBrace, bCloseBrace}
 use Rattle.lexer.specs.Bytes.{isBlank, isLetter, isDigit, isNamePart}
-use Rattle.lexer.specs.Kinds.{Word, words, kLiteral, kFixedLiteral, kAnd, isName, kindIn, wordKind, markKind}
+use Rattle.lexer.specs.Kinds.{Word, words, kLiteral, kFixedLiteral, kAnd, isName, kindIn, wordKind, markKind, kEnd, kLess, kPlus, kMinus, kTimes, kNot, kAssign, kDot, kComma, kSemicolon, kOpen, kClose, kOpenBracket, kCloseBracket, kOpenBrace, kCloseBrace}
 use Rattle.lexer.specs.Tokens.{Item, gap, unclosed, nothing, token, longestRun, begins, closing, comment, mark, numeral, item}
 use Rattle.lexer.specs.Tokens.{wholeDigits, fractionDigits}
 
@@ -121,26 +123,26 @@ word-kind-fits t =
     let q = and-true (ltb 0 (wordKind t)) (kindFits (wordKind t)) (word-fits words t refl) in
     (ltb-true 0 (wordKind t) (q .0), kind-fits (wordKind t) (q .1))
 
--- what holds of the kind of each mark and of 0 holds of every mark's
-of-marks : (P : ℕ → Type 0) → P 25 → P 26 → P 27 → P 28 → P 29 → P 30 → P 31 → P 32 → P 33 → P 34 → P 35 → P 36 → P 37 → P 38 → P 39
-    → P 0 → (b : ℕ) → P (markKind b)
+-- what holds of the kind of each mark and of `kEnd` holds of every mark's
+of-marks : (P : ℕ → Type 0) → P kLess → P kPlus → P kMinus → P kTimes → P kNot → P kAssign → P kDot → P kComma → P kSemicolon → P kOpen → P kClose
+    → P kOpenBracket → P kCloseBracket → P kOpenBrace → P kCloseBrace → P kEnd → (b : ℕ) → P (markKind b)
 unfolding markKind
-of-marks P m₂₅ m₂₆ m₂₇ m₂₈ m₂₉ m₃₀ m₃₁ m₃₂ m₃₃ m₃₄ m₃₅ m₃₆ m₃₇ m₃₈ m₃₉ m₀ b =
-    if-both P (eqb b 60) (λ _. 25) _ m₂₅
-    (if-both P (eqb b 43) (λ _. 26) _ m₂₆
-    (if-both P (eqb b 45) (λ _. 27) _ m₂₇
-    (if-both P (eqb b 42) (λ _. 28) _ m₂₈
-    (if-both P (eqb b 33) (λ _. 29) _ m₂₉
-    (if-both P (eqb b 61) (λ _. 30) _ m₃₀
-    (if-both P (eqb b 46) (λ _. 31) _ m₃₁
-    (if-both P (eqb b 44) (λ _. 32) _ m₃₂
-    (if-both P (eqb b 59) (λ _. 33) _ m₃₃
-    (if-both P (eqb b 40) (λ _. 34) _ m₃₄
-    (if-both P (eqb b 41) (λ _. 35) _ m₃₅
-    (if-both P (eqb b 91) (λ _. 36) _ m₃₆
-    (if-both P (eqb b 93) (λ _. 37) _ m₃₇
-    (if-both P (eqb b 123) (λ _. 38) _ m₃₈
-    (if-both P (eqb b 125) (λ _. 39) _ m₃₉ m₀))))))))))))))
+of-marks P m₁ m₂ m₃ m₄ m₅ m₆ m₇ m₈ m₉ m₁₀ m₁₁ m₁₂ m₁₃ m₁₄ m₁₅ m₀ b =
+    if-both P (eqb b bLess) (λ _. kLess) _ m₁
+    (if-both P (eqb b bPlus) (λ _. kPlus) _ m₂
+    (if-both P (eqb b bMinus) (λ _. kMinus) _ m₃
+    (if-both P (eqb b bStar) (λ _. kTimes) _ m₄
+    (if-both P (eqb b bExclamation) (λ _. kNot) _ m₅
+    (if-both P (eqb b bEquals) (λ _. kAssign) _ m₆
+    (if-both P (eqb b bDot) (λ _. kDot) _ m₇
+    (if-both P (eqb b bComma) (λ _. kComma) _ m₈
+    (if-both P (eqb b bSemicolon) (λ _. kSemicolon) _ m₉
+    (if-both P (eqb b bOpen) (λ _. kOpen) _ m₁₀
+    (if-both P (eqb b bClose) (λ _. kClose) _ m₁₁
+    (if-both P (eqb b bOpenBracket) (λ _. kOpenBracket) _ m₁₂
+    (if-both P (eqb b bCloseBracket) (λ _. kCloseBracket) _ m₁₃
+    (if-both P (eqb b bOpenBrace) (λ _. kOpenBrace) _ m₁₄
+    (if-both P (eqb b bCloseBrace) (λ _. kCloseBrace) _ m₁₅ m₀))))))))))))))
 
 mark-kind-fits : (b : ℕ) → kindFits (markKind b) ≡ true
 mark-kind-fits b = of-marks (λ k. kindFits k ≡ true) refl refl refl refl refl refl refl refl refl refl refl refl refl refl refl refl b
@@ -166,9 +168,9 @@ closing-ends d i (a ∷ []) = tt
 closing-ends d i (a ∷ b ∷ bs) =
     let n = length bs in
     let P : Option ℕ → Type 0 = Ends i (suc (suc n)) in
-    if-both P (eqb a 47 && eqb b 42) (λ _. closing (d + 1) (i + 2) bs) _
+    if-both P (eqb a bSlash && eqb b bStar) (λ _. closing (d + 1) (i + 2) bs) _
     (ends-later i (i + 2) n (suc (suc n)) (closing (d + 1) (i + 2) bs) (omega arith) (omega arith) (closing-ends (d + 1) (i + 2) bs))
-    (if-both P (eqb a 42 && eqb b 47) _ (λ _. closing d (i + 1) (b ∷ bs))
+    (if-both P (eqb a bStar && eqb b bSlash) _ (λ _. closing d (i + 1) (b ∷ bs))
     (if-both P (eqb d 1) (λ _. some (i + 2)) (λ _. closing (d - 1) (i + 2) bs) (omega arith)
     (ends-later i (i + 2) n (suc (suc n)) (closing (d - 1) (i + 2) bs) (omega arith) (omega arith) (closing-ends (d - 1) (i + 2) bs)))
     (ends-later i (i + 1) (suc n) (suc (suc n)) (closing d (i + 1) (b ∷ bs)) (omega arith) (omega arith) (closing-ends d (i + 1) (b ∷ bs))))
@@ -184,23 +186,23 @@ pub record Pointed (text : List ℕ) : Type 0 where
   pub some-whole : 0 < length (wholeDigits text)
   pub whole : Digits (wholeDigits text)
   pub fraction : Digits (fractionDigits text)
-  pub is : text ≡ wholeDigits text ++ 46 ∷ fractionDigits text
+  pub is : text ≡ wholeDigits text ++ bDot ∷ fractionDigits text
 
-with-point : (w f : List ℕ) → 0 < length w → Digits w → Digits f → Pointed (w ++ 46 ∷ f)
+with-point : (w f : List ℕ) → 0 < length w → Digits w → Digits f → Pointed (w ++ bDot ∷ f)
 unfolding isDigit
 with-point w f l dw df =
-    let whole : wholeDigits (w ++ 46 ∷ f) ≡ w = run-stop isDigit w 46 f dw refl in
-    let fraction : fractionDigits (w ++ 46 ∷ f) ≡ f =
-    ap (λ (v : List ℕ). drop (length v + 1) (w ++ 46 ∷ f)) whole ∙ drop-append-add w (46 ∷ f) 1 in
+    let whole : wholeDigits (w ++ bDot ∷ f) ≡ w = run-stop isDigit w bDot f dw refl in
+    let fraction : fractionDigits (w ++ bDot ∷ f) ≡ f =
+    ap (λ (v : List ℕ). drop (length v + 1) (w ++ bDot ∷ f)) whole ∙ drop-append-add w (bDot ∷ f) 1 in
     record {
       some-whole = subst (λ (v : List ℕ). 0 < length v) (sym whole) l;
       whole = subst Digits (sym whole) dw;
       fraction = subst Digits (sym fraction) df;
-      is = λ j. sym whole j ++ 46 ∷ sym fraction j;
+      is = λ j. sym whole j ++ bDot ∷ sym fraction j;
     }
 
 -- the point that bytes begin with, and what is behind it
-behind-point : (l : List ℕ) → getD l 0 0 ≡ 46 → l ≡ 46 ∷ drop 1 l
+behind-point : (l : List ℕ) → getD l 0 0 ≡ bDot → l ≡ bDot ∷ drop 1 l
 behind-point [] e = absurd (omega arith)
 behind-point (c ∷ l) e = ap (λ (d : ℕ). d ∷ l) e
 
@@ -229,20 +231,20 @@ abbrev pub chosen : (i b : ℕ) (r : List ℕ) (blank line block letter digit an
 chosen i b r blank line block letter digit and =
     let bs = b ∷ r in
     if blank then (λ _. gap (i + 1)) else λ _.
-    if line then (λ _. gap (i + length (longestRun (λ c. not (eqb c 10)) bs))) else λ _.
+    if line then (λ _. gap (i + length (longestRun (λ c. not (eqb c bLineFeed)) bs))) else λ _.
     if block then (λ _. comment (closing 1 (i + 2) (drop 2 bs))) else λ _.
     if letter then (λ _. let text = longestRun isNamePart bs in token (wordKind text) text) else λ _.
     if digit then (λ _. numeral bs) else λ _.
-    if and then (λ _. token kAnd (38 ∷ 38 ∷ [])) else λ _.
+    if and then (λ _. token kAnd (bAmpersand ∷ bAmpersand ∷ [])) else λ _.
     mark b (markKind b)
 
 module _ (i b : ℕ) (r : List ℕ) where
-  good-line : Two 47 47 b r → Good i (b ∷ r) (gap (i + length (longestRun (λ c. not (eqb c 10)) (b ∷ r))))
+  good-line : Two bSlash bSlash b r → Good i (b ∷ r) (gap (i + length (longestRun (λ c. not (eqb c bLineFeed)) (b ∷ r))))
   good-line w =
-      let p : ℕ → Bool = λ c. not (eqb c 10) in
+      let p : ℕ → Bool = λ c. not (eqb c bLineFeed) in
       omega (arith, run-short p (b ∷ r), run-some p b r (ap p (w .first)))
 
-  good-comment : (o : Option ℕ) → Ends (i + 2) (length (drop 1 r)) o → Two 47 42 b r → Good i (b ∷ r) (comment o)
+  good-comment : (o : Option ℕ) → Ends (i + 2) (length (drop 1 r)) o → Two bSlash bStar b r → Good i (b ∷ r) (comment o)
   good-comment none e w = tt
   good-comment (some j) e w = omega (arith, length-drop 1 r, ap length (w .second))
 
@@ -266,24 +268,24 @@ module _ (i b : ℕ) (r : List ℕ) where
       let t = longestRun isNamePart (b ∷ r) in
       let f = word-kind-fits t in
       good-run isNamePart (wordKind t) (f .0) (f .1 .0) (λ q. absurd (f .1 .1 q)) (f .1 .2) (λ _. refl)
-      (ap (λ (x : Bool). x || isDigit b || eqb b 95) e)
+      (ap (λ (x : Bool). x || isDigit b || eqb b bUnderscore) e)
 
   good-literal : isDigit b ≡ true → Good i (b ∷ r) (token kLiteral (longestRun isDigit (b ∷ r)))
   unfolding isName
   good-literal e =
       good-run isDigit kLiteral (lit< tt) (lit< tt) (λ _. run-all isDigit (b ∷ r)) (λ q. apart (cc)) (λ q. absurd (false≢true q)) e
 
-  good-fixed : let rest = drop (length (longestRun isDigit (b ∷ r))) (b ∷ r) in isDigit b ≡ true → getD rest 0 0 ≡ 46
-      → Good i (b ∷ r) (token kFixedLiteral (longestRun isDigit (b ∷ r) ++ 46 ∷ longestRun isDigit (drop 1 rest)))
+  good-fixed : let rest = drop (length (longestRun isDigit (b ∷ r))) (b ∷ r) in isDigit b ≡ true → getD rest 0 0 ≡ bDot
+      → Good i (b ∷ r) (token kFixedLiteral (longestRun isDigit (b ∷ r) ++ bDot ∷ longestRun isDigit (drop 1 rest)))
   unfolding isName
   good-fixed e q =
       let bs = b ∷ r in
       let w = longestRun isDigit bs in
       let rest = drop (length w) bs in
       let f = longestRun isDigit (drop 1 rest) in
-      let n = length-append w (46 ∷ f) in
+      let n = length-append w (bDot ∷ f) in
       let z = behind-point rest q in
-      let tail = ap (take (suc (length f))) z ∙ ap (λ (l : List ℕ). 46 ∷ l) (run-front isDigit (drop 1 rest)) in
+      let tail = ap (take (suc (length f))) z ∙ ap (λ (l : List ℕ). bDot ∷ l) (run-front isDigit (drop 1 rest)) in
       record {
         positive = lit< tt;
         below = lit< tt;
@@ -300,19 +302,19 @@ module _ (i b : ℕ) (r : List ℕ) where
       }
 
   good-numeral : isDigit b ≡ true → Good i (b ∷ r) (numeral (b ∷ r))
-  good-numeral e = by (eqb (getD rest 0 0) 46 && isDigit (getD rest 1 0)) refl
+  good-numeral e = by (eqb (getD rest 0 0) bDot && isDigit (getD rest 1 0)) refl
     where
       rest : List ℕ
       rest = drop (length (longestRun isDigit (b ∷ r))) (b ∷ r)
 
-      by : (c : Bool) → (eqb (getD rest 0 0) 46 && isDigit (getD rest 1 0)) ≡ c
+      by : (c : Bool) → (eqb (getD rest 0 0) bDot && isDigit (getD rest 1 0)) ≡ c
           → Good i (b ∷ r)
-          (if c then (λ _. token kFixedLiteral (longestRun isDigit (b ∷ r) ++ 46 ∷ longestRun isDigit (drop 1 rest)))
+          (if c then (λ _. token kFixedLiteral (longestRun isDigit (b ∷ r) ++ bDot ∷ longestRun isDigit (drop 1 rest)))
           else λ _. token kLiteral (longestRun isDigit (b ∷ r)))
-      by true q = good-fixed e (eqb-true (getD rest 0 0) 46 (and-true (eqb (getD rest 0 0) 46) (isDigit (getD rest 1 0)) q .0))
+      by true q = good-fixed e (eqb-true (getD rest 0 0) bDot (and-true (eqb (getD rest 0 0) bDot) (isDigit (getD rest 1 0)) q .0))
       by false q = good-literal e
 
-  good-and : Two 38 38 b r → Good i (b ∷ r) (token kAnd (38 ∷ 38 ∷ []))
+  good-and : Two bAmpersand bAmpersand b r → Good i (b ∷ r) (token kAnd (bAmpersand ∷ bAmpersand ∷ []))
   unfolding isName
   good-and w = record {
     positive = lit< tt;
@@ -342,24 +344,25 @@ module _ (i b : ℕ) (r : List ℕ) where
       not-zero : (n : ℕ) → n ≢ 0 → 0 < n
       not-zero n m = omega arith
 
-  good-chosen : (x₁ x₂ x₃ x₄ x₅ x₆ : Bool) → begins 47 47 (b ∷ r) ≡ x₂ → begins 47 42 (b ∷ r) ≡ x₃ → isLetter b ≡ x₄ → isDigit b ≡ x₅
-      → begins 38 38 (b ∷ r) ≡ x₆ → Good i (b ∷ r) (chosen i b r x₁ x₂ x₃ x₄ x₅ x₆)
+  good-chosen : (x₁ x₂ x₃ x₄ x₅ x₆ : Bool) → begins bSlash bSlash (b ∷ r) ≡ x₂ → begins bSlash bStar (b ∷ r) ≡ x₃
+      → isLetter b ≡ x₄ → isDigit b ≡ x₅ → begins bAmpersand bAmpersand (b ∷ r) ≡ x₆ → Good i (b ∷ r) (chosen i b r x₁ x₂ x₃ x₄ x₅ x₆)
   good-chosen true x₂ x₃ x₄ x₅ x₆ e₂ e₃ e₄ e₅ e₆ = omega arith
-  good-chosen false true x₃ x₄ x₅ x₆ e₂ e₃ e₄ e₅ e₆ = good-line (two 47 47 b r e₂)
+  good-chosen false true x₃ x₄ x₅ x₆ e₂ e₃ e₄ e₅ e₆ = good-line (two bSlash bSlash b r e₂)
   good-chosen false false true x₄ x₅ x₆ e₂ e₃ e₄ e₅ e₆ =
-      good-comment (closing 1 (i + 2) (drop 1 r)) (closing-ends 1 (i + 2) (drop 1 r)) (two 47 42 b r e₃)
+      good-comment (closing 1 (i + 2) (drop 1 r)) (closing-ends 1 (i + 2) (drop 1 r)) (two bSlash bStar b r e₃)
   good-chosen false false false true x₅ x₆ e₂ e₃ e₄ e₅ e₆ =
       good-word e₄
   good-chosen false false false false true x₆ e₂ e₃ e₄ e₅ e₆ = good-numeral e₅
-  good-chosen false false false false false true e₂ e₃ e₄ e₅ e₆ = good-and (two 38 38 b r e₆)
+  good-chosen false false false false false true e₂ e₃ e₄ e₅ e₆ = good-and (two bAmpersand bAmpersand b r e₆)
   good-chosen false false false false false false e₂ e₃ e₄ e₅ e₆ =
-      good-mark (markKind b) (kind-fits (markKind b) (mark-kind-fits b)) (mark-no-name b) (eqb (markKind b) 0) refl
+      good-mark (markKind b) (kind-fits (markKind b) (mark-kind-fits b)) (mark-no-name b) (eqb (markKind b) kEnd) refl
 
 good-item : (i b : ℕ) (r : List ℕ) → Good i (b ∷ r) (item i (b ∷ r))
 unfolding item
 good-item i b r =
     let bs = b ∷ r in
-    good-chosen i b r (isBlank b) (begins 47 47 bs) (begins 47 42 bs) (isLetter b) (isDigit b) (begins 38 38 bs) refl refl refl refl refl
+    good-chosen i b r (isBlank b) (begins bSlash bSlash bs) (begins bSlash bStar bs) (isLetter b) (isDigit b)
+    (begins bAmpersand bAmpersand bs) refl refl refl refl refl
 
 -- what begins at a position within a source
 pub good : (s : List ℕ) (i : ℕ) → i < length s → Good i (drop i s) (item i (drop i s))

@@ -14,7 +14,7 @@ use borrow.Author.Tests.{leb-true, lt-ltb, eqb-false}
 use Rattle.base.specs.All.{all-cons}
 use Rattle.base.specs.Outcome.{accepted}
 use Rattle.base.specs.laws.Tests.{and-true, and-right}
-use Rattle.lexer.specs.Bytes.{isDigit}
+use Rattle.lexer.specs.Bytes.{bZero, bNine, bDot, isDigit}
 use Rattle.lexer.specs.Kinds.{kLiteral, kFixedLiteral}
 use Rattle.lexer.specs.Tokens.{Token, decimal, startsWithZero, wholeDigits, fractionDigits, thousandthsOf, tokens}
 use Rattle.lexer.specs.laws.ItemLaws.{Digits}
@@ -24,11 +24,11 @@ use Rattle.lexer.specs.laws.RowLaws.{FixedText, TokenOf, token-of}
 pub decimal-grows : (high : ℕ) (ds : List ℕ) → high ≤ decimal high ds
 unfolding decimal
 decimal-grows high [] = omega arith
-decimal-grows high (d ∷ ds) = omega (arith, decimal-grows (high * 10 + (d - 48)) ds)
+decimal-grows high (d ∷ ds) = omega (arith, decimal-grows (high * 10 + (d - bZero)) ds)
 
-pub digit-range : (d : ℕ) → isDigit d ≡ true → (48 ≤ d) × (d ≤ 57)
+pub digit-range : (d : ℕ) → isDigit d ≡ true → (bZero ≤ d) × (d ≤ bNine)
 unfolding isDigit
-digit-range d e = let q = and-true (leb 48 d) (leb d 57) e in (leb-true 48 d (q .0), leb-true d 57 (q .1))
+digit-range d e = let q = and-true (leb bZero d) (leb d bNine) e in (leb-true bZero d (q .0), leb-true d bNine (q .1))
 
 -- as many digits with an equal value, after values h and k, are the same digits after the same value
 as-many : (ds es : List ℕ) (h k : ℕ) → Digits ds → Digits es → length ds ≡ length es → decimal h ds ≡ decimal k es → (h ≡ k) × (ds ≡ es)
@@ -37,7 +37,7 @@ as-many [] [] h k p q l v = (v, refl)
 as-many [] (e ∷ es) h k p q l v = absurd (omega arith)
 as-many (d ∷ ds) [] h k p q l v = absurd (omega arith)
 as-many (d ∷ ds) (e ∷ es) h k (all-cons p ps) (all-cons q qs) l v =
-    let r = as-many ds es (h * 10 + (d - 48)) (k * 10 + (e - 48)) ps qs (omega arith) v in
+    let r = as-many ds es (h * 10 + (d - bZero)) (k * 10 + (e - bZero)) ps qs (omega arith) v in
     let a = digit-range d p in
     let b = digit-range e q in
     let same : d ≡ e = omega (arith, r .0) in
@@ -49,7 +49,7 @@ unfolding decimal
 no-fewer [] es h k p l g = omega (arith, decimal-grows k es)
 no-fewer (d ∷ ds) [] h k p l g = absurd (omega arith)
 no-fewer (d ∷ ds) (e ∷ es) h k (all-cons p ps) l g =
-    no-fewer ds es (h * 10 + (d - 48)) (k * 10 + (e - 48)) ps (omega arith) (omega (arith, digit-range d p))
+    no-fewer ds es (h * 10 + (d - bZero)) (k * 10 + (e - bZero)) ps (omega arith) (omega (arith, digit-range d p))
 
 -- the bytes of a literal
 pub record Literal (ds : List ℕ) : Type 0 where
@@ -63,10 +63,11 @@ unfolding decimal
 longer ds [] p q l = absurd (omega arith)
 longer ds (e ∷ es) p q l =
     let many : 1 < suc (length es) = omega (arith, p .nonempty) in
-    let first : e ≢ 48 = eqb-false e 48 (and-right (ltb 1 (suc (length es))) (eqb e 48) (q .no-zero) (lt-ltb 1 (suc (length es)) many)) in
-    no-fewer ds es 0 (0 * 10 + (e - 48)) (p .digits) (omega arith) (positive (q .digits) first)
+    let first : e ≢ bZero =
+    eqb-false e bZero (and-right (ltb 1 (suc (length es))) (eqb e bZero) (q .no-zero) (lt-ltb 1 (suc (length es)) many)) in
+    no-fewer ds es 0 (0 * 10 + (e - bZero)) (p .digits) (omega arith) (positive (q .digits) first)
   where
-    positive : Digits (e ∷ es) → e ≢ 48 → 0 < 0 * 10 + (e - 48)
+    positive : Digits (e ∷ es) → e ≢ bZero → 0 < 0 * 10 + (e - bZero)
     positive (all-cons d ds) n = omega (arith, digit-range e d)
 
 equal-value : (ds es : List ℕ) → Literal ds → Literal es → decimal 0 ds ≡ decimal 0 es → ds ≡ es
@@ -92,7 +93,7 @@ equal-count t u f g v =
     as-many (fractionDigits t) (fractionDigits u) (decimal 0 (wholeDigits t)) (decimal 0 (wholeDigits u))
     (f .pointed .fraction) (g .pointed .fraction) (f .three ∙ sym (g .three)) v in
     let w = equal-value (wholeDigits t) (wholeDigits u) (whole-of f) (whole-of g) (r .0) in
-    f .pointed .is ∙ (λ j. w j ++ 46 ∷ r .1 j) ∙ sym (g .pointed .is)
+    f .pointed .is ∙ (λ j. w j ++ bDot ∷ r .1 j) ∙ sym (g .pointed .is)
 
 -- ---- of sources
 

@@ -6,6 +6,7 @@ use mathlib.Core.List.{List}
 use mathlib.Core.Option.{Option, none, some}
 use lib.ListN.{length, getD}
 use Rattle.base.specs.Choice.{option}
+use Rattle.base.specs.Codes.{tokensMost, variablesMost}
 use Rattle.lexer.specs.Tokens.{Token}
 use Rattle.parser.specs.Tree.{Variable, Class}
 use Rattle.parser.specs.contracts.Layout.{rowVariables}
@@ -14,20 +15,27 @@ use Rattle.lookup.specs.contracts.HeldClasses.{Lexemes, NameNumber, Mayb
 
 -- c is the number of the name of a class, or of none
 pub record ObjectSize (tab : List ℕ) (n left c : ℕ) (r : ℕ) : Type 0 where
-  pub most : r ≤ 2048 * left
+  pub most : r ≤ tokensMost * left
   pub says : (ts : List Token) (G : List Class) → ClassTableHeld tab n ts G → (name : Option (List ℕ)) → MaybeNumber ts name c
       → r ≡ length (layout (chainFrom left G name))
 
 -- TWO WORDS FOR EACH NAME
 
--- the words say what was found of a field: its type, by number, and its slot, which is 32 and its place in the object
+-- the words say what was found of a field: its type, by number, and its slot, which is `variablesMost` and its place in the object
 pub data Tells (ts : List Token) : Option Slot → (type slot : ℕ) → Type 0 where
   no-field : {t p : ℕ} → t ≡ noType → Tells ts none t p
-  a-field : {s : Slot} {t p : ℕ} → Codes ts (s .type) t → p ≡ 32 + s .place → Tells ts (some s) t p
+  a-field : {s : Slot} {t p : ℕ} → Codes ts (s .type) t → p ≡ variablesMost + s .place → Tells ts (some s) t p
+
+-- how many words the array has at least, and where the slots begin in it
+abbrev pub fieldsLeast : ℕ
+fieldsLeast = 4096
+
+abbrev pub slotsFrom : ℕ
+slotsFrom = 2048
 
 -- the words of the name of number x
 abbrev pub TellsAt : List Token → List ℕ → ℕ → Option Slot → Type 0
-TellsAt ts fields x o = Tells ts o (getD fields x 0) (getD fields (2048 + x) 0)
+TellsAt ts fields x o = Tells ts o (getD fields x 0) (getD fields (slotsFrom + x) 0)
 
 -- what a field of each name means to the bodies of a class, or to main, which has no name as owner; `left` classes upwards
 pub record FieldsOf (ts : List Token) (G : List Class) (left : ℕ) (owner : Option (List ℕ)) (fields : List ℕ) : Type 0 where
@@ -42,7 +50,7 @@ pub record FieldsHeld (tab : List ℕ) (n left c : ℕ) (fields : List ℕ) : Ty
 
 -- the words behind them stay
 abbrev pub KeptBehind : (before after : List ℕ) → Type 0
-KeptBehind before after = (j : ℕ) → 4096 ≤ j → getD after j 0 ≡ getD before j 0
+KeptBehind before after = (j : ℕ) → fieldsLeast ≤ j → getD after j 0 ≡ getD before j 0
 
 -- the first n names have no field
 abbrev pub NoFields : ℕ → List ℕ → Type 0

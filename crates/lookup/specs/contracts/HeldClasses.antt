@@ -7,7 +7,8 @@ use mathlib.Core.List.{List, [], _∷_}
 use mathlib.Core.Option.{Option, none, some}
 use lib.ListN.{length}
 use lib.Dec.{ltb}
-use Rattle.base.specs.contracts.Table.{col}
+use Rattle.base.specs.contracts.Table.{col, cNext, cType, cParent, cParameters, cLocals, cFields, cMethods, cBody, cValue, cClass}
+use Rattle.base.specs.Codes.{tokensMost}
 use Rattle.lexer.specs.Tokens.{Token}
 use Rattle.lexer.specs.contracts.Rows.{firstNamed, Rows}
 use Rattle.parser.specs.Tree.{Name, Element, Element.int, Element.boolean, Element.fixed, Element.class, Ty, Ty.plain, Ty.arrayOf}
@@ -29,7 +30,7 @@ wordAt tab k row = if ltb row absent then (λ _. col tab k row) else λ _. absen
 -- the table has n tokens
 pub record Lexemes (tab : List ℕ) (n : ℕ) (ts : List Token) : Type 0 where
   pub count : length ts ≡ n
-  pub few : n ≤ 2048
+  pub few : n ≤ tokensMost
   pub rows : Rows tab ts
 
 -- NUMBERS
@@ -45,10 +46,19 @@ pub data MaybeNumber (ts : List Token) : Option (List ℕ) → ℕ → Type 0 wh
   a-name : {x : List ℕ} {c : ℕ} → NameNumber ts x c → MaybeNumber ts (some x) c
 
 -- element types by number: a class by its name's, the others above these
+abbrev pub intNumber : ℕ
+intNumber = 2048
+
+abbrev pub booleanNumber : ℕ
+booleanNumber = 2049
+
+abbrev pub fixedNumber : ℕ
+fixedNumber = 2050
+
 abbrev pub elementCode : List Token → Element → ℕ
-elementCode ts int = 2048
-elementCode ts boolean = 2049
-elementCode ts fixed = 2050
+elementCode ts int = intNumber
+elementCode ts boolean = booleanNumber
+elementCode ts fixed = fixedNumber
 elementCode ts (class c) = firstNamed ts c
 
 -- the mark for array, above all of these
@@ -66,9 +76,9 @@ noType = 8192
 
 -- the number of an element type, and of a type, whose name the tokens have
 pub data ElementCodes (ts : List Token) : Element → ℕ → Type 0 where
-  code-int : {w : ℕ} → w ≡ 2048 → ElementCodes ts int w
-  code-boolean : {w : ℕ} → w ≡ 2049 → ElementCodes ts boolean w
-  code-fixed : {w : ℕ} → w ≡ 2050 → ElementCodes ts fixed w
+  code-int : {w : ℕ} → w ≡ intNumber → ElementCodes ts int w
+  code-boolean : {w : ℕ} → w ≡ booleanNumber → ElementCodes ts boolean w
+  code-fixed : {w : ℕ} → w ≡ fixedNumber → ElementCodes ts fixed w
   code-class : {c : List ℕ} {w : ℕ} → NameNumber ts c w → ElementCodes ts (class c) w
 
 pub data Codes (ts : List Token) : Ty → ℕ → Type 0 where
@@ -79,8 +89,8 @@ pub data Codes (ts : List Token) : Ty → ℕ → Type 0 where
 
 pub data VariablesHeld (tab : List ℕ) (ts : List Token) : List Variable → Type 0 where
   no-variables : VariablesHeld tab ts []
-  more-variables : {v : Variable} {vs : List Variable} → VariableMatches ts v → col tab 3 (v .name .row) ≡ v .type .row
-      → col tab 6 (v .name .row) ≡ rowVariables vs → VariablesHeld tab ts vs → VariablesHeld tab ts (v ∷ vs)
+  more-variables : {v : Variable} {vs : List Variable} → VariableMatches ts v → col tab cType (v .name .row) ≡ v .type .row
+      → col tab cNext (v .name .row) ≡ rowVariables vs → VariablesHeld tab ts vs → VariablesHeld tab ts (v ∷ vs)
 
 -- a list of variables begins in a row
 pub record ListedAt (tab : List ℕ) (n : ℕ) (ts : List Token) (row : ℕ) (vs : List Variable) : Type 0 where
@@ -91,11 +101,11 @@ pub record ListedAt (tab : List ℕ) (n : ℕ) (ts : List Token) (row : ℕ) (vs
 pub record MethodHeld (tab : List ℕ) (n : ℕ) (ts : List Token) (m : Method) : Type 0 where
   pub head : VariableMatches ts (headOf m)
   pub after : TokenIs ts (m .name .row + 1) kOpen
-  pub result : col tab 3 (m .name .row) ≡ m .result .row
-  pub first : col tab 4 (m .name .row) ≡ rowVariables (m .parameters)
-  pub second : col tab 5 (m .name .row) ≡ rowVariables (m .locals)
-  pub start : col tab 4 (m .name .row + 1) ≡ rowOf (m .body)
-  pub return : col tab 5 (m .name .row + 1) ≡ rowOf (m .value)
+  pub result : col tab cType (m .name .row) ≡ m .result .row
+  pub first : col tab cParameters (m .name .row) ≡ rowVariables (m .parameters)
+  pub second : col tab cLocals (m .name .row) ≡ rowVariables (m .locals)
+  pub start : col tab cBody (m .name .row + 1) ≡ rowOf (m .body)
+  pub return : col tab cValue (m .name .row + 1) ≡ rowOf (m .value)
   pub parameters : VariablesHeld tab ts (m .parameters)
   pub locals : VariablesHeld tab ts (m .locals)
   pub few-parameters : length (m .parameters) ≤ n
@@ -111,16 +121,16 @@ pub record MethodHeld (tab : List ℕ) (n : ℕ) (ts : List Token) (m : Method) 
 
 pub data MethodsHeld (tab : List ℕ) (n : ℕ) (ts : List Token) : List Method → Type 0 where
   no-methods : MethodsHeld tab n ts []
-  more-methods : {m : Method} {ms : List Method} → MethodHeld tab n ts m → col tab 6 (m .name .row) ≡ rowMethods ms
+  more-methods : {m : Method} {ms : List Method} → MethodHeld tab n ts m → col tab cNext (m .name .row) ≡ rowMethods ms
       → MethodsHeld tab n ts ms
       → MethodsHeld tab n ts (m ∷ ms)
 
 pub record ClassHeld (tab : List ℕ) (n : ℕ) (ts : List Token) (k : Class) : Type 0 where
   pub named : NameMatches ts (k .name)
-  pub above : col tab 3 (k .name .row) ≡ rowParent (k .parent)
+  pub above : col tab cParent (k .name .row) ≡ rowParent (k .parent)
   pub parent-matches : ParentMatches ts (k .parent)
-  pub first : col tab 4 (k .name .row) ≡ rowVariables (k .fields)
-  pub second : col tab 5 (k .name .row) ≡ rowMethods (k .methods)
+  pub first : col tab cFields (k .name .row) ≡ rowVariables (k .fields)
+  pub second : col tab cMethods (k .name .row) ≡ rowMethods (k .methods)
   pub fields : VariablesHeld tab ts (k .fields)
   pub few-fields : length (k .fields) ≤ n
   pub methods : MethodsHeld tab n ts (k .methods)
@@ -128,7 +138,7 @@ pub record ClassHeld (tab : List ℕ) (n : ℕ) (ts : List Token) (k : Class) : 
 
 pub data ClassesHeld (tab : List ℕ) (n : ℕ) (ts : List Token) : List Class → Type 0 where
   no-classes : ClassesHeld tab n ts []
-  more-classes : {k : Class} {ks : List Class} → ClassHeld tab n ts k → col tab 6 (k .name .row) ≡ rowClasses ks → ClassesHeld tab n ts ks
+  more-classes : {k : Class} {ks : List Class} → ClassHeld tab n ts k → col tab cNext (k .name .row) ≡ rowClasses ks → ClassesHeld tab n ts ks
       → ClassesHeld tab n ts (k ∷ ks)
 
 -- THE CLASS TABLE
@@ -137,9 +147,9 @@ abbrev pub rowClass : Option Class → ℕ
 rowClass none = absent
 rowClass (some k) = k .name .row
 
--- column 7 of the row that is the number of a name leads to the class of that name
+-- `cClass` of the row that is the number of a name leads to the class of that name
 abbrev pub Indexed : List ℕ → List Token → List Class → Type 0
-Indexed tab ts G = (c : List ℕ) (number : ℕ) → NameNumber ts c number → col tab 7 number ≡ rowClass (classNamed G c)
+Indexed tab ts G = (c : List ℕ) (number : ℕ) → NameNumber ts c number → col tab cClass number ≡ rowClass (classNamed G c)
 
 pub record ClassTableHeld (tab : List ℕ) (n : ℕ) (ts : List Token) (G : List Class) : Type 0 where
   pub tokens : Lexemes tab n ts

@@ -8,7 +8,7 @@ use lib.ListN.{length}
 use lib.Dec.{eqb, ltb}
 use Rattle.base.specs.Choice.{if_then_else_, option}
 use Rattle.base.specs.Word.{modulus}
-use Rattle.base.specs.contracts.Table.{col}
+use Rattle.base.specs.contracts.Table.{col, cNumber, cNext}
 use Rattle.lexer.specs.Tokens.{Token}
 use Rattle.lexer.specs.contracts.Rows.{firstNamed}
 use Rattle.parser.specs.Tree.{Element, Ty, Variable, Method, Class}
@@ -65,8 +65,8 @@ pub record MethodRow (tab : List ℕ) (left row x : ℕ) (r : ℕ) : Type 0 wher
 -- the members of a list have these names, one after the other; more may follow
 pub data Names (tab : List ℕ) (ts : List Token) : ℕ → List (List ℕ) → Type 0 where
   no-names : {row : ℕ} → Names tab ts row []
-  more-names : {row next number : ℕ} {x : List ℕ} {xs : List (List ℕ)} → row < absent → col tab 2 row ≡ number → NameNumber ts x number
-      → col tab 6 row ≡ next
+  more-names : {row next number : ℕ} {x : List ℕ} {xs : List (List ℕ)} → row < absent → col tab cNumber row ≡ number → NameNumber ts x number
+      → col tab cNext row ≡ next
       → Names tab ts next xs → Names tab ts row (x ∷ xs)
 
 pub record Repeated (tab : List ℕ) (count row x : ℕ) (r : Bool) : Type 0 where
@@ -76,7 +76,7 @@ pub record Repeated (tab : List ℕ) (count row x : ℕ) (r : Bool) : Type 0 whe
 -- a list of so many members
 pub data Many (tab : List ℕ) : ℕ → ℕ → Type 0 where
   many-none : {row : ℕ} → absent ≤ row → Many tab row 0
-  many-more : {row next l : ℕ} → row < absent → col tab 6 row ≡ next → Many tab next l → Many tab row (ℕ.suc l)
+  many-more : {row next l : ℕ} → row < absent → col tab cNext row ≡ next → Many tab next l → Many tab row (ℕ.suc l)
 
 pub record Counts (tab : List ℕ) (left row : ℕ) (r : ℕ) : Type 0 where
   pub most : r ≤ left

@@ -6,6 +6,7 @@ use mathlib.Core.List.{List}
 use mathlib.Core.Bool.{Bool, true, false}
 use lib.Dec.{eqb}
 use Rattle.base.specs.Choice.{if_then_else_}
+use Rattle.base.specs.contracts.Table.{cStart, cNumber, cBegin, cFirst, cSecond, cNext, cThird}
 use Rattle.lexer.specs.Kinds.{kLiteral, kFixedLiteral, kTrue, kFalse, kThis, kNew, kDot, kLength, kNot, kPort}
 use Rattle.lexer.specs.Kinds.{kOpenBracket, kOpenBrace, kIf, kWhile, kSystem}
 use Rattle.lexer.specs.Tokens.{Token}
@@ -80,65 +81,65 @@ formS k next =
 -- the parts before a node's own token are within one bound, those behind it within another
 module _ (tab : List ℕ) (ts : List Token) (n row : ℕ) (Before Behind : Bound) where
   pub data Shows : Form → Expression → Type 0 where
-    shows-literal : {p : Place} {v : ℕ} → wordAt tab 3 row ≡ p .start → wordAt tab 2 row ≡ v → Shows aLiteral (literal p (intLiteral v))
-    shows-fixed-literal : {p : Place} {v : ℕ} → wordAt tab 3 row ≡ p .start → wordAt tab 2 row ≡ v
+    shows-literal : {p : Place} {v : ℕ} → wordAt tab cBegin row ≡ p .start → wordAt tab cNumber row ≡ v → Shows aLiteral (literal p (intLiteral v))
+    shows-fixed-literal : {p : Place} {v : ℕ} → wordAt tab cBegin row ≡ p .start → wordAt tab cNumber row ≡ v
         → Shows aFixedLiteral (literal p (fixedLiteral v))
-    shows-truth : {p : Place} {b : Bool} → wordAt tab 3 row ≡ p .start → Shows (aTruth b) (truth p b)
-    shows-variable : {p : Place} {x : List ℕ} → wordAt tab 3 row ≡ p .start → NameNumber ts x (wordAt tab 2 row)
+    shows-truth : {p : Place} {b : Bool} → wordAt tab cBegin row ≡ p .start → Shows (aTruth b) (truth p b)
+    shows-variable : {p : Place} {x : List ℕ} → wordAt tab cBegin row ≡ p .start → NameNumber ts x (wordAt tab cNumber row)
         → Shows aVariable (variable p x)
-    shows-this : {p : Place} → wordAt tab 3 row ≡ p .start → Shows aThis (this p)
-    shows-new-array : {p : Place} {u : ElementUse} {e : Expression} → wordAt tab 3 row ≡ p .start
-        → TypeMatches ts (row + 1) (arrayOf (u .element)) → wordAt tab 1 (row + 1) ≡ u .start
-        → PartAt tab ts (wordAt tab 4 row) (Behind expression) e → Shows aNewArray (newArray p u e)
-    shows-new-object : {p : Place} {c : Name} → wordAt tab 3 row ≡ p .start → NameNumber ts (c .text) (wordAt tab 2 (row + 1))
-        → wordAt tab 1 (row + 1) ≡ c .start → Shows aNewObject (newObject p c)
-    shows-negation : {p : Place} {e : Expression} → wordAt tab 3 row ≡ p .start → PartAt tab ts (wordAt tab 4 row) (Behind expression) e
+    shows-this : {p : Place} → wordAt tab cBegin row ≡ p .start → Shows aThis (this p)
+    shows-new-array : {p : Place} {u : ElementUse} {e : Expression} → wordAt tab cBegin row ≡ p .start
+        → TypeMatches ts (row + 1) (arrayOf (u .element)) → wordAt tab cStart (row + 1) ≡ u .start
+        → PartAt tab ts (wordAt tab cFirst row) (Behind expression) e → Shows aNewArray (newArray p u e)
+    shows-new-object : {p : Place} {c : Name} → wordAt tab cBegin row ≡ p .start → NameNumber ts (c .text) (wordAt tab cNumber (row + 1))
+        → wordAt tab cStart (row + 1) ≡ c .start → Shows aNewObject (newObject p c)
+    shows-negation : {p : Place} {e : Expression} → wordAt tab cBegin row ≡ p .start → PartAt tab ts (wordAt tab cFirst row) (Behind expression) e
         → Shows aNegation (negation p e)
-    shows-binary : {p : Place} {o : Operator} {l r : Expression} → wordAt tab 3 row ≡ p .start → kindInTable tab n row ≡ operatorKind o
-        → PartAt tab ts (wordAt tab 4 row) (Before expression) l → PartAt tab ts (wordAt tab 5 row) (Behind expression) r
+    shows-binary : {p : Place} {o : Operator} {l r : Expression} → wordAt tab cBegin row ≡ p .start → kindInTable tab n row ≡ operatorKind o
+        → PartAt tab ts (wordAt tab cFirst row) (Before expression) l → PartAt tab ts (wordAt tab cSecond row) (Behind expression) r
         → Shows aBinary (binary p o l r)
-    shows-element : {p : Place} {a i : Expression} → wordAt tab 3 row ≡ p .start → PartAt tab ts (wordAt tab 4 row) (Before expression) a
-        → PartAt tab ts (wordAt tab 5 row) (Behind expression) i → Shows anElement (element p a i)
-    shows-length : {p : Place} {e : Expression} → wordAt tab 3 row ≡ p .start → PartAt tab ts (wordAt tab 4 row) (Before expression) e
+    shows-element : {p : Place} {a i : Expression} → wordAt tab cBegin row ≡ p .start → PartAt tab ts (wordAt tab cFirst row) (Before expression) a
+        → PartAt tab ts (wordAt tab cSecond row) (Behind expression) i → Shows anElement (element p a i)
+    shows-length : {p : Place} {e : Expression} → wordAt tab cBegin row ≡ p .start → PartAt tab ts (wordAt tab cFirst row) (Before expression) e
         → Shows aLength (arrayLength p e)
-    shows-call : {p : Place} {e : Expression} {m : Name} {es : Part arguments} → wordAt tab 3 row ≡ p .start
-        → NameNumber ts (m .text) (wordAt tab 2 (row + 1)) → wordAt tab 1 (row + 1) ≡ m .start
-        → PartAt tab ts (wordAt tab 4 row) (Before expression) e
-        → PartAt tab ts (wordAt tab 5 row) (Behind arguments) es → Shows aCall (call p e m es)
-    shows-port-get : {p : Place} {e : Expression} → wordAt tab 3 row ≡ p .start → PartAt tab ts (wordAt tab 4 row) (Behind expression) e
+    shows-call : {p : Place} {e : Expression} {m : Name} {es : Part arguments} → wordAt tab cBegin row ≡ p .start
+        → NameNumber ts (m .text) (wordAt tab cNumber (row + 1)) → wordAt tab cStart (row + 1) ≡ m .start
+        → PartAt tab ts (wordAt tab cFirst row) (Before expression) e
+        → PartAt tab ts (wordAt tab cSecond row) (Behind arguments) es → Shows aCall (call p e m es)
+    shows-port-get : {p : Place} {e : Expression} → wordAt tab cBegin row ≡ p .start → PartAt tab ts (wordAt tab cFirst row) (Behind expression) e
         → Shows aPortGet (portGet p e)
 
 -- all parts of a statement stand behind its first token
 module _ (tab : List ℕ) (ts : List Token) (row : ℕ) (Behind : Bound) where
   pub data ShowsS : Form → Statement → Type 0 where
-    shows-block : {p : Place} {ss : Part statements} → wordAt tab 3 row ≡ p .start → PartAt tab ts (wordAt tab 4 row) (Behind statements) ss
+    shows-block : {p : Place} {ss : Part statements} → wordAt tab cBegin row ≡ p .start → PartAt tab ts (wordAt tab cFirst row) (Behind statements) ss
         → ShowsS aBlock (block p ss)
-    shows-conditional : {p : Place} {e : Expression} {s t : Statement} → wordAt tab 3 row ≡ p .start
-        → PartAt tab ts (wordAt tab 4 row) (Behind expression) e → PartAt tab ts (wordAt tab 5 row) (Behind statement) s
-        → PartAt tab ts (wordAt tab 7 row) (Behind statement) t
+    shows-conditional : {p : Place} {e : Expression} {s t : Statement} → wordAt tab cBegin row ≡ p .start
+        → PartAt tab ts (wordAt tab cFirst row) (Behind expression) e → PartAt tab ts (wordAt tab cSecond row) (Behind statement) s
+        → PartAt tab ts (wordAt tab cThird row) (Behind statement) t
         → ShowsS aConditional (conditional p e s t)
-    shows-loop : {p : Place} {e : Expression} {s : Statement} → wordAt tab 3 row ≡ p .start
-        → PartAt tab ts (wordAt tab 4 row) (Behind expression) e
-        → PartAt tab ts (wordAt tab 5 row) (Behind statement) s → ShowsS aLoop (loop p e s)
-    shows-print : {p : Place} {e : Expression} → wordAt tab 3 row ≡ p .start → PartAt tab ts (wordAt tab 4 row) (Behind expression) e
+    shows-loop : {p : Place} {e : Expression} {s : Statement} → wordAt tab cBegin row ≡ p .start
+        → PartAt tab ts (wordAt tab cFirst row) (Behind expression) e
+        → PartAt tab ts (wordAt tab cSecond row) (Behind statement) s → ShowsS aLoop (loop p e s)
+    shows-print : {p : Place} {e : Expression} → wordAt tab cBegin row ≡ p .start → PartAt tab ts (wordAt tab cFirst row) (Behind expression) e
         → ShowsS aPrint (print p e)
-    shows-assignment : {p : Place} {x : List ℕ} {e : Expression} → wordAt tab 3 row ≡ p .start → NameNumber ts x (wordAt tab 2 row)
-        → PartAt tab ts (wordAt tab 4 row) (Behind expression) e → ShowsS anAssignment (assign p x e)
-    shows-element-store : {p : Place} {x : List ℕ} {i e : Expression} → wordAt tab 3 row ≡ p .start → NameNumber ts x (wordAt tab 2 row)
-        → PartAt tab ts (wordAt tab 4 row) (Behind expression) i → PartAt tab ts (wordAt tab 5 row) (Behind expression) e
+    shows-assignment : {p : Place} {x : List ℕ} {e : Expression} → wordAt tab cBegin row ≡ p .start → NameNumber ts x (wordAt tab cNumber row)
+        → PartAt tab ts (wordAt tab cFirst row) (Behind expression) e → ShowsS anAssignment (assign p x e)
+    shows-element-store : {p : Place} {x : List ℕ} {i e : Expression} → wordAt tab cBegin row ≡ p .start → NameNumber ts x (wordAt tab cNumber row)
+        → PartAt tab ts (wordAt tab cFirst row) (Behind expression) i → PartAt tab ts (wordAt tab cSecond row) (Behind expression) e
         → ShowsS anElementStore (assignElement p x i e)
-    shows-port-put : {p : Place} {n e : Expression} → wordAt tab 3 row ≡ p .start
-        → PartAt tab ts (wordAt tab 4 row) (Behind expression) n → PartAt tab ts (wordAt tab 5 row) (Behind expression) e
+    shows-port-put : {p : Place} {n e : Expression} → wordAt tab cBegin row ≡ p .start
+        → PartAt tab ts (wordAt tab cFirst row) (Behind expression) n → PartAt tab ts (wordAt tab cSecond row) (Behind expression) e
         → ShowsS aPortPut (portPut p n e)
 
 -- LISTS
 
--- a list goes on: its first member lies in the row itself, the rest in the row to which column 6 leads
+-- a list goes on: its first member lies in the row itself, the rest in the row to which `cNext` leads
 module _ (tab : List ℕ) (ts : List Token) (row : ℕ) where
   pub data GoesOn (First : Expression → Type 0) (Rest : Part arguments → Type 0) : Part arguments → Type 0 where
-    one-more-argument : {e : Expression} {es : Part arguments} → PartAt tab ts row First e → PartAt tab ts (wordAt tab 6 row) Rest es
+    one-more-argument : {e : Expression} {es : Part arguments} → PartAt tab ts row First e → PartAt tab ts (wordAt tab cNext row) Rest es
         → GoesOn First Rest (argument e es)
 
   pub data GoesOnS (First : Statement → Type 0) (Rest : Part statements → Type 0) : Part statements → Type 0 where
-    one-more-statement : {t : Statement} {ss : Part statements} → PartAt tab ts row First t → PartAt tab ts (wordAt tab 6 row) Rest ss
+    one-more-statement : {t : Statement} {ss : Part statements} → PartAt tab ts row First t → PartAt tab ts (wordAt tab cNext row) Rest ss
         → GoesOnS First Rest (sequence t ss)

@@ -11,7 +11,8 @@ use borrow.Author.Tests.{lt-ltb, le-ltb}
 use Rattle.base.specs.Bytes.{same}
 use Rattle.base.specs.All.{All, all-nil, all-cons}
 use Rattle.base.specs.laws.Lists.{get-getD}
-use Rattle.base.specs.contracts.Table.{col}
+use Rattle.base.specs.contracts.Table.{col, cStart, cNumber, cClass}
+use Rattle.base.specs.Codes.{tokensMost}
 use Rattle.lexer.specs.Kinds.{isName}
 use Rattle.lexer.specs.Tokens.{Token}
 use Rattle.lexer.specs.contracts.Rows.{firstNamed}
@@ -26,7 +27,7 @@ use Rattle.base.specs.laws.Tests.{same-of, apart-same}
 use Rattle.typing.specs.laws.Tests.{sameType-of, apart-sameType}
 use Rattle.typing.specs.laws.Chains.{class-name, all-classes}
 use Rattle.parser.specs.contracts.Layout.{absent}
-use Rattle.lookup.specs.contracts.HeldClasses.{wordAt, Lexemes, NameNumber, MaybeNumber, no-name, a-name, elementCode, code, arrayMark, noType, ElementCodes, code-int, code-boolean, code-fixed, code-class, Codes, code-plain, code-array, MethodHeld, MethodsHeld, no-methods, more-methods, ClassHeld, ClassesHeld, no-classes, more-classes, rowClass, ClassTableHeld, classOf}
+use Rattle.lookup.specs.contracts.HeldClasses.{wordAt, Lexemes, NameNumber, MaybeNumber, no-name, a-name, elementCode, code, arrayMark, noType, ElementCodes, code-int, code-boolean, code-fixed, code-class, Codes, code-plain, code-array, MethodHeld, MethodsHeld, no-methods, more-methods, ClassHeld, ClassesHeld, no-classes, more-classes, rowClass, ClassTableHeld, classOf, fixedNumber}
 
 -- a list that stands in a row, and not past the last, has a member
 pub none-left : {A : Type 0} (first : List A → ℕ) → first [] ≡ absent → (xs : List A) {row left : ℕ} → first xs ≡ row → length xs ≤ left
@@ -52,20 +53,20 @@ module _ {tab : List ℕ} {n : ℕ} {ts : List Token} (lx : Lexemes tab n ts) wh
   pub kinds : (i : ℕ) → kindInTable tab n i ≡ kindAt ts i
   kinds i = subst (λ (m : ℕ). kindInTable tab m i ≡ kindAt ts i) (lx .count) (tokens-in tab ts (lx .rows) .kinds i)
 
-  pub start-word : (i : ℕ) → i < length ts → wordAt tab 1 i ≡ startAt ts i
-  start-word i h = word-in tab 1 i (omega (arith, lx .count, lx .few)) (tokens-in tab ts (lx .rows) .starts i h)
+  pub start-word : (i : ℕ) → i < length ts → wordAt tab cStart i ≡ startAt ts i
+  start-word i h = word-in tab cStart i (omega (arith, lx .count, lx .few)) (tokens-in tab ts (lx .rows) .starts i h)
 
-  -- the number of a name stands in column 2
-  pub spelt : (i : ℕ) {x : List ℕ} → NameIs ts i x → NameNumber ts x (col tab 2 i)
+  -- the number of a name stands in `cNumber`
+  pub spelt : (i : ℕ) {x : List ℕ} → NameIs ts i x → NameNumber ts x (col tab cNumber i)
   spelt i {x} m =
       let g = get-getD ts i noMore (m .there) in
-      let number : col tab 2 i ≡ firstNamed ts x = lx .rows i (tokenAt ts i) g .name (m .named) ∙ ap (firstNamed ts) (m .spelt) in
+      let number : col tab cNumber i ≡ firstNamed ts x = lx .rows i (tokenAt ts i) g .name (m .named) ∙ ap (firstNamed ts) (m .spelt) in
       let least = first-least ts i x (record { item = tokenAt ts i; at = g; named = m .named; text = m .spelt }) in
       record { first = sym number; there = omega (arith, number, least, m .there) }
 
-  pub name-word : (i : ℕ) {x : List ℕ} → NameIs ts i x → NameNumber ts x (wordAt tab 2 i)
+  pub name-word : (i : ℕ) {x : List ℕ} → NameIs ts i x → NameNumber ts x (wordAt tab cNumber i)
   name-word i {x} m =
-      subst (NameNumber ts x) (sym (word-in tab 2 i (omega (arith, lx .count, lx .few, m .there)) refl)) (spelt i m)
+      subst (NameNumber ts x) (sym (word-in tab cNumber i (omega (arith, lx .count, lx .few, m .there)) refl)) (spelt i m)
 
   -- a row of a token is a row
   pub row-there : (i : ℕ) → i < length ts → i < absent
@@ -100,7 +101,7 @@ methods-stand (more-methods s e h) = all-cons s (methods-stand h)
 
 -- the number of a class's name
 pub spelt-class : {tab : List ℕ} {n : ℕ} {ts : List Token} → Lexemes tab n ts → (k : Class) → ClassHeld tab n ts k
-    → NameNumber ts (k .name .text) (col tab 2 (k .name .row))
+    → NameNumber ts (k .name .text) (col tab cNumber (k .name .row))
 spelt-class lx k s = spelt lx (k .name .row) (s .named .token)
 
 -- what the index leads to from a name, or from none
@@ -118,11 +119,11 @@ module _ {tab : List ℕ} {n : ℕ} {ts : List Token} {G : List Class} (w : Clas
       let there = row-there (w .tokens) (k .name .row) (h .named .token .there) in
       a-class k e (sym r) (omega (arith, r, there)) h (subst (λ (x : List ℕ). NameNumber ts x number) (sym (class-name G c e)) s)
 
-  pub class-at : (name : Option (List ℕ)) (c row : ℕ) → MaybeNumber ts name c → row ≡ wordAt tab 7 c → ClassAt tab n ts G name c row
-  class-at none c row (no-name h) e = no-class refl (omega (arith, e, word-out tab 7 c h))
+  pub class-at : (name : Option (List ℕ)) (c row : ℕ) → MaybeNumber ts name c → row ≡ wordAt tab cClass c → ClassAt tab n ts G name c row
+  class-at none c row (no-name h) e = no-class refl (omega (arith, e, word-out tab cClass c h))
   class-at (some x) c row (a-name s) e =
       found x c row (classNamed G x) s refl
-      (e ∙ word-in tab 7 c (row-there (w .tokens) c (s .there)) (w .index x c s))
+      (e ∙ word-in tab cClass c (row-there (w .tokens) c (s .there)) (w .index x c s))
 
 -- TYPES
 
@@ -134,8 +135,8 @@ element-there ts i boolean m = m .there
 element-there ts i fixed m = m .there
 element-there ts i (class c) m = m .there
 
--- the number of an element type is below the mark for array
-pub element-below : {ts : List Token} {t : Element} {w : ℕ} → length ts ≤ 2048 → ElementCodes ts t w → w < 2051
+-- the number of an element type is at most that of fixed, which is below the mark for array
+pub element-below : {ts : List Token} {t : Element} {w : ℕ} → length ts ≤ tokensMost → ElementCodes ts t w → w ≤ fixedNumber
 element-below few (code-int e) = omega arith
 element-below few (code-boolean e) = omega arith
 element-below few (code-fixed e) = omega arith
@@ -143,7 +144,7 @@ element-below few (code-class s) = omega (arith, s .there)
 
 -- two types have one number just where they are one
 module _ {tab : List ℕ} {n : ℕ} {ts : List Token} (lx : Lexemes tab n ts) where
-  few-tokens : length ts ≤ 2048
+  few-tokens : length ts ≤ tokensMost
   few-tokens = omega (arith, lx .count, lx .few)
 
   equal-elements : {s t : Element} {v w : ℕ} → ElementCodes ts s v → ElementCodes ts t w → v ≡ w → s ≡ t
@@ -191,6 +192,6 @@ module _ {tab : List ℕ} {n : ℕ} {ts : List Token} (lx : Lexemes tab n ts) wh
   other-codes {s} {t} c d n = apart-sameType s t λ e. n (one-code c d e)
 
 -- the number of a type is below that of none
-pub codes-below : {ts : List Token} {t : Ty} {w : ℕ} → length ts ≤ 2048 → Codes ts t w → w < noType
+pub codes-below : {ts : List Token} {t : Ty} {w : ℕ} → length ts ≤ tokensMost → Codes ts t w → w < noType
 codes-below few (code-plain c) = omega (arith, element-below few c)
 codes-below few (code-array c e) = omega (arith, element-below few c)

@@ -9,8 +9,9 @@ use lib.ListN.{length}
 use lib.Dec.{eqb}
 use borrow.Author.Tests.{ne-eqb}
 use Rattle.base.specs.laws.Lists.{get-getD}
-use Rattle.base.specs.contracts.Table.{col}
-use Rattle.lexer.specs.Kinds.{isName, kLiteral, kFixedLiteral, kTrue, kFalse, kThis, kLength, kOpenBrace, kIf, kWhile, kSystem, kPort}
+use Rattle.base.specs.contracts.Table.{col, cStart, cNumber, cBegin, cFirst, cSecond, cNext, cThird}
+use Rattle.base.specs.Codes.{tokensMost}
+use Rattle.lexer.specs.Kinds.{isName, kName, kLiteral, kFixedLiteral, kTrue, kFalse, kThis, kLength, kOpenBrace, kIf, kWhile, kSystem, kPort, kNew, kNot, kDot, kOpen, kOpenBracket}
 use Rattle.lexer.specs.Tokens.{Token, decimal, thousandthsOf}
 use Rattle.parser.specs.Tree.{Numeral, Numeral.intLiteral, Numeral.fixedLiteral, ElementUse, Ty.arrayOf}
 use Rattle.parser.specs.Tree.{Place, Name, Operator, Operator.and, Operator.less, Operator.plus, Operator.minus, Operator.times}
@@ -83,14 +84,14 @@ module _ {tab : List ℕ} {n : ℕ} {ts : List Token} (lx : Lexemes tab n ts) {r
       → PartAt tab ts (wordAt tab k row) Within t
   part k e h m w = record { at = sym (word k e); holds = h; matches = m; within = w }
 
-  spelt : {x : List ℕ} → NameIs ts r x → NameNumber ts x (wordAt tab 2 row)
-  spelt {x} m = subst (λ (j : ℕ). NameNumber ts x (wordAt tab 2 j)) at (name-word lx r m)
+  spelt : {x : List ℕ} → NameIs ts r x → NameNumber ts x (wordAt tab cNumber row)
+  spelt {x} m = subst (λ (j : ℕ). NameNumber ts x (wordAt tab cNumber j)) at (name-word lx r m)
 
-  value-of : {v : ℕ} → TokenIs ts r kLiteral → decimal 0 (tokenAt ts r .text) ≡ v → wordAt tab 2 row ≡ v
-  value-of t e = word 2 (lx .rows r (tokenAt ts r) (get-getD ts r noMore low) .literal (t .is) ∙ e)
+  value-of : {v : ℕ} → TokenIs ts r kLiteral → decimal 0 (tokenAt ts r .text) ≡ v → wordAt tab cNumber row ≡ v
+  value-of t e = word cNumber (lx .rows r (tokenAt ts r) (get-getD ts r noMore low) .literal (t .is) ∙ e)
 
-  thousandths-of : {v : ℕ} → TokenIs ts r kFixedLiteral → thousandthsOf (tokenAt ts r .text) ≡ v → wordAt tab 2 row ≡ v
-  thousandths-of t e = word 2 (lx .rows r (tokenAt ts r) (get-getD ts r noMore low) .fixed (t .is) ∙ e)
+  thousandths-of : {v : ℕ} → TokenIs ts r kFixedLiteral → thousandthsOf (tokenAt ts r .text) ≡ v → wordAt tab cNumber row ≡ v
+  thousandths-of t e = word cNumber (lx .rows r (tokenAt ts r) (get-getD ts r noMore low) .fixed (t .is) ∙ e)
 
 -- a name after this token: its number, its position, and that it is no reserved word
 module _ {tab : List ℕ} {n : ℕ} {ts : List Token} (lx : Lexemes tab n ts) {row r : ℕ} (at : r ≡ row) (x : Name) (e : x .row ≡ r + 1)
@@ -98,11 +99,11 @@ module _ {tab : List ℕ} {n : ℕ} {ts : List Token} (lx : Lexemes tab n ts) {r
   after-row : x .row ≡ row + 1
   after-row = e ∙ ap (λ (j : ℕ). j + 1) at
 
-  after : NameNumber ts (x .text) (wordAt tab 2 (row + 1))
+  after : NameNumber ts (x .text) (wordAt tab cNumber (row + 1))
   after = spelt lx after-row (m .token .there) (m .token)
 
-  after-start : wordAt tab 1 (row + 1) ≡ x .start
-  after-start = ap (wordAt tab 1) (sym after-row) ∙ start-word lx (x .row) (m .token .there) ∙ m .start
+  after-start : wordAt tab cStart (row + 1) ≡ x .start
+  after-start = ap (wordAt tab cStart) (sym after-row) ∙ start-word lx (x .row) (m .token .there) ∙ m .start
 
   after-kind : isName (kindInTable tab n (row + 1)) ≡ true
   after-kind = ap isName (kinds lx (row + 1) ∙ ap (kindAt ts) (sym after-row)) ∙ m .token .named
@@ -119,7 +120,7 @@ form-name k next third e =
     let other : (q : ℕ) → isName q ≡ false → eqb k q ≡ false = λ q n. no-name k q e n in
     rw (other kLiteral refl, other kFixedLiteral refl, other kTrue refl, other kFalse refl, other kThis refl, e)
 
-form-dot : (k next third : ℕ) → k ≡ 31 → isName next ≡ true → formE k next third ≡ aCall
+form-dot : (k next third : ℕ) → k ≡ kDot → isName next ≡ true → formE k next third ≡ aCall
 unfolding formE formCompound isAtom isName
 form-dot k next third e o = ap (λ (j : ℕ). formE j next third) e ∙ rw (no-name next kLength o refl)
 
@@ -131,7 +132,7 @@ form-binary plus next third = refl
 form-binary minus next third = refl
 form-binary times next third = refl
 
-form-target : (k next : ℕ) {F : Form} → isName k ≡ true → formS 1 next ≡ F → formS k next ≡ F
+form-target : (k next : ℕ) {F : Form} → isName k ≡ true → formS kName next ≡ F → formS k next ≡ F
 unfolding formS isName
 form-target k next e f =
     rw (no-name k kOpenBrace e refl, no-name k kIf e refl, no-name k kWhile e refl, no-name k kSystem e refl, no-name k kPort e refl) f
@@ -196,66 +197,66 @@ module _ {tab : List ℕ} {n : ℕ} {ts : List Token} (lx : Lexemes tab n ts) (r
   unfolding Holds Matches TypeMatches NumeralMatches formE formAtom formCompound isAtom isName
   see (literal p (intLiteral v)) at h m w =
       let low = m .0 .there in
-      shows (by tab n row 4 (kind-of lx at low (m .0 .is)) (λ _ _. refl))
-      (shows-literal (word lx at low 3 (h .start)) (value-of lx at low (m .0) (m .1)))
+      shows (by tab n row kLiteral (kind-of lx at low (m .0 .is)) (λ _ _. refl))
+      (shows-literal (word lx at low cBegin (h .start)) (value-of lx at low (m .0) (m .1)))
   see (literal p (fixedLiteral v)) at h m w =
       let low = m .0 .there in
       shows (by tab n row kFixedLiteral (kind-of lx at low (m .0 .is)) (λ _ _. refl))
-      (shows-fixed-literal (word lx at low 3 (h .start)) (thousandths-of lx at low (m .0) (m .1)))
+      (shows-fixed-literal (word lx at low cBegin (h .start)) (thousandths-of lx at low (m .0) (m .1)))
   see (truth p true) at h m w =
-      shows (by tab n row 21 (kind-of lx at (m .there) (m .is)) (λ _ _. refl)) (shows-truth (word lx at (m .there) 3 (h .start)))
+      shows (by tab n row kTrue (kind-of lx at (m .there) (m .is)) (λ _ _. refl)) (shows-truth (word lx at (m .there) cBegin (h .start)))
   see (truth p false) at h m w =
-      shows (by tab n row 9 (kind-of lx at (m .there) (m .is)) (λ _ _. refl)) (shows-truth (word lx at (m .there) 3 (h .start)))
+      shows (by tab n row kFalse (kind-of lx at (m .there) (m .is)) (λ _ _. refl)) (shows-truth (word lx at (m .there) cBegin (h .start)))
   see (variable p x) at h m w =
       let low = m .there in
       shows (form-name (kindInTable tab n row) (kindInTable tab n (row + 1)) (kindInTable tab n (row + 2)) (ap isName (kind-of lx at low refl) ∙ m .named))
-      (shows-variable (word lx at low 3 (h .start)) (spelt lx at low m))
+      (shows-variable (word lx at low cBegin (h .start)) (spelt lx at low m))
   see (this p) at h m w =
-      shows (by tab n row 20 (kind-of lx at (m .there) (m .is)) (λ _ _. refl)) (shows-this (word lx at (m .there) 3 (h .start)))
+      shows (by tab n row kThis (kind-of lx at (m .there) (m .is)) (λ _ _. refl)) (shows-this (word lx at (m .there) cBegin (h .start)))
   see (newArray p u e) at h m w =
       let low = m .0 .there in
       let behind : u .row ≡ row + 1 = m .1 ∙ ap (λ (j : ℕ). j + 1) at in
       let third : p .row + 2 ≡ u .row + 1 = omega (arith, m .1) in
-      shows (by-third tab n row 14 36 (kind-of lx at low (m .0 .is)) (kind-third lx at low (ap (kindAt ts) third ∙ m .2 .1 .is)) (λ _. refl))
-      (shows-new-array (word lx at low 3 (h .0 .start)) (subst (λ (j : ℕ). TypeMatches ts j (arrayOf (u .element))) behind (m .2))
-      (ap (wordAt tab 1) (sym behind) ∙ start-word lx (u .row) (element-there ts (u .row) (u .element) (m .2 .0)) ∙ m .3)
-      (part lx at low 4 (h .0 .first) (h .1) (m .4) (b .of-new-array at w)))
+      shows (by-third tab n row kNew kOpenBracket (kind-of lx at low (m .0 .is)) (kind-third lx at low (ap (kindAt ts) third ∙ m .2 .1 .is)) (λ _. refl))
+      (shows-new-array (word lx at low cBegin (h .0 .start)) (subst (λ (j : ℕ). TypeMatches ts j (arrayOf (u .element))) behind (m .2))
+      (ap (wordAt tab cStart) (sym behind) ∙ start-word lx (u .row) (element-there ts (u .row) (u .element) (m .2 .0)) ∙ m .3)
+      (part lx at low cFirst (h .0 .first) (h .1) (m .4) (b .of-new-array at w)))
   see (newObject p c) at h m w =
       let low = m .0 .there in
-      shows (by-third tab n row 14 34 (kind-of lx at low (m .0 .is)) (kind-third lx at low (m .3 .is)) (λ _. refl))
-      (shows-new-object (word lx at low 3 (h .start)) (after lx at c (m .1) (m .2)) (after-start lx at c (m .1) (m .2)))
+      shows (by-third tab n row kNew kOpen (kind-of lx at low (m .0 .is)) (kind-third lx at low (m .3 .is)) (λ _. refl))
+      (shows-new-object (word lx at low cBegin (h .start)) (after lx at c (m .1) (m .2)) (after-start lx at c (m .1) (m .2)))
   see (negation p e) at h m w =
       let low = m .0 .there in
-      shows (by tab n row 29 (kind-of lx at low (m .0 .is)) (λ _ _. refl))
-      (shows-negation (word lx at low 3 (h .0 .start)) (part lx at low 4 (h .0 .first) (h .1) (m .1) (b .of-negation at w)))
+      shows (by tab n row kNot (kind-of lx at low (m .0 .is)) (λ _ _. refl))
+      (shows-negation (word lx at low cBegin (h .0 .start)) (part lx at low cFirst (h .0 .first) (h .1) (m .1) (b .of-negation at w)))
   see (binary p o l r) at h m w =
       let low = m .0 .there in
       let k = kind-of lx at low (m .0 .is) in
       let v = b .of-binary at w in
       shows (by tab n row (operatorKind o) k (form-binary o))
-      (shows-binary (word lx at low 3 (h .0 .start)) k (part lx at low 4 (h .0 .first) (h .1) (m .1) (v .0))
-      (part lx at low 5 (h .0 .second) (h .2) (m .2) (v .1)))
+      (shows-binary (word lx at low cBegin (h .0 .start)) k (part lx at low cFirst (h .0 .first) (h .1) (m .1) (v .0))
+      (part lx at low cSecond (h .0 .second) (h .2) (m .2) (v .1)))
   see (element p a i) at h m w =
       let low = m .0 .there in
       let v = b .of-element at w in
-      shows (by tab n row 36 (kind-of lx at low (m .0 .is)) (λ _ _. refl))
-      (shows-element (word lx at low 3 (h .0 .start)) (part lx at low 4 (h .0 .first) (h .1) (m .1) (v .0))
-      (part lx at low 5 (h .0 .second) (h .2) (m .2) (v .1)))
+      shows (by tab n row kOpenBracket (kind-of lx at low (m .0 .is)) (λ _ _. refl))
+      (shows-element (word lx at low cBegin (h .0 .start)) (part lx at low cFirst (h .0 .first) (h .1) (m .1) (v .0))
+      (part lx at low cSecond (h .0 .second) (h .2) (m .2) (v .1)))
   see (arrayLength p e) at h m w =
       let low = m .0 .there in
-      shows (by-next tab n row 31 12 (kind-of lx at low (m .0 .is)) (kind-after lx at low (m .1 .is)) (λ _. refl))
-      (shows-length (word lx at low 3 (h .0 .start)) (part lx at low 4 (h .0 .first) (h .1) (m .2) (b .of-length at w)))
+      shows (by-next tab n row kDot kLength (kind-of lx at low (m .0 .is)) (kind-after lx at low (m .1 .is)) (λ _. refl))
+      (shows-length (word lx at low cBegin (h .0 .start)) (part lx at low cFirst (h .0 .first) (h .1) (m .2) (b .of-length at w)))
   see (call p e f es) at h m w =
       let low = m .0 .there in
       let v = b .of-call at w in
       shows (form-dot (kindInTable tab n row) (kindInTable tab n (row + 1)) (kindInTable tab n (row + 2)) (kind-of lx at low (m .0 .is))
       (after-kind lx at f (m .1) (m .2)))
-      (shows-call (word lx at low 3 (h .0 .start)) (after lx at f (m .1) (m .2)) (after-start lx at f (m .1) (m .2))
-      (part lx at low 4 (h .0 .first) (h .1) (m .3) (v .0)) (part lx at low 5 (h .0 .second) (h .2) (m .4) (v .1)))
+      (shows-call (word lx at low cBegin (h .0 .start)) (after lx at f (m .1) (m .2)) (after-start lx at f (m .1) (m .2))
+      (part lx at low cFirst (h .0 .first) (h .1) (m .3) (v .0)) (part lx at low cSecond (h .0 .second) (h .2) (m .4) (v .1)))
   see (portGet p e) at h m w =
       let low = m .0 .there in
       shows (by tab n row kPort (kind-of lx at low (m .0 .is)) (λ _ _. refl))
-      (shows-port-get (word lx at low 3 (h .0 .start)) (part lx at low 4 (h .0 .first) (h .1) (m .1) (b .of-port-get at w)))
+      (shows-port-get (word lx at low cBegin (h .0 .start)) (part lx at low cFirst (h .0 .first) (h .1) (m .1) (b .of-port-get at w)))
 
   -- the code has read the kinds, which tell the form F
   pub shown : {F : Form} → formAt tab n row ≡ F → (e : Expression)
@@ -268,53 +269,56 @@ module _ {tab : List ℕ} {n : ℕ} {ts : List Token} (lx : Lexemes tab n ts) (r
   showsS : {F H : Form} {t : Statement} → H ≡ F → ShowsS tab ts row Behind F t → ShowsS tab ts row Behind H t
   showsS {F} {H} {t} f s = subst (λ (J : Form). ShowsS tab ts row Behind J t) (sym f) s
 
+  -- the node of a statement that the kind of its first token tells
+  told : {F : Form} {r k : ℕ} → r ≡ row → TokenIs ts r k → ((next : ℕ) → formS k next ≡ F)
+      → formS (kindInTable tab n row) (kindInTable tab n (row + 1)) ≡ F
+  told {k = k} at t f = byS tab n row k (kind-of lx at (t .there) (t .is)) f
+
   -- the node of a statement whose first token is a name, by the kind of the token after it
-  target : {F : Form} {r k : ℕ} {x : List ℕ} → r ≡ row → NameIs ts r x → TokenIs ts (r + 1) k → formS 1 k ≡ F
+  target : {F : Form} {r k : ℕ} {x : List ℕ} → r ≡ row → NameIs ts r x → TokenIs ts (r + 1) k → formS kName k ≡ F
       → formS (kindInTable tab n row) (kindInTable tab n (row + 1)) ≡ F
   target at m o f =
       form-target (kindInTable tab n row) (kindInTable tab n (row + 1)) (ap isName (kind-of lx at (m .there) refl) ∙ m .named)
-      (ap (formS 1) (kind-after lx at (m .there) (o .is)) ∙ f)
+      (ap (formS kName) (kind-after lx at (m .there) (o .is)) ∙ f)
 
   seeS : (t : Statement) → rowOf t ≡ row → Holds tab t → Matches ts t → Within statement t
       → ShowsS tab ts row Behind (formS (kindInTable tab n row) (kindInTable tab n (row + 1))) t
   unfolding Holds Matches formS
   seeS (block p ss) at h m w =
       let low = m .0 .there in
-      showsS (byS tab n row 38 (kind-of lx at low (m .0 .is)) (λ x. refl))
-      (shows-block (word lx at low 3 (h .0 .start)) (part lx at low 4 (h .0 .first) (h .1) (m .1) (b .of-block at w)))
+      showsS (told at (m .0) (λ x. refl))
+      (shows-block (word lx at low cBegin (h .0 .start)) (part lx at low cFirst (h .0 .first) (h .1) (m .1) (b .of-block at w)))
   seeS (conditional p e s t) at h m w =
       let low = m .0 .there in
       let v = b .of-conditional at w in
-      showsS (byS tab n row 10 (kind-of lx at low (m .0 .is)) (λ x. refl))
-      (shows-conditional (word lx at low 3 (h .0 .start)) (part lx at low 4 (h .0 .first) (h .2) (m .1) (v .0))
-      (part lx at low 5 (h .0 .second) (h .3) (m .2) (v .1)) (part lx at low 7 (h .1) (h .4) (m .3) (v .2)))
+      showsS (told at (m .0) (λ x. refl))
+      (shows-conditional (word lx at low cBegin (h .0 .start)) (part lx at low cFirst (h .0 .first) (h .2) (m .1) (v .0))
+      (part lx at low cSecond (h .0 .second) (h .3) (m .2) (v .1)) (part lx at low cThird (h .1) (h .4) (m .3) (v .2)))
   seeS (loop p e s) at h m w =
       let low = m .0 .there in
       let v = b .of-loop at w in
-      showsS (byS tab n row 23 (kind-of lx at low (m .0 .is)) (λ x. refl))
-      (shows-loop (word lx at low 3 (h .0 .start)) (part lx at low 4 (h .0 .first) (h .1) (m .1) (v .0))
-      (part lx at low 5 (h .0 .second) (h .2) (m .2) (v .1)))
+      showsS (told at (m .0) (λ x. refl)) (shows-loop (word lx at low cBegin (h .0 .start))
+      (part lx at low cFirst (h .0 .first) (h .1) (m .1) (v .0)) (part lx at low cSecond (h .0 .second) (h .2) (m .2) (v .1)))
   seeS (print p e) at h m w =
       let low = m .0 .there in
-      showsS (byS tab n row 19 (kind-of lx at low (m .0 .is)) (λ x. refl))
-      (shows-print (word lx at low 3 (h .0 .start)) (part lx at low 4 (h .0 .first) (h .1) (m .1) (b .of-print at w)))
+      showsS (told at (m .0) (λ x. refl))
+      (shows-print (word lx at low cBegin (h .0 .start)) (part lx at low cFirst (h .0 .first) (h .1) (m .1) (b .of-print at w)))
   seeS (assign p x e) at h m w =
       let low = m .0 .there in
       showsS (target at (m .0) (m .1) refl)
-      (shows-assignment (word lx at low 3 (h .0 .start)) (spelt lx at low (m .0))
-      (part lx at low 4 (h .0 .first) (h .1) (m .2) (b .of-assignment at w)))
+      (shows-assignment (word lx at low cBegin (h .0 .start)) (spelt lx at low (m .0))
+      (part lx at low cFirst (h .0 .first) (h .1) (m .2) (b .of-assignment at w)))
   seeS (assignElement p x i e) at h m w =
       let low = m .0 .there in
       let v = b .of-element-store at w in
       showsS (target at (m .0) (m .1) refl)
-      (shows-element-store (word lx at low 3 (h .0 .start)) (spelt lx at low (m .0)) (part lx at low 4 (h .0 .first) (h .1) (m .2) (v .0))
-      (part lx at low 5 (h .0 .second) (h .2) (m .3) (v .1)))
+      (shows-element-store (word lx at low cBegin (h .0 .start)) (spelt lx at low (m .0)) (part lx at low cFirst (h .0 .first) (h .1) (m .2) (v .0))
+      (part lx at low cSecond (h .0 .second) (h .2) (m .3) (v .1)))
   seeS (portPut p i e) at h m w =
       let low = m .0 .there in
       let v = b .of-port-put at w in
-      showsS (byS tab n row kPort (kind-of lx at low (m .0 .is)) (λ x. refl))
-      (shows-port-put (word lx at low 3 (h .0 .start)) (part lx at low 4 (h .0 .first) (h .1) (m .1) (v .0))
-      (part lx at low 5 (h .0 .second) (h .2) (m .2) (v .1)))
+      showsS (told at (m .0) (λ x. refl)) (shows-port-put (word lx at low cBegin (h .0 .start))
+      (part lx at low cFirst (h .0 .first) (h .1) (m .1) (v .0)) (part lx at low cSecond (h .0 .second) (h .2) (m .2) (v .1)))
 
   pub shownS : {F : Form} → formS (kindInTable tab n row) (kindInTable tab n (row + 1)) ≡ F → (t : Statement)
       → PartAt tab ts row (Within statement) t
@@ -323,7 +327,7 @@ module _ {tab : List ℕ} {n : ℕ} {ts : List Token} (lx : Lexemes tab n ts) (r
 
 -- where an expression begins
 pub starts : {tab : List ℕ} {ts : List Token} {n row : ℕ} {Before Behind : Bound} {F : Form} {e : Expression}
-    → Shows tab ts n row Before Behind F e → wordAt tab 3 row ≡ placeE e .start
+    → Shows tab ts n row Before Behind F e → wordAt tab cBegin row ≡ placeE e .start
 starts (shows-literal s n) = s
 starts (shows-fixed-literal s n) = s
 starts (shows-truth s) = s
@@ -342,10 +346,10 @@ starts (shows-port-get s x) = s
 
 module _ {tab : List ℕ} {ts : List Token} {row : ℕ} where
   -- the row after that of a member
-  follows : {r : ℕ} {s : Sort} {Within : Part s → Type 0} {t : Part s} → r ≡ row → row < absent → col tab 6 r ≡ rowOf t → Holds tab t
-      → Matches ts t → Within t → PartAt tab ts (wordAt tab 6 row) Within t
+  follows : {r : ℕ} {s : Sort} {Within : Part s → Type 0} {t : Part s} → r ≡ row → row < absent → col tab cNext r ≡ rowOf t → Holds tab t
+      → Matches ts t → Within t → PartAt tab ts (wordAt tab cNext row) Within t
   follows {r} at near e h m w =
-      record { at = sym (ap (wordAt tab 6) (sym at) ∙ word-in tab 6 r (omega (arith, at)) e); holds = h; matches = m; within = w }
+      record { at = sym (ap (wordAt tab cNext) (sym at) ∙ word-in tab cNext r (omega (arith, at)) e); holds = h; matches = m; within = w }
 
   -- arguments that stand in a row, and not past the last
   pub goes-on : {Within Rest : Part arguments → Type 0} {First : Expression → Type 0}
@@ -369,13 +373,13 @@ module _ {tab : List ℕ} {ts : List Token} {row : ℕ} where
       (follows (h .at) near (h .holds .1) (h .holds .2) (h .matches .1) (v .1))
 
   -- past the last row there are none
-  pub ended : {Within : Part arguments → Type 0} → length ts ≤ 2048 → absent ≤ row → (es : Part arguments)
+  pub ended : {Within : Part arguments → Type 0} → length ts ≤ tokensMost → absent ≤ row → (es : Part arguments)
       → PartAt tab ts row Within es → noArguments ≡ es
   unfolding Matches
   ended few far noArguments h = refl
   ended few far (argument e es) h = absurd (omega (arith, there ts e (h .matches .0), h .at))
 
-  pub endedS : {Within : Part statements → Type 0} → length ts ≤ 2048 → absent ≤ row → (ss : Part statements)
+  pub endedS : {Within : Part statements → Type 0} → length ts ≤ tokensMost → absent ≤ row → (ss : Part statements)
       → PartAt tab ts row Within ss → noStatements ≡ ss
   unfolding Matches
   endedS few far noStatements h = refl

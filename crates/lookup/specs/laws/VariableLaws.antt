@@ -8,6 +8,7 @@ use mathlib.Core.Option.{Option, none, some}
 use lib.ListN.{length}
 use Rattle.base.specs.Choice.{if_then_else_, option}
 use Rattle.base.specs.Bytes.{same}
+use Rattle.base.specs.Codes.{tokensMost}
 use Rattle.lexer.specs.Tokens.{Token}
 use Rattle.parser.specs.Tree.{Ty, Variable}
 use Rattle.parser.specs.contracts.Layout.{absent, rowVariables}
@@ -22,7 +23,7 @@ pub typed-some : {A : Type 0} {ts : List Token} {type : A → Ty} {o : Option A}
 typed-some low (untyped e) = absurd (omega arith)
 typed-some low (typed {a = a} c) = (a, refl, c)
 
-pub typed-none : {A : Type 0} {ts : List Token} {type : A → Ty} {o : Option A} {t : ℕ} → length ts ≤ 2048 → noType ≤ t
+pub typed-none : {A : Type 0} {ts : List Token} {type : A → Ty} {o : Option A} {t : ℕ} → length ts ≤ tokensMost → noType ≤ t
     → LookedUp ts type o t → o ≡ none
 typed-none few high (untyped e) = refl
 typed-none few high (typed c) = absurd (omega (arith, codes-below few c))

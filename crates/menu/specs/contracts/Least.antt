@@ -7,6 +7,10 @@ use lib.ListN.{getD}
 use lib.Dec.{eqb}
 use Rattle.parser.specs.contracts.Layout.{absent}
 
+-- how many words the tree has: a leaf for each row, and before them the nodes above
+abbrev pub treeSize : ℕ
+treeSize = 4096
+
 -- the word of a leaf: its row, where that is in the set
 abbrev pub leaf : Bool → ℕ → ℕ
 leaf true row = row

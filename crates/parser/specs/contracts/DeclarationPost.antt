@@ -16,7 +16,7 @@ use Rattle.parser.specs.Parse.{methodFrom}
 use Rattle.parser.specs.Parse.{methodsFrom, parentFrom, classFrom, classesFrom, programFrom, localsFrom, bodyFrom, returnedFrom}
 use Rattle.parser.specs.Parse.{membersFrom, classMethodsFrom}
 use Rattle.parser.specs.contracts.Layout.{given, rowOf, store, storeVariable, storeVariables, rowVariables, storeMethod, rowMethods}
-use Rattle.parser.specs.contracts.Layout.{storeMethods, rowParent, storeClass, rowClasses, storeClasses, storeProgram}
+use Rattle.parser.specs.contracts.Layout.{storeMethods, rowParent, storeClass, rowClasses, storeClasses, storeProgram, listTop}
 use Rattle.parser.specs.contracts.Post.{kindInTable, TokensIn, Stored, Met, Within}
 use Rattle.parser.specs.contracts.Parts.{PiecePost}
 
@@ -92,14 +92,14 @@ lowOf classList i = i
 abbrev pub topOf : Declaration → ℕ → ℕ
 topOf aType n = n
 topOf aVariable n = n
-topOf (variableList b) n = 2049
-topOf parameterList n = 2049
-topOf formals n = 2049
+topOf (variableList b) n = listTop
+topOf parameterList n = listTop
+topOf formals n = listTop
 topOf aMethod n = n
-topOf methodList n = 2049
-topOf aParent n = 2049
+topOf methodList n = listTop
+topOf aParent n = listTop
 topOf aClass n = n
-topOf classList n = 2049
+topOf classList n = listTop
 
 -- what a parser of a declaration ensures, whatever the tokens are that the table holds and whatever fuel there is, if it is enough
 pub record DeclPost (d : Declaration) (n i : ℕ) (before : List ℕ) (r : Answer) (after : List ℕ) : Type 0 where
@@ -127,7 +127,7 @@ abbrev pub openedFrom : (inClass : Bool) (j : ℕ) → (fuel : ℕ) → List Tok
 openedFrom inClass j f ts = expect ts kOpenBrace j λ j. variablesFrom f inClass ts j
 
 pub record OpenedPost (inClass : Bool) (n j : ℕ) (before : List ℕ) (r : Answer) (after : List ℕ) : Type 0 where
-  pub piece : PiecePost (declarationStored (variableList inClass)) (openedFrom inClass j) (16 * (n - j)) (j + 1) n 2049 before r after
+  pub piece : PiecePost (declarationStored (variableList inClass)) (openedFrom inClass j) (16 * (n - j)) (j + 1) n listTop before r after
 
 -- a method after its parameters, after its locals, and after its `return`; `base` is the table before its head was written
 pub record LocalsPost (n name parameters j : ℕ) (before : List ℕ) (r : Answer) (after : List ℕ) : Type 0 where
@@ -178,5 +178,5 @@ wholeProgram = record { row = λ p. rowClasses (p .classes); write = storeProgra
 
 pub record ProgramPost (n : ℕ) (before : List ℕ) (r : Answer) (after : List ℕ) : Type 0 where
   pub kept : given after ≡ given before
-  pub within : Within 0 n 2049 r
+  pub within : Within 0 n listTop r
   pub says : (ts : List Token) → TokensIn before n ts → (f : ℕ) → 16 * n + 15 < f → Met wholeProgram before after r (programFrom f ts)

@@ -1,10 +1,10 @@
--- How a tree lies in the work table. Columns 0 to 2 hold the tokens. The row of a node's own token holds, in column 3, the position where the node begins,
--- in columns 4 and 5 the rows of its first and second part, in column 7 that of a third; column 6 leads to the next argument or statement of a list.
+-- How a tree lies in the work table. The columns before `cBegin` hold the tokens. The row of a node's own token holds, in `cBegin`, the position where the node
+-- begins, in `cFirst` and `cSecond` the rows of its first and second part, in `cThird` that of a third; `cNext` leads to the next argument or statement of a list.
 use Prim.Native.Nat.{ℕ, _+_}
 use mathlib.Core.List.{List, [], _∷_}
 use mathlib.Core.Option.{Option, none, some}
 use lib.ListN.{take}
-use Rattle.base.specs.contracts.Table.{put}
+use Rattle.base.specs.contracts.Table.{cell, put, cBegin, cFirst, cSecond, cNext, cThird, cType, cParent, cParameters, cLocals, cFields, cMethods, cBody, cValue}
 use Rattle.parser.specs.Tree.{Name, Sort, Part, Variable, Method, Class, Program}
 use Rattle.parser.specs.Tree.{Part.literal, Part.truth, Part.variable, Part.this, Part.newArray, Part.newObject, Part.negation, Part.binary, Part.element, Part.arrayLength, Part.call, Part.portGet, Part.noArguments, Part.argument}
 use Rattle.parser.specs.Tree.{Part.block, Part.conditional, Part.loop, Part.print, Part.assign, Part.assignElement, Part.portPut, Part.noStatements, Part.sequence}
@@ -12,6 +12,14 @@ use Rattle.parser.specs.Tree.{Part.block, Part.conditional, Part.loop, P
 -- no row: an empty list, or no such part
 abbrev pub absent : ℕ
 absent = 2048
+
+-- one above: what the row of a list stays below, which may be empty
+abbrev pub listTop : ℕ
+listTop = absent + 1
+
+-- where main's statement stands: the row of the token after main's head
+abbrev pub mainRow : ℕ
+mainRow = 14
 
 -- the row of a node's own token; of a list that of its first member
 abbrev pub rowOf : {s : Sort} → Part s → ℕ
@@ -41,11 +49,15 @@ rowOf (sequence s ss) = rowOf s
 
 -- a node's row: where it begins and its first two parts
 unfoldable pub node : List ℕ → (row start left right : ℕ) → List ℕ
-node tab row start left right = put (put (put tab 3 row start) 4 row left) 5 row right
+node tab row start left right = put (put (put tab cBegin row start) cFirst row left) cSecond row right
 
--- the columns of the tokens, words 0 to 6143
+-- how many words the columns of the tokens have, which are before all others
+abbrev pub givenWords : ℕ
+givenWords = cell cBegin 0
+
+-- the columns of the tokens
 unfoldable pub given : List ℕ → List ℕ
-given tab = take 6144 tab
+given tab = take givenWords tab
 
 -- the rows of a tree or of a list, written into a table: parts first
 unfoldable pub store : {s : Sort} → Part s → List ℕ → List ℕ
@@ -62,23 +74,23 @@ store (arrayLength p a) tab = node (store a tab) (p .row) (p .start) (rowOf a) a
 store (call p e m es) tab = node (store es (store e tab)) (p .row) (p .start) (rowOf e) (rowOf es)
 store (portGet p e) tab = node (store e tab) (p .row) (p .start) (rowOf e) absent
 store noArguments tab = tab
-store (argument e es) tab = put (store es (store e tab)) 6 (rowOf e) (rowOf es)
+store (argument e es) tab = put (store es (store e tab)) cNext (rowOf e) (rowOf es)
 store (block p ss) tab = node (store ss tab) (p .row) (p .start) (rowOf ss) absent
-store (conditional p e s t) tab = put (node (store t (store s (store e tab))) (p .row) (p .start) (rowOf e) (rowOf s)) 7 (p .row) (rowOf t)
+store (conditional p e s t) tab = put (node (store t (store s (store e tab))) (p .row) (p .start) (rowOf e) (rowOf s)) cThird (p .row) (rowOf t)
 store (loop p e s) tab = node (store s (store e tab)) (p .row) (p .start) (rowOf e) (rowOf s)
 store (print p e) tab = node (store e tab) (p .row) (p .start) (rowOf e) absent
 store (assign p x e) tab = node (store e tab) (p .row) (p .start) (rowOf e) absent
 store (assignElement p x i e) tab = node (store e (store i tab)) (p .row) (p .start) (rowOf i) (rowOf e)
 store (portPut p n e) tab = node (store e (store n tab)) (p .row) (p .start) (rowOf n) (rowOf e)
 store noStatements tab = tab
-store (sequence s ss) tab = put (store ss (store s tab)) 6 (rowOf s) (rowOf ss)
+store (sequence s ss) tab = put (store ss (store s tab)) cNext (rowOf s) (rowOf ss)
 
--- DECLARATIONS. A variable, a method or a class lies in the row of its name: in column 3 the row of its type, of its result type or of the name of its parent;
--- in column 4 its first parameter or field, in column 5 its first local or method; column 6 leads to the next. The row after a method's name, that of its
--- `(`, holds in columns 4 and 5 its first statement and its return expression.
+-- DECLARATIONS. A variable, a method or a class lies in the row of its name: in `cType` the row of its type or of its result type, in `cParent` that of the name
+-- of its parent; in `cParameters` or `cFields` its first parameter or field, in `cLocals` or `cMethods` its first local or method; `cNext` leads to the next. The
+-- row after a method's name, that of its `(`, holds in `cBody` and `cValue` its first statement and its return expression.
 
 unfoldable pub storeVariable : Variable → List ℕ → List ℕ
-storeVariable v tab = put tab 3 (v .name .row) (v .type .row)
+storeVariable v tab = put tab cType (v .name .row) (v .type .row)
 
 abbrev pub rowVariables : List Variable → ℕ
 rowVariables [] = absent
@@ -86,7 +98,7 @@ rowVariables (v ∷ vs) = v .name .row
 
 unfoldable pub storeVariables : List Variable → List ℕ → List ℕ
 storeVariables [] tab = tab
-storeVariables (v ∷ vs) tab = put (storeVariables vs (storeVariable v tab)) 6 (v .name .row) (rowVariables vs)
+storeVariables (v ∷ vs) tab = put (storeVariables vs (storeVariable v tab)) cNext (v .name .row) (rowVariables vs)
 
 -- a method's name and result type
 abbrev pub headOf : Method → Variable
@@ -94,7 +106,7 @@ headOf m = record { type = m .result; name = m .name }
 
 -- the four columns of a method, whose name stands in this row
 unfoldable pub methodRow : List ℕ → (row parameters locals body value : ℕ) → List ℕ
-methodRow tab row parameters locals body value = put (put (put (put tab 4 row parameters) 5 row locals) 4 (row + 1) body) 5 (row + 1) value
+methodRow tab row parameters locals body value = put (put (put (put tab cParameters row parameters) cLocals row locals) cBody (row + 1) body) cValue (row + 1) value
 
 unfoldable pub storeMethod : Method → List ℕ → List ℕ
 storeMethod m tab =
@@ -107,14 +119,14 @@ rowMethods (m ∷ ms) = m .name .row
 
 unfoldable pub storeMethods : List Method → List ℕ → List ℕ
 storeMethods [] tab = tab
-storeMethods (m ∷ ms) tab = put (storeMethods ms (storeMethod m tab)) 6 (m .name .row) (rowMethods ms)
+storeMethods (m ∷ ms) tab = put (storeMethods ms (storeMethod m tab)) cNext (m .name .row) (rowMethods ms)
 
 abbrev pub rowParent : Option Name → ℕ
 rowParent none = absent
 rowParent (some p) = p .row
 
 unfoldable pub classRow : List ℕ → (row parent fields methods : ℕ) → List ℕ
-classRow tab row parent fields methods = put (put (put tab 3 row parent) 4 row fields) 5 row methods
+classRow tab row parent fields methods = put (put (put tab cParent row parent) cFields row fields) cMethods row methods
 
 unfoldable pub storeClass : Class → List ℕ → List ℕ
 storeClass k tab =
@@ -126,8 +138,8 @@ rowClasses (k ∷ ks) = k .name .row
 
 unfoldable pub storeClasses : List Class → List ℕ → List ℕ
 storeClasses [] tab = tab
-storeClasses (k ∷ ks) tab = put (storeClasses ks (storeClass k tab)) 6 (k .name .row) (rowClasses ks)
+storeClasses (k ∷ ks) tab = put (storeClasses ks (storeClass k tab)) cNext (k .name .row) (rowClasses ks)
 
--- The first class stands in column 6 of row 0, that of the first token; main's statement is in row 14, that of the token after main's head.
+-- The first class stands in `cNext` of row 0, that of the first token; main's statement is in `mainRow`.
 unfoldable pub storeProgram : Program → List ℕ → List ℕ
-storeProgram p tab = put (storeClasses (p .classes) (store (p .statement) tab)) 6 0 (rowClasses (p .classes))
+storeProgram p tab = put (storeClasses (p .classes) (store (p .statement) tab)) cNext 0 (rowClasses (p .classes))

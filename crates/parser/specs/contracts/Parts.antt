@@ -3,7 +3,7 @@ use Prim.Native.Nat.{ℕ, _+_, _*_, _-_, _≤_, _<_}
 use mathlib.Core.Path.{_≡_}
 use mathlib.Core.List.{List}
 use mathlib.Core.Logic.{_≢_}
-use Rattle.base.specs.contracts.Table.{col, put}
+use Rattle.base.specs.contracts.Table.{col, put, cStart, cNext}
 use Rattle.lexer.specs.Kinds.{kOpen, kClose}
 use Rattle.lexer.specs.Tokens.{Token}
 use Rattle.parser.specs.declared.answer.Answer.{Answer}
@@ -31,15 +31,15 @@ pub data WholeOf (row : ℕ) (write : ℕ → List ℕ) (before : List ℕ) : An
 
 -- the rest of a list after its first member
 abbrev pub ListOf : (row : ℕ) (before : List ℕ) → Answer → Answer → List ℕ → Type 0
-ListOf row before a r after = WholeOf row (λ x. put before 6 row x) before a r after
+ListOf row before a r after = WholeOf row (λ x. put before cNext row x) before a r after
 
 -- the part of a node that begins with its own token and has no other
 abbrev pub OnePart : (row : ℕ) (before : List ℕ) → Answer → Answer → List ℕ → Type 0
-OnePart row before a r after = WholeOf row (λ x. node before row (col before 1 row) x absent) before a r after
+OnePart row before a r after = WholeOf row (λ x. node before row (col before cStart row) x absent) before a r after
 
 -- the second part of a node that begins with token `first`
 abbrev pub TwoParts : (row first left : ℕ) (before : List ℕ) → Answer → Answer → List ℕ → Type 0
-TwoParts row first left before a r after = WholeOf row (λ x. node before row (col before 1 first) left x) before a r after
+TwoParts row first left before a r after = WholeOf row (λ x. node before row (col before cStart first) left x) before a r after
 
 -- what a parser ensures that reads a piece of which P is the definition, whatever the tokens are that the table holds and whatever fuel
 -- there is, if it is enough

@@ -6,7 +6,8 @@ use mathlib.Core.Bool.{Bool, true, false, _||_, _&&_}
 use lib.ListN.{length}
 use lib.Dec.{eqb, ltb}
 use Rattle.base.specs.Choice.{if_then_else_, option}
-use Rattle.base.specs.contracts.Table.{col}
+use Rattle.base.specs.contracts.Table.{col, cKind, cStart}
+use Rattle.base.specs.Codes.{tokensMost, tableLeast}
 use Rattle.lexer.specs.Kinds.{isName, kLiteral, kFixedLiteral, kBoolean, kInt, kTrue, kFalse, kThis, kNew, kOpenBracket}
 use Rattle.lexer.specs.Tokens.{Token}
 use Rattle.parser.specs.declared.answer.Answer.{Answer}
@@ -15,19 +16,19 @@ use Rattle.parser.specs.Tree.{Sort, Sort.expression, Sort.statement, Sor
 use Rattle.parser.specs.Stream.{kindAt, startAt, Level, Level.conjunction, Level.comparison, Level.sum, Level.product, operatorOf}
 use Rattle.parser.specs.Parse.{Parsed, ok, bad, Mode, operation, operations, operand, unary, postfix, primary, suffixes, argumentList}
 use Rattle.parser.specs.Parse.{someArguments, aStatement, statementList, accepts, parseAs, branchesFrom}
-use Rattle.parser.specs.contracts.Layout.{rowOf, store, given}
+use Rattle.parser.specs.contracts.Layout.{rowOf, store, given, listTop}
 
 -- THE TOKENS IN THE TABLE
 
 -- the kind of token i of n, 0 past the last
 unfoldable pub kindInTable : List ℕ → (n i : ℕ) → ℕ
-kindInTable tab n i = if ltb i n then (λ _. col tab 0 i) else λ _. 0
+kindInTable tab n i = if ltb i n then (λ _. col tab cKind i) else λ _. 0
 
--- columns 0 and 1 hold the kinds and the positions of these n tokens
+-- `cKind` and `cStart` hold the kinds and the positions of these n tokens
 pub record TokensIn (tab : List ℕ) (n : ℕ) (ts : List Token) : Type 0 where
   pub count : length ts ≡ n
   pub kinds : (i : ℕ) → kindInTable tab n i ≡ kindAt ts i
-  pub starts : (i : ℕ) → i < n → col tab 1 i ≡ startAt ts i
+  pub starts : (i : ℕ) → i < n → col tab cStart i ≡ startAt ts i
 
 -- WHAT IS STORED
 
@@ -50,9 +51,9 @@ Within low n top (At x j) = (low ≤ j) × (j ≤ n) × (x < top)
 Within low n top (Bad k) = Unit {0}
 
 pub record Parsable (tab : List ℕ) (n i : ℕ) : Type 0 where
-  pub few : n ≤ 2048
+  pub few : n ≤ tokensMost
   pub at : i ≤ n
-  pub big : 16384 ≤ length tab
+  pub big : tableLeast ≤ length tab
 
 -- EXPRESSIONS
 
@@ -138,7 +139,7 @@ matchedIn tab n i (q ∷ qs) = if accepts q (kindInTable tab n i) then (λ _. 1 
 -- a list of statements, which may be empty
 pub record ListPost (n i : ℕ) (before : List ℕ) (r : Answer) (after : List ℕ) : Type 0 where
   pub kept : given after ≡ given before
-  pub within : Within i n 2049 r
+  pub within : Within i n listTop r
   pub says : (ts : List Token) → TokensIn before n ts → (f : ℕ) → fuel statementList n i < f
       → Met (part statements) before after r (parseAs f ts statementList i)
 

@@ -36,7 +36,7 @@ module _ (ts : List Token) (p : Program) (d : DerivesProgram ts p) where
     pub holds : size ≤ length tab → HoldsProgram (storeProgram p tab) p
     holds large = program-lies d .holds short tab (storeProgram p tab) large (λ k i _ _. refl)
 
--- A table that holds a program still holds it after changes that leave columns 3 to 6 and, in the rows of `if` tokens, column 7.
+-- A table that holds a program still holds it after changes that leave columns `cBegin` to `cNext` and, in the rows of `if` tokens, `cThird`.
 pub still-holds : (ts : List Token) (p : Program) → ProgramMatches ts p → length ts ≤ rows → (tab tab′ : List ℕ) → SameTree ts tab tab′
     → HoldsProgram tab p → HoldsProgram tab′ p
 still-holds ts p m short tab tab′ same h = program-kept short same p m h

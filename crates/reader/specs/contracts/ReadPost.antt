@@ -5,9 +5,9 @@ use mathlib.Core.List.{List}
 use lib.ListN.{length}
 use lib.Dec.{ltb}
 use Rattle.base.specs.Choice.{if_then_else_, option}
-use Rattle.base.specs.Codes.{sourceMost, tooDeep}
+use Rattle.base.specs.Codes.{sourceMost, tooDeep, tokensMost}
 use Rattle.base.specs.Outcome.{Outcome, accepted, refused}
-use Rattle.base.specs.contracts.Table.{col}
+use Rattle.base.specs.contracts.Table.{col, cStart}
 use Rattle.lexer.specs.Tokens.{Token, tokens}
 use Rattle.lexer.specs.contracts.Rows.{Rows}
 use Rattle.parser.specs.Tree.{Program}
@@ -25,7 +25,7 @@ use Rattle.reader.specs.contracts.WalkPost.{ProgramOrdered}
 -- the table holds the tokens and the tree of an accepted source
 pub record Filling (tab : List ℕ) (r : Reading) : Type 0 where
   pub rows : Rows tab (r .stream)
-  pub few : length (r .stream) ≤ 2048
+  pub few : length (r .stream) ≤ tokensMost
   pub holds : HoldsProgram tab (r .tree)
   pub derived : DerivesProgram (r .stream) (r .tree)
 
@@ -47,7 +47,7 @@ pub record MeasurePost (tab : List ℕ) (n : ℕ) (a : Filled) : Type 0 where
 
 -- the position of token k, or the source's length
 unfoldable pub placeIn : List ℕ → (n k size : ℕ) → ℕ
-placeIn tab n k size = if ltb k n then (λ _. col tab 1 k) else λ _. size
+placeIn tab n k size = if ltb k n then (λ _. col tab cStart k) else λ _. size
 
 -- the code's answer as document 01 counts it
 abbrev pub readAnswerOf : ReadAnswer → SpecAnswer

@@ -10,12 +10,13 @@ use native.Mathlib.Omega.{arith}
 use lib.ListN.{length}
 use lib.Dec.{ltb}
 use Rattle.base.specs.Choice.{if_then_else_}
-use Rattle.base.specs.contracts.Table.{col}
+use Rattle.base.specs.contracts.Table.{col, cNext}
+use Rattle.base.specs.Codes.{tokensMost, tableLeast}
 use Rattle.lexer.specs.Tokens.{Token}
 use Rattle.parser.specs.Tree.{Sort, Sort.expression, Sort.arguments, Sort.statement, Sort.statements, Part, Method, Class, Program}
 use Rattle.parser.specs.Tree.{Part.literal, Part.truth, Part.variable, Part.this, Part.newArray, Part.newObject, Part.negation, Part.binary, Part.element, Part.arrayLength, Part.call, Part.portGet, Part.noArguments, Part.argument}
 use Rattle.parser.specs.Tree.{Part.block, Part.conditional, Part.loop, Part.print, Part.assign, Part.assignElement, Part.portPut, Part.noStatements, Part.sequence}
-use Rattle.parser.specs.contracts.Layout.{absent, rowOf, rowMethods, rowClasses}
+use Rattle.parser.specs.contracts.Layout.{absent, rowOf, rowMethods, rowClasses, mainRow}
 use Rattle.parser.specs.Measure.{nodes, deep, methodsNodes, methodsDeep, classesNodes, classesDeep, programNodes, programDeep}
 use Rattle.parser.specs.contracts.Post.{TokensIn}
 use Rattle.reader.specs.contracts.Holds.{Holds, HoldsMethods, HoldsClasses, HoldsProgram}
@@ -92,12 +93,12 @@ pub record WalkAnswers (first : Option ℕ) (many : ℕ) (w : Walked) : Type 0 w
 
 -- the table holds n tokens at most and all its columns
 pub record Walkable (tab : List ℕ) (n : ℕ) : Type 0 where
-  pub few : n ≤ 2048
-  pub big : 16384 ≤ length tab
+  pub few : n ≤ tokensMost
+  pub big : tableLeast ≤ length tab
 
 -- the row after this one in a list; where there is no list, or the link does not go up, none
 unfoldable pub follower : List ℕ → (chain : Bool) → (row : ℕ) → ℕ
-follower tab chain row = if chain && ltb row (col tab 6 row) then (λ _. col tab 6 row) else λ _. absent
+follower tab chain row = if chain && ltb row (col tab cNext row) then (λ _. col tab cNext row) else λ _. absent
 
 -- a part is a list
 abbrev pub isList : Sort → Bool
@@ -130,9 +131,9 @@ pub record WalksClasses (tab : List ℕ) (n row : ℕ) (w : Walked) : Type 0 whe
       → ClassesOrdered ks
       → WalkAnswers (classesDeep ks) (classesNodes ks) w
 
--- main's statement stands in row 14, and no count is too large
+-- main's statement stands in `mainRow`, and no count is too large
 pub record ProgramOrdered (p : Program) : Type 0 where
-  pub row : rowOf (p .statement) ≡ 14
+  pub row : rowOf (p .statement) ≡ mainRow
   pub statement : Ordered 0 (p .statement)
   pub classes : ClassesOrdered (p .classes)
   pub few : programNodes p ≤ countMost

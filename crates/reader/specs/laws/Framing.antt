@@ -7,11 +7,11 @@ use mathlib.Core.List.{List}
 use mathlib.Core.Logic.{_≢_}
 use native.Mathlib.Omega.{arith}
 use lib.ListN.{length}
-use Rattle.base.specs.contracts.Table.{rows, size, cell, col, put, length-put, col-put-same, col-put-other}
+use Rattle.base.specs.contracts.Table.{rows, size, cell, col, put, length-put, col-put-same, col-put-other, cBegin, cNext}
 
 -- a word of rows i up to j, in a column behind those of the tokens
 abbrev pub Inside : (i j k r : ℕ) → Type 0
-Inside i j k r = (3 ≤ k) × (i ≤ r) × (r < j)
+Inside i j k r = (cBegin ≤ k) × (i ≤ r) × (r < j)
 
 -- words of a table, by column and row
 abbrev pub Region : Type 1
@@ -25,9 +25,9 @@ nowhere k r = ⊥
 abbrev pub wholeRow : ℕ → Region
 wholeRow row k r = r ≡ row
 
--- column 6 of a member's own row, which its list writes after it: the tree itself does not read it
+-- `cNext` of a member's own row, which its list writes after it: the tree itself does not read it
 abbrev pub nextOf : ℕ → Region
-nextOf row k r = (k ≡ 6) × (r ≡ row)
+nextOf row k r = (k ≡ cNext) × (r ≡ row)
 
 -- those but the word at column k₀ of row r₀
 abbrev pub without : Region → (k₀ r₀ : ℕ) → Region
@@ -103,8 +103,8 @@ Own i j row f H = (i ≤ row) × (row < j) × Lies i j (nextOf row) f H
 
 -- a member of a list, the rest of the list, and the way from the one to the other
 pub link : (v : ℕ) {a b o c d : ℕ} {f g : List ℕ → List ℕ} {H G : List ℕ → Type 0} → Own a b o f H → Lies c d nowhere g G → b ≤ c
-    → Lies a d nowhere (λ tab. put (g (f tab)) 6 o v) (λ tab. H tab × (col tab 6 o ≡ v) × G tab)
+    → Lies a d nowhere (λ tab. put (g (f tab)) cNext o v) (λ tab. H tab × (col tab cNext o ≡ v) × G tab)
 link v {a} {o = o} {d = d} x y bc =
     let cd = y .order in
-    reshape a d nowhere (another 6 o v (join a d (nextOf o) (x .2) y (omega arith)) (omega arith) (omega arith) (omega arith)) (omega arith) (omega arith)
+    reshape a d nowhere (another cNext o v (join a d (nextOf o) (x .2) y (omega arith)) (omega arith) (omega arith) (omega arith)) (omega arith) (omega arith)
     (λ tab h. (h .0 .0, h .1, h .0 .1))

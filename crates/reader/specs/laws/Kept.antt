@@ -1,11 +1,11 @@
--- What a table says of a tree stands in its columns 3 to 6 and, in the rows of `if` tokens, in column 7: each row that is read is that of
--- a token which is there. So column 7 of all other rows is free for what is found out about names.
+-- What a table says of a tree stands in its columns `cBegin` to `cNext` and, in the rows of `if` tokens, in `cThird`: each row that is read is that of
+-- a token which is there. So that column of all other rows is free for what is found out about names.
 use Prim.Native.Nat.{ℕ, _+_, _≤_, _<_}
 use mathlib.Core.Path.{_≡_, _∙_}
 use mathlib.Core.List.{List, [], _∷_}
 use native.Mathlib.Omega.{arith}
 use lib.ListN.{length}
-use Rattle.base.specs.contracts.Table.{rows, col, SameColumn}
+use Rattle.base.specs.contracts.Table.{rows, col, SameColumn, cBegin, cFirst, cSecond, cNext, cThird, cType, cParent, cParameters, cLocals, cFields, cMethods, cBody, cValue}
 use Rattle.lexer.specs.Kinds.{kIf}
 use Rattle.lexer.specs.Tokens.{Token}
 use Rattle.parser.specs.Tree.{Place, Sort, Part, Expression, Statement, Variable, Method, Class, Program}
@@ -18,10 +18,10 @@ use Rattle.reader.specs.contracts.Holds.{NodeRow, Holds, HoldsVariables,
 use Rattle.reader.specs.contracts.Matches.{NumeralMatches, Matches, VariablesMatch, MethodMatches, MethodsMatch}
 use Rattle.reader.specs.contracts.Matches.{ClassMatches, ClassesMatch, ProgramMatches}
 
--- the second table has the first one's columns 3 to 6, and its column 7 in the rows of `if` tokens
+-- the second table has the first one's columns `cBegin` to `cNext`, and its `cThird` in the rows of `if` tokens
 pub record SameTree (ts : List Token) (tab tab′ : List ℕ) : Type 0 where
-  pub columns : (k : ℕ) → 3 ≤ k → k < 7 → SameColumn k tab tab′
-  pub thirds : (i : ℕ) → i < rows → kindAt ts i ≡ kIf → col tab′ 7 i ≡ col tab 7 i
+  pub columns : (k : ℕ) → cBegin ≤ k → k < cThird → SameColumn k tab tab′
+  pub thirds : (i : ℕ) → i < rows → kindAt ts i ≡ kIf → col tab′ cThird i ≡ col tab cThird i
 
 -- a node's own token is there
 pub numeral-there : (ts : List Token) (i : ℕ) (n : Numeral) → NumeralMatches ts i n → i < length ts
@@ -55,20 +55,20 @@ statement-there ts (assignElement p x i e) m = m .0 .there
 statement-there ts (portPut p n e) m = m .0 .there
 
 module _ {ts : List Token} {tab tab′ : List ℕ} (short : length ts ≤ rows) (same : SameTree ts tab tab′) where
-  -- a word of column 3, 4, 5 or 6
-  word : (k i : ℕ) → 3 ≤ k → k < 7 → i < length ts → col tab′ k i ≡ col tab k i
+  -- a word of a column from `cBegin` to `cNext`
+  word : (k i : ℕ) → cBegin ≤ k → k < cThird → i < length ts → col tab′ k i ≡ col tab k i
   word k i h₃ h₇ h = same .columns k h₃ h₇ i (omega arith)
 
   row : (p : Place) {left right : ℕ} → p .row < length ts → NodeRow tab p left right → NodeRow tab′ p left right
   row p h w =
       record {
-        start = word 3 (p .row) (omega arith) (omega arith) h ∙ w .start;
-        first = word 4 (p .row) (omega arith) (omega arith) h ∙ w .first;
-        second = word 5 (p .row) (omega arith) (omega arith) h ∙ w .second;
+        start = word cBegin (p .row) (omega arith) (omega arith) h ∙ w .start;
+        first = word cFirst (p .row) (omega arith) (omega arith) h ∙ w .first;
+        second = word cSecond (p .row) (omega arith) (omega arith) h ∙ w .second;
       }
 
-  next : (i : ℕ) {v : ℕ} → i < length ts → col tab 6 i ≡ v → col tab′ 6 i ≡ v
-  next i h e = word 6 i (omega arith) (omega arith) h ∙ e
+  next : (i : ℕ) {v : ℕ} → i < length ts → col tab cNext i ≡ v → col tab′ cNext i ≡ v
+  next i h e = word cNext i (omega arith) (omega arith) h ∙ e
 
   pub tree-kept : {s : Sort} (t : Part s) → Matches ts t → Holds tab t → Holds tab′ t
   unfolding Matches Holds
@@ -110,7 +110,7 @@ module _ {ts : List Token} {tab tab′ : List ℕ} (short : length ts ≤ rows) 
   variables-kept [] m h = tt
   variables-kept (v ∷ vs) m h =
       let there = m .0 .name .token .there in (
-        word 3 (v .name .row) (omega arith) (omega arith) there ∙ h .0,
+        word cType (v .name .row) (omega arith) (omega arith) there ∙ h .0,
         next (v .name .row) there (h .1),
         variables-kept vs (m .1) (h .2),
       )
@@ -121,11 +121,11 @@ module _ {ts : List Token} {tab tab′ : List ℕ} (short : length ts ≤ rows) 
       let after = m .after .there in
       let n = d .name .row in
       record {
-        result = word 3 n (omega arith) (omega arith) there ∙ h .result;
-        first = word 4 n (omega arith) (omega arith) there ∙ h .first;
-        second = word 5 n (omega arith) (omega arith) there ∙ h .second;
-        start = word 4 (n + 1) (omega arith) (omega arith) after ∙ h .start;
-        return = word 5 (n + 1) (omega arith) (omega arith) after ∙ h .return;
+        result = word cType n (omega arith) (omega arith) there ∙ h .result;
+        first = word cParameters n (omega arith) (omega arith) there ∙ h .first;
+        second = word cLocals n (omega arith) (omega arith) there ∙ h .second;
+        start = word cBody (n + 1) (omega arith) (omega arith) after ∙ h .start;
+        return = word cValue (n + 1) (omega arith) (omega arith) after ∙ h .return;
         parameters = variables-kept (d .parameters) (m .parameters) (h .parameters);
         locals = variables-kept (d .locals) (m .locals) (h .locals);
         body = tree-kept (d .body) (m .body) (h .body);
@@ -143,9 +143,9 @@ module _ {ts : List Token} {tab tab′ : List ℕ} (short : length ts ≤ rows) 
       let there = m .name .token .there in
       let n = d .name .row in
       record {
-        parent = word 3 n (omega arith) (omega arith) there ∙ h .parent;
-        first = word 4 n (omega arith) (omega arith) there ∙ h .first;
-        second = word 5 n (omega arith) (omega arith) there ∙ h .second;
+        parent = word cParent n (omega arith) (omega arith) there ∙ h .parent;
+        first = word cFields n (omega arith) (omega arith) there ∙ h .first;
+        second = word cMethods n (omega arith) (omega arith) there ∙ h .second;
         fields = variables-kept (d .fields) (m .fields) (h .fields);
         methods = methods-kept (d .methods) (m .methods) (h .methods);
       }
@@ -160,6 +160,6 @@ module _ {ts : List Token} {tab tab′ : List ℕ} (short : length ts ≤ rows) 
   program-kept p m h =
       record {
         statement = tree-kept (p .statement) (m .statement) (h .statement);
-        first = same .columns 6 (omega arith) (omega arith) 0 (omega arith) ∙ h .first;
+        first = same .columns cNext (omega arith) (omega arith) 0 (omega arith) ∙ h .first;
         classes = classes-kept (p .classes) (m .classes) (h .classes);
       }

@@ -9,12 +9,13 @@ use native.Mathlib.Omega.{arith}
 use native.Mathlib.Decide.{decLt}
 use lib.ListN.{length, List·getD-eq-default}
 use lib.Dec.{lit<}
+use Rattle.base.specs.Codes.{tokensMost}
 use Rattle.lexer.specs.Kinds.{isName}
 use Rattle.lexer.specs.Tokens.{Token}
 use Rattle.parser.specs.Tree.{Name, Operator, TypeUse, Sort, Sort.expression, Sort.arguments, Sort.statement, Sort.statements, Part}
 use Rattle.parser.specs.Tree.{Variable, Method, Class, Program}
 use Rattle.parser.specs.Stream.{kindAt, startAt, noMore, Level, Level.conjunction, Level.comparison, Level.sum, Level.product, operatorOf}
-use Rattle.parser.specs.contracts.Layout.{rowOf, rowMethods, rowClasses}
+use Rattle.parser.specs.contracts.Layout.{rowOf, rowMethods, rowClasses, mainRow}
 use Rattle.parser.specs.Grammar.{Kind, Derives, operate, one-operand, negate, no-negation, make-array, no-array, index, take-length, invoke}
 use Rattle.parser.specs.Grammar.{no-suffix, a-literal, a-true, a-false, a-name, a-this, make-object, get-register, parentheses, none-given}
 use Rattle.parser.specs.Grammar.{some-given, a-fixed-literal, a-fixed}
@@ -98,7 +99,7 @@ module _ (ts : List Token) where
   ]
 
 -- ROWS
-module _ (ts : List Token) (few : length ts ≤ 2048) where
+module _ (ts : List Token) (few : length ts ≤ tokensMost) where
   -- the row of what was derived from tokens i up to j, all of which are there; a list may have none
   abbrev InRange : Sort → (i j row : ℕ) → Type 0
   InRange expression i j r = (i ≤ r) × (r < j) × (j ≤ length ts)
@@ -162,7 +163,7 @@ module _ (ts : List Token) (few : length ts ≤ 2048) where
   range (more-statements {m = m} s ss) h = let u = range s h in let v = range ss (u .2) in (omega (arith, u, v), u .0, v .2)
 
 -- POSITIONS
-module _ (ts : List Token) (few : length ts ≤ 2048) (rising : TokensRise ts) where
+module _ (ts : List Token) (few : length ts ≤ tokensMost) (rising : TokensRise ts) where
   -- from token i on nothing begins before `low`
   abbrev From : (low i : ℕ) → Type 0
   From low i = i < length ts → low ≤ startAt ts i
@@ -317,7 +318,7 @@ module _ (ts : List Token) (few : length ts ≤ 2048) (rising : TokensRise ts) w
   pub program-order : {p : Program} → DerivesProgram ts p → ProgramOrdered p
   program-order {p} d = record { row = parts d .0; statement = parts d .1; classes = parts d .2; few = omega (arith, few-nodes ts p d) }
     where
-      parts : {p : Program} → DerivesProgram ts p → (rowOf (p .statement) ≡ 14) × Ordered 0 (p .statement) × ClassesOrdered (p .classes)
+      parts : {p : Program} → DerivesProgram ts p → (rowOf (p .statement) ≡ mainRow) × Ordered 0 (p .statement) × ClassesOrdered (p .classes)
       parts (a-program {j = j} hd s e₁ e₂ ks) =
           let n₁ = there ts 13 (hd .at13) (lit< tt) in
           let n₂ = there ts (j + 1) e₂ (lit< tt) in

@@ -6,7 +6,7 @@ use mathlib.Core.List.{List}
 use mathlib.Core.Option.{Option}
 use native.Mathlib.Omega.{arith}
 use lib.ListN.{length}
-use Rattle.base.specs.contracts.Table.{col}
+use Rattle.base.specs.contracts.Table.{col, cBegin, cFirst, cSecond, cNext, cThird, cType, cParameters, cLocals, cBody, cValue}
 use Rattle.lexer.specs.Tokens.{Token}
 use Rattle.parser.specs.Tree.{Place, Name, Sort, Sort.expression, Sort.arguments, Sort.statement, Sort.statements, Part, TypeUse, Variable}
 use Rattle.parser.specs.Tree.{Method, Class, Program}
@@ -37,13 +37,13 @@ use Rattle.reader.specs.laws.Framing.{join, another, link}
 -- a node's row, written after its parts, none of which has a word in it; E is what of it is still not read
 with-row : (p : Place) (left right : ℕ) {i j : ℕ} {f : List ℕ → List ℕ} {H : List ℕ → Type 0} (E : Region)
     → Lies i j (wholeRow (p .row)) f H → (i ≤ p .row) × (p .row < j)
-    → ((k r : ℕ) → Inside i j k r → E k r → (5 < k) × (r ≡ p .row))
+    → ((k r : ℕ) → Inside i j k r → E k r → (cSecond < k) × (r ≡ p .row))
     → Lies i j E (λ tab. node (f tab) (p .row) (p .start) left right) (λ tab. NodeRow tab p left right × H tab)
 unfolding node
 with-row p left right {i} {j} E x w fewer =
-    let x₃ = another 3 (p .row) (p .start) x (omega arith) (omega arith) (omega arith) in
-    let x₄ = another 4 (p .row) left x₃ (omega arith) (omega arith) (omega arith) in
-    let x₅ = another 5 (p .row) right x₄ (omega arith) (omega arith) (omega arith) in
+    let x₃ = another cBegin (p .row) (p .start) x (omega arith) (omega arith) (omega arith) in
+    let x₄ = another cFirst (p .row) left x₃ (omega arith) (omega arith) (omega arith) in
+    let x₅ = another cSecond (p .row) right x₄ (omega arith) (omega arith) (omega arith) in
     reshape i j E x₅ (omega arith) (λ k r h e. let z = fewer k r h e in omega arith) (λ tab h. (record { start = h .0 .0 .1; first = h .0 .1; second = h .1 }, h .0 .0 .0))
 
 -- nodes without a part, with one and with two
@@ -111,8 +111,8 @@ module _ {ts : List Token} where
       let y = lies d′ in
       let z = lies d″ in
       let parts = join i n (wholeRow i) (join (i + 2) k nowhere (x .2) (y .2) (omega arith)) (z .2) (omega arith) in
-      let row = with-row (placeAt ts i i) _ _ (λ k r. (5 < k) × (r ≡ i)) parts (omega arith) (omega arith) in
-      let all = another 7 i _ row (omega arith) (omega arith) (omega arith) in (
+      let row = with-row (placeAt ts i i) _ _ (λ k r. (cSecond < k) × (r ≡ i)) parts (omega arith) (omega arith) in
+      let all = another cThird i _ row (omega arith) (omega arith) (omega arith) in (
         omega arith,
         omega arith,
         reshape i n (nextOf i) all (omega arith) (omega arith) (λ tab h. (h .0 .0, h .1, h .0 .1 .0 .0, h .0 .1 .0 .1, h .0 .1 .1)),
@@ -135,11 +135,11 @@ module _ {ts : List Token} where
   type-order (a-fixed _) = omega arith
 
   pub variable-lies : {i j : ℕ} {v : Variable} → DerivesVariable ts i j v
-      → Own i j (v .name .row) (λ tab. storeVariable v tab) (λ tab. col tab 3 (v .name .row) ≡ v .type .row)
+      → Own i j (v .name .row) (λ tab. storeVariable v tab) (λ tab. col tab cType (v .name .row) ≡ v .type .row)
   unfolding storeVariable
   variable-lies (a-variable {i} {j} d _) =
       let h = type-order d in
-      let x = another 3 j _ (writes-nothing i (j + 1) (wholeRow j) (omega arith)) (omega arith) (omega arith) (omega arith) in
+      let x = another cType j _ (writes-nothing i (j + 1) (wholeRow j) (omega arith)) (omega arith) (omega arith) (omega arith) in
       (h, omega arith, reshape i (j + 1) (nextOf j) x (omega arith) (omega arith) (λ tab h. h .1))
 
   pub variables-lie : {i j : ℕ} {vs : List Variable} → DerivesVariables ts i j vs
@@ -173,12 +173,12 @@ module _ {ts : List Token} where
       let y = lies ss in
       let z = lies v in
       let parts = join (a + 1) e nowhere (join (a + 1) d nowhere (join (a + 1) c nowhere w x (omega arith)) y (omega arith)) (z .2) (omega arith) in
-      let type = another 3 n (head .type .row) (writes-nothing n (n + 2) (Inside n (n + 2)) (omega arith)) (omega arith) (omega arith) (omega arith) in
-      let m₀ = join i (e + 2) (without (Inside n (n + 2)) 3 n) type parts (omega arith) in
-      let m₁ = another 4 n _ m₀ (omega arith) (omega arith) (omega arith) in
-      let m₂ = another 5 n _ m₁ (omega arith) (omega arith) (omega arith) in
-      let m₃ = another 4 (n + 1) _ m₂ (omega arith) (omega arith) (omega arith) in
-      let m₄ = another 5 (n + 1) _ m₃ (omega arith) (omega arith) (omega arith) in (
+      let type = another cType n (head .type .row) (writes-nothing n (n + 2) (Inside n (n + 2)) (omega arith)) (omega arith) (omega arith) (omega arith) in
+      let m₀ = join i (e + 2) (without (Inside n (n + 2)) cType n) type parts (omega arith) in
+      let m₁ = another cParameters n _ m₀ (omega arith) (omega arith) (omega arith) in
+      let m₂ = another cLocals n _ m₁ (omega arith) (omega arith) (omega arith) in
+      let m₃ = another cBody (n + 1) _ m₂ (omega arith) (omega arith) (omega arith) in
+      let m₄ = another cValue (n + 1) _ m₃ (omega arith) (omega arith) (omega arith) in (
         omega arith,
         omega arith,
         reshape i (e + 2) (nextOf n) m₄ (omega arith) (omega arith) λ tab h.
@@ -233,5 +233,5 @@ module _ {ts : List Token} where
       let n = length ts in
       let x = lies d in
       let y = classes-lie cs in
-      let all = another 6 0 _ (join 0 n (wholeRow 0) (x .2) y (omega arith)) (omega arith) (omega arith) (omega arith) in
+      let all = another cNext 0 _ (join 0 n (wholeRow 0) (x .2) y (omega arith)) (omega arith) (omega arith) (omega arith) in
       reshape 0 n nowhere all (omega arith) (omega arith) (λ tab h. record { statement = h .0 .0; first = h .1; classes = h .0 .1 })

@@ -16,7 +16,7 @@ placeFrom at none = absent
 placeFrom at (some s) = at + s .place
 
 pub record PlacePost (tab : List ℕ) (left row x at : ℕ) (r : ℕ) : Type 0 where
-  pub most : r ≤ 2048
+  pub most : r ≤ absent
   pub says : (n : ℕ) (ts : List Token) → Lexemes tab n ts → (vs : List Variable) → rowVariables vs ≡ row → VariablesHeld tab ts vs
       → length vs ≤ left
       → (text : List ℕ) → NameNumber ts text x → r ≡ placeFrom at (variableNamed vs text)

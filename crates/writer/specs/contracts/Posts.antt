@@ -7,7 +7,7 @@ use lib.ListN.{length}
 use lib.Dec.{eqb}
 use Rattle.base.specs.Choice.{if_then_else_}
 use Rattle.base.specs.Word.{modulus}
-use Rattle.base.specs.contracts.Table.{rows}
+use Rattle.base.specs.contracts.Table.{rows, cNumber, cBegin, cFirst, cSecond, cThird}
 use Rattle.lexer.specs.Kinds.{kIf}
 use Rattle.lexer.specs.Tokens.{Token}
 use Rattle.lexer.specs.contracts.Rows.{firstNamed}
@@ -182,7 +182,7 @@ module _ (tab names : List ℕ) (s : Scope) where
   -- the value of a variable
   pub record LoadPost (job : Job) (c c′ : List ℕ) (r : ℕ) : Type 0 where
     pub within : r ≤ room
-    pub says : Whatever λ ts G Γ. (x : List ℕ) → NameNumber ts x (wordAt tab 2 (job .row))
+    pub says : Whatever λ ts G Γ. (x : List ℕ) → NameNumber ts x (wordAt tab cNumber (job .row))
         → Written ts (λ k. load (meaning G Γ x) ∷ k) (suc (job .at)) (job .at) c c′ r
 
   -- the expression in a row and an instruction with these words; the two parts of the node in a row and such an instruction
@@ -194,21 +194,21 @@ module _ (tab names : List ℕ) (s : Scope) where
 
   -- the first part of the node in a row and an instruction that has the position where the node begins
   abbrev pub LocatedPost : (op : ℕ) (job : Job) (c c′ : List ℕ) (r : ℕ) → Type 0
-  LocatedPost op job c c′ r = FollowedPost op (wordAt tab 3 (job .row)) (partOf tab 4 job (job .at)) c c′ r
+  LocatedPost op job c c′ r = FollowedPost op (wordAt tab cBegin (job .row)) (partOf tab cFirst job (job .at)) c c′ r
 
   pub record PairPost (op arg : ℕ) (job : Job) (c c′ : List ℕ) (r : ℕ) : Type 0 where
     pub within : r ≤ room
     pub says : Whatever λ ts G Γ. (x : Instruction) → words op arg 0 0 ≡ encode (firstNamed ts) x → (a b : Expression)
-        → PartAt tab ts (wordAt tab 4 (job .row)) (PartBounded (s .tokens) (job .left) expression) a
-        → PartAt tab ts (wordAt tab 5 (job .row)) (PartBounded (s .tokens) (job .left) expression) b
+        → PartAt tab ts (wordAt tab cFirst (job .row)) (PartBounded (s .tokens) (job .left) expression) a
+        → PartAt tab ts (wordAt tab cSecond (job .row)) (PartBounded (s .tokens) (job .left) expression) b
         → Written ts (λ k. emit G Γ a (job .at) (emit G Γ b (end a (job .at)) (x ∷ k))) (suc (end b (end a (job .at)))) (job .at) c c′ r
 
   -- the two parts of the node in a row, the second behind a jump over it
   pub record ConjunctionPost (job : Job) (c c′ : List ℕ) (r : ℕ) : Type 0 where
     pub within : r ≤ room
     pub says : Whatever λ ts G Γ. (a b : Expression)
-        → PartAt tab ts (wordAt tab 4 (job .row)) (PartBounded (s .tokens) (job .left) expression) a
-        → PartAt tab ts (wordAt tab 5 (job .row)) (PartBounded (s .tokens) (job .left) expression) b
+        → PartAt tab ts (wordAt tab cFirst (job .row)) (PartBounded (s .tokens) (job .left) expression) a
+        → PartAt tab ts (wordAt tab cSecond (job .row)) (PartBounded (s .tokens) (job .left) expression) b
         → Written ts (λ k. emit G Γ a (job .at) (keep (end b (suc (end a (job .at)))) ∷ emit G Γ b (suc (end a (job .at))) k))
         (end b (suc (end a (job .at)))) (job .at) c c′ r
 
@@ -216,8 +216,8 @@ module _ (tab names : List ℕ) (s : Scope) where
   pub record BranchesPost (job : Job) (at : ℕ) (c c′ : List ℕ) (r : ℕ) : Type 0 where
     pub within : r ≤ room
     pub says : Whatever λ ts G Γ. (y z : Statement)
-        → PartAt tab ts (wordAt tab 5 (job .row)) (PartBounded (s .tokens) (job .left) statement) y
-        → PartAt tab ts (wordAt tab 7 (job .row)) (PartBounded (s .tokens) (job .left) statement) z
+        → PartAt tab ts (wordAt tab cSecond (job .row)) (PartBounded (s .tokens) (job .left) statement) y
+        → PartAt tab ts (wordAt tab cThird (job .row)) (PartBounded (s .tokens) (job .left) statement) z
         → Written ts
         (λ k. unless (suc (end y (suc at))) ∷ emit G Γ y (suc at)
         (jump (end z (suc (end y (suc at)))) ∷ emit G Γ z (suc (end y (suc at))) k))
@@ -226,11 +226,11 @@ module _ (tab names : List ℕ) (s : Scope) where
   -- the jump over the second branch, and the branch
   pub record OtherwisePost (job : Job) (at : ℕ) (c c′ : List ℕ) (r : ℕ) : Type 0 where
     pub within : r ≤ room
-    pub says : Whatever λ ts G Γ. (z : Statement) → PartAt tab ts (wordAt tab 7 (job .row)) (PartBounded (s .tokens) (job .left) statement) z
+    pub says : Whatever λ ts G Γ. (z : Statement) → PartAt tab ts (wordAt tab cThird (job .row)) (PartBounded (s .tokens) (job .left) statement) z
         → Written ts (λ k. jump (end z (suc at)) ∷ emit G Γ z (suc at) k) (end z (suc at)) at c c′ r
 
   -- the test's jump, the body, and the jump back
   pub record BodyPost (job : Job) (at : ℕ) (c c′ : List ℕ) (r : ℕ) : Type 0 where
     pub within : r ≤ room
-    pub says : Whatever λ ts G Γ. (y : Statement) → PartAt tab ts (wordAt tab 5 (job .row)) (PartBounded (s .tokens) (job .left) statement) y
+    pub says : Whatever λ ts G Γ. (y : Statement) → PartAt tab ts (wordAt tab cSecond (job .row)) (PartBounded (s .tokens) (job .left) statement) y
         → Written ts (λ k. unless (suc (end y (suc at))) ∷ emit G Γ y (suc at) (jump (job .at) ∷ k)) (suc (end y (suc at))) at c c′ r

@@ -15,6 +15,7 @@ use Rattle.typecheck.specs.contracts.CheckPost.{Holding}
 use Rattle.codegen.specs.contracts.Compile.{end, compile}
 use Rattle.writer.specs.contracts.Words.{store}
 use Rattle.writer.specs.contracts.Classes.{enteredClasses}
+use Rattle.writer.specs.contracts.Posts as Posts
 
 pub record CodeWritten (p : Program) (r : Finding) (tab code code′ entries entries′ : List ℕ) : Type 0 where
   pub stream : List Token
@@ -22,7 +23,7 @@ pub record CodeWritten (p : Program) (r : Finding) (tab code code′ entries ent
   pub world : ClassTableHeld tab (length stream) stream (p .classes)
   pub derived : DerivesProgram stream p
   pub code-is : code′ ≡ store (firstNamed stream) (compile p .instructions) 0 code
-  pub room : length (compile p .instructions) ≤ 8192
+  pub room : length (compile p .instructions) ≤ Posts.room
   pub entries-are : entries′ ≡ enteredClasses (p .classes) (suc (end (p .statement) 0)) entries
 
 -- what is written of the program that Check left in the table

@@ -2,6 +2,7 @@
 use Prim.Native.Nat.{ℕ, _<_}
 use mathlib.Core.Path.{_≡_}
 use mathlib.Core.List.{List}
+use Rattle.base.specs.Word.{modulus}
 use Rattle.lexer.specs.Tokens.{Token}
 use Rattle.parser.specs.Tree.{Class}
 use Rattle.typesystem.specs.ClassTable.{Context, meaning}
@@ -18,6 +19,6 @@ pub record Sees (tab names : List ℕ) (ts : List Token) (G : List Class) (Γ : 
   pub sizes : SizesHeld ts G names
 
 pub record SlotPost (tab : List ℕ) (s : Scope) (x : ℕ) (r : ℕ) : Type 0 where
-  pub most : r < 4294967296
+  pub most : r < modulus
   pub says : (ts : List Token) (G : List Class) (Γ : Context) → InScope tab ts G Γ s → (text : List ℕ) → NameNumber ts text x
       → r ≡ slotOf (meaning G Γ text)

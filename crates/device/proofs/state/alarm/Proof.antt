@@ -6,4 +6,4 @@ use Rattle.device.proofs.StateLaws.{first-of, second-of}
 
 pub alarm-spec : {M : Type 1} → statement M
 alarm-spec =
-    tie.close (tie.spec (λ c κs. search needs) (λ c. search (first-of, needs)) (λ c κs. search needs) (λ c. search (second-of, needs)))
+    tie.close (tie.spec (λ c κs. search needs) (λ c. search needs) (λ c κs. search needs) (λ c. search (first-of, needs)) (λ c κs. search needs) (λ c. search needs) (λ c κs. search needs) (λ c. search (second-of, needs)))

@@ -5,26 +5,26 @@ use mathlib.Core.Bool.{Bool, true, false, _&&_, _||_}
 use native.Mathlib.Omega.{arith}
 use lib.Dec.{leb}
 use borrow.Author.Tests.{le-leb, lt-leb}
-use Rattle.lexer.specs.Kinds.{isName}
+use Rattle.lexer.specs.Kinds.{isName, kName, kPrintln, kGet, kPut}
 use Rattle.lexer.proofs.kinds.is_name.Statement.{statement}
 use Rattle.lexer.proofs.kinds.is_name.Tie as tie
 
 module _ (k : ℕ) where
-  in-first : k ≤ 3 → leb 1 k ≡ isName k
+  in-first : k ≤ kPrintln → leb kName k ≡ isName k
   unfolding isName
-  in-first h = let l : k < 41 = omega arith in rw (le-leb k 3 h, lt-leb 41 k l) (alone (leb 1 k))
+  in-first h = let l : k < kGet = omega arith in rw (le-leb k kPrintln h, lt-leb kGet k l) (alone (leb kName k))
     where
       alone : (b : Bool) → b ≡ (b && true || false)
       alone true = refl
       alone false = refl
 
-  in-second : 3 < k → 41 ≤ k → leb k 42 ≡ isName k
+  in-second : kPrintln < k → kGet ≤ k → leb k kPut ≡ isName k
   unfolding isName
-  in-second h l = let p : 1 ≤ k = omega arith in rw (le-leb 1 k p, lt-leb k 3 h, le-leb 41 k l)
+  in-second h l = let p : kName ≤ k = omega arith in rw (le-leb kName k p, lt-leb k kPrintln h, le-leb kGet k l)
 
-  between : 3 < k → k < 41 → leb 41 k ≡ isName k
+  between : kPrintln < k → k < kGet → leb kGet k ≡ isName k
   unfolding isName
-  between h l = let p : 1 ≤ k = omega arith in rw (le-leb 1 k p, lt-leb k 3 h, lt-leb 41 k l)
+  between h l = let p : kName ≤ k = omega arith in rw (le-leb kName k p, lt-leb k kPrintln h, lt-leb kGet k l)
 
 pub is-name-spec : {M : Type 1} → statement M
 is-name-spec =

@@ -4,7 +4,8 @@ use Prim.Native.Nat.{_+_, _-_, _≤_, _<_}
 use native.Mathlib.Omega.{arith}
 use lib.ListN.{length}
 use mathlib.Core.Path.{sym, _∙_}
-use Rattle.base.specs.contracts.Table.{col}
+use Rattle.base.specs.contracts.Table.{col, cLink, cell}
+use Rattle.base.specs.Codes.{tokensMost, tableLeast}
 use Rattle.lexer.specs.contracts.Chains.{Sought}
 use Rattle.lexer.proofs.Chains.{row-inside, sought-row, sought-hit, sought-next, sought-none}
 use Rattle.lexer.proofs.names.lookup.Statement.{statement}
@@ -19,7 +20,7 @@ abbrev μ-loop : tie.MeasureT-loop
 -- the row of the chain is in the table
 inside : (c : tie.In-loop Inv-loop μ-loop)
     → let a = c .before .before .before .before .before .args in
-    (c .before .loop .link - 1 < a .count) × (a .count ≤ 2048) × (16384 ≤ length (a .table .now))
+    (c .before .loop .link - 1 < a .count) × (a .count ≤ tokensMost) × (tableLeast ≤ length (a .table .now))
 inside c = let v = c .before .loop .inv in (row-inside (c .loop-test .taken) v, v .filled .few, v .filled .big)
 
 has-text-requires : tie.Need-has-text-requires Inv-loop μ-loop
@@ -53,7 +54,7 @@ shared-slice-read-link : tie.Need-shared-slice-read-link Inv-loop μ-loop
 shared-slice-read-link c = omega (arith, inside (c .before .before .before))
 
 cast-link : tie.Need-cast-link Inv-loop μ-loop
-cast-link c = omega (arith, c .shared-slice-known5 .given (12288 + (c .before .before .before .before .loop .link - 1)))
+cast-link c = omega (arith, c .shared-slice-known5 .given (cell cLink (c .before .before .before .before .loop .link - 1)))
 
 loop-less : tie.Need-loop-less Inv-loop μ-loop
 unfolding col

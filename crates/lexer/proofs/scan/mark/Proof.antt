@@ -2,6 +2,7 @@
 use borrow.Author.Needs.{needs}
 use native.Mathlib.Omega.{arith}
 use mathlib.Core.Path.{sym, ap, _∙_}
+use Rattle.lexer.specs.Bytes.{bAmpersand}
 use Rattle.lexer.specs.contracts.Scan.{pieceOf}
 use Rattle.lexer.proofs.Items.{byte-inside, at-and, at-lone-and, piece-mark}
 use Rattle.lexer.proofs.scan.mark.Statement.{statement}
@@ -12,7 +13,7 @@ add-t8 c =
     let g = c .before .before .before .before in
     let s = g .args .source .now in
     let i = g .args .at in
-    let q = byte-inside s _ 38 (sym (c .before .byte-at .ensures) ∙ c .if2 .taken) (omega arith) in omega arith
+    let q = byte-inside s _ bAmpersand (sym (c .before .byte-at .ensures) ∙ c .if2 .taken) (omega arith) in omega arith
 
 returns : tie.Need-returns
 returns c =

@@ -4,6 +4,7 @@ use Prim.Native.Nat.{_<_}
 use native.Mathlib.Omega.{arith}
 use mathlib.Core.Path.{sym, _∙_}
 use lib.ListN.{length}
+use Rattle.lexer.specs.Bytes.{bDot}
 use Rattle.lexer.proofs.Items.{byte-inside, piece-fixed, piece-literal, piece-before-point}
 use Rattle.lexer.proofs.scan.number.Statement.{statement}
 use Rattle.lexer.proofs.scan.number.Tie as tie
@@ -12,7 +13,7 @@ use Rattle.lexer.proofs.scan.number.Tie as tie
 point-inside : (c : tie.Then1) → c .before .before .run-end .result < length (c .before .before .before .before .args .source .now)
 point-inside c =
     let g = c .before .before .before .before in
-    byte-inside (g .args .source .now) _ 46 (sym (c .before .byte-at .ensures) ∙ c .if1 .taken) (omega arith)
+    byte-inside (g .args .source .now) _ bDot (sym (c .before .byte-at .ensures) ∙ c .if1 .taken) (omega arith)
 
 add-byte-at : tie.Need-add-byte-at
 add-byte-at c = omega (arith, point-inside c)

@@ -2,6 +2,7 @@
 use borrow.Author.Needs.{needs}
 use native.Mathlib.Omega.{arith}
 use mathlib.Core.Path.{sym, ap, _∙_}
+use Rattle.lexer.specs.Bytes.{bStar}
 use Rattle.lexer.specs.contracts.Scan.{pieceOf}
 use Rattle.lexer.proofs.Items.{byte-inside, at-slash, onClosing, piece-line, piece-block}
 use Rattle.lexer.proofs.scan.slash.Statement.{statement}
@@ -17,7 +18,7 @@ comment-end-requires : tie.Need-comment-end-requires
 comment-end-requires c κs =
     let b = c .before .before in
     let s = b .before .before .args .source .now in
-    let q = byte-inside s _ 42 (sym (b .byte-at .ensures) ∙ c .if2 .taken) (omega arith) in
+    let q = byte-inside s _ bStar (sym (b .byte-at .ensures) ∙ c .if2 .taken) (omega arith) in
     omega arith
 
 enum-told : tie.Need-enum-told

@@ -2,6 +2,7 @@
 use Prim.Native.Nat.{ℕ, _+_, _-_, _≤_, _<_}
 use borrow.Fn.Kinds.{In}
 use borrow.Fn.PlainCycle.{Measures}
+use Rattle.lexer.specs.Kinds.{kComma}
 use Rattle.parser.proofs.decl.some_parameters.Reads as some-parameters
 use Rattle.parser.proofs.decl.some_parameters.Kinds as some-parameters-kinds
 use Rattle.parser.proofs.decl.+some_parameters.Lts-some_parameters as some-parameters-lts
@@ -55,7 +56,7 @@ module _ (t : ℕ) where
   some-parameters-some-parameters-requires c κs =
       let a = c .before .before .before .before .before .before in
       let l = there (a .before .before .before .before .variable .last .0)
-      (a .before .before .before .before .before .before .before .args .n) (a .a .given .0 .1 .0) _ 32
+      (a .before .before .before .before .before .before .before .args .n) (a .a .given .0 .1 .0) _ kComma
       (c .before .before .before .kind .ensures) (c .before .if2 .taken) (lit< tt) in
       omega (arith, bounds a)
 

@@ -3,6 +3,7 @@ use mathlib.Core.Path.{refl}
 use borrow.Author.Needs.{needs}
 use native.Mathlib.Omega.{arith}
 use lib.Dec.{lit<}
+use Rattle.lexer.specs.Kinds.{kPublic}
 use Rattle.parser.proofs.Laws.{there, within-ok}
 use Rattle.parser.proofs.Pieces.{follows-ok}
 use Rattle.parser.proofs.Methods.{ends-there, method-bad, method-parameters, method-ok}
@@ -11,7 +12,7 @@ use Rattle.parser.proofs.decl.method.Tie as tie
 
 variable-requires : tie.Need-variable-requires
 variable-requires c κs =
-    let w = there (c .before .before .args .table .now) (c .before .before .args .n) (c .before .before .args .i) _ 15 refl
+    let w = there (c .before .before .args .table .now) (c .before .before .args .n) (c .before .before .args .i) _ kPublic refl
     (c .before .before .pre .1) (lit< tt) in
     omega arith
 

@@ -2,6 +2,7 @@
 use borrow.Author.Needs.{needs}
 use native.Mathlib.Omega.{arith}
 use lib.Dec.{lit<}
+use Rattle.lexer.specs.Kinds.{kOpenBrace}
 use Rattle.parser.proofs.Laws.{there}
 use Rattle.parser.proofs.Variables.{opened-not, opened-ok}
 use Rattle.parser.proofs.decl.opened.Statement.{statement}
@@ -10,7 +11,7 @@ use Rattle.parser.proofs.decl.opened.Tie as tie
 variables-requires : tie.Need-variables-requires
 variables-requires c κs =
     let g = c .before .before .before .before .before in
-    let w = there (g .args .table .now) (g .args .n) (g .args .j) _ 38 (c .before .before .kind .ensures) (c .before .if1 .taken)
+    let w = there (g .args .table .now) (g .args .n) (g .args .j) _ kOpenBrace (c .before .before .kind .ensures) (c .before .if1 .taken)
     (lit< tt) in
     omega arith
 

@@ -2,6 +2,7 @@
 use native.Mathlib.Omega.{arith}
 use lib.Dec.{lit<}
 use mathlib.Core.Path.{refl}
+use Rattle.lexer.specs.Kinds.{kNew}
 use Rattle.parser.proofs.Laws.{there}
 use Rattle.parser.proofs.Postfix.{object-ok, object-close, object-open, object-name}
 use borrow.Author.Needs.{needs}
@@ -9,7 +10,7 @@ use Rattle.parser.proofs.expr.new_object.Statement.{statement}
 use Rattle.parser.proofs.expr.new_object.Tie as tie
 
 node-requires : tie.Need-node-requires
-node-requires c κs = omega (arith, there (c .before .before .before .before .before .before .before .before .before .before .before .before .args .table .now) (c .before .before .before .before .before .before .before .before .before .before .before .before .args .n) (c .before .before .before .before .before .before .before .before .before .before .before .before .args .i) _ 14 refl (c .before .before .before .before .before .before .before .before .before .before .before .before .pre .1) (lit< tt))
+node-requires c κs = omega (arith, there (c .before .before .before .before .before .before .before .before .before .before .before .before .args .table .now) (c .before .before .before .before .before .before .before .before .before .before .before .before .args .n) (c .before .before .before .before .before .before .before .before .before .before .before .before .args .i) _ kNew refl (c .before .before .before .before .before .before .before .before .before .before .before .before .pre .1) (lit< tt))
 
 pub new-object-spec : {M : Type 1} → statement M
 new-object-spec =

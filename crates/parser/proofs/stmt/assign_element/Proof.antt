@@ -4,6 +4,7 @@ use mathlib.Core.Path.{refl}
 use borrow.Author.Needs.{needs}
 use native.Mathlib.Omega.{arith}
 use lib.Dec.{lit<}
+use Rattle.lexer.specs.Kinds.{kOpenBracket}
 use Rattle.parser.proofs.Laws.{there}
 use Rattle.parser.proofs.Statements.{index-bad, value-ok}
 use Rattle.parser.proofs.Pieces.{mode-fits, two-follow, follows-fits}
@@ -22,7 +23,7 @@ bounds c =
 
 operation-requires : tie.Need-operation-requires
 operation-requires c κs =
-    let w = there (c .before .before .args .table .now) (c .before .before .args .n) (c .before .before .args .i + 1) _ 36 refl
+    let w = there (c .before .before .args .table .now) (c .before .before .args .n) (c .before .before .args .i + 1) _ kOpenBracket refl
     (c .before .before .pre .2) (lit< tt) in
     omega arith
 

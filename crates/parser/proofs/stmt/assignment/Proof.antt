@@ -3,6 +3,7 @@ use Prim.Native.Nat.{_+_}
 use borrow.Author.Needs.{needs}
 use native.Mathlib.Omega.{arith}
 use lib.Dec.{lit<}
+use Rattle.lexer.specs.Kinds.{kAssign}
 use Rattle.parser.proofs.Laws.{there}
 use Rattle.parser.proofs.Statements.{assign-missing, assign-ok}
 use Rattle.parser.proofs.Pieces.{mode-fits, follows-fits}
@@ -12,14 +13,14 @@ use Rattle.parser.proofs.stmt.assignment.Tie as tie
 operation-requires : tie.Need-operation-requires
 operation-requires c κs =
     let g = c .before .before .before .before .before .before in
-    let w = there (g .args .table .now) (g .args .n) (g .args .i + 1) _ 30 (c .before .before .before .kind .ensures)
+    let w = there (g .args .table .now) (g .args .n) (g .args .i + 1) _ kAssign (c .before .before .before .kind .ensures)
     (c .before .if2 .taken) (lit< tt) in
     omega arith
 
 one-part-requires : tie.Need-one-part-requires
 one-part-requires c κs =
     let g = c .before .before .before .before .before .before .before .before .before .before .before .before in
-    let w = there (g .args .table .now) (g .args .n) (g .args .i + 1) _ 30
+    let w = there (g .args .table .now) (g .args .n) (g .args .i + 1) _ kAssign
     (c .before .before .before .before .before .before .before .before .before .kind .ensures)
     (c .before .before .before .before .before .before .before .if2 .taken) (lit< tt) in (
       omega arith,

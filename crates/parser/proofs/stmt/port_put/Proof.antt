@@ -4,6 +4,7 @@ use mathlib.Core.Path.{refl}
 use borrow.Author.Needs.{needs}
 use native.Mathlib.Omega.{arith}
 use lib.Dec.{lit<}
+use Rattle.lexer.specs.Kinds.{kPort}
 use Rattle.parser.specs.Parse.{putHead}
 use Rattle.parser.proofs.Laws.{there, within-ok}
 use Rattle.parser.proofs.Pieces.{mode-fits, follows-within, follows-fits}
@@ -14,7 +15,7 @@ use Rattle.parser.proofs.stmt.port_put.Tie as tie
 
 -- the `Port` is there
 begun : (g : tie.Start) → g .args .i < g .args .n
-begun g = there (g .args .table .now) (g .args .n) (g .args .i) _ 40 refl (g .pre .1) (lit< tt)
+begun g = there (g .args .table .now) (g .args .n) (g .args .i) _ kPort refl (g .pre .1) (lit< tt)
 
 member-head-requires : tie.Need-member-head-requires
 member-head-requires c κs = omega (arith, begun (c .before .before), c .before .before .pre .0)
@@ -28,7 +29,7 @@ operation-requires : tie.Need-operation-requires
 operation-requires c κs =
     let h = c .before .before in
     let g = h .before .before .before in
-    let w = head-there (g .args .table .now) (g .args .n) (g .args .i) 40 _ putHead (omega arith) (lit< tt) (g .pre .1) (h .member-head .ensures) in
+    let w = head-there (g .args .table .now) (g .args .n) (g .args .i) kPort _ putHead (omega arith) (lit< tt) (g .pre .1) (h .member-head .ensures) in
     omega (arith, g .pre .0)
 
 operation-requires-2 : tie.Need-operation-requires-2

@@ -4,6 +4,7 @@ use mathlib.Core.Path.{refl}
 use borrow.Author.Needs.{needs}
 use native.Mathlib.Omega.{arith}
 use lib.Dec.{lit<}
+use Rattle.lexer.specs.Kinds.{kSystem}
 use Rattle.parser.proofs.Laws.{there}
 use Rattle.parser.specs.Parse.{printHead}
 use Rattle.parser.proofs.Heads.{head-there}
@@ -14,7 +15,7 @@ use Rattle.parser.proofs.stmt.print.Tie as tie
 
 -- the `System.out.println` is there
 begun : (g : tie.Start) → g .args .i < g .args .n
-begun g = there (g .args .table .now) (g .args .n) (g .args .i) _ 19 refl (g .pre .1) (lit< tt)
+begun g = there (g .args .table .now) (g .args .n) (g .args .i) _ kSystem refl (g .pre .1) (lit< tt)
 
 matched-requires : tie.Need-matched-requires
 matched-requires c κs = omega (arith, begun (c .before .before .before), c .before .before .before .pre .0)
@@ -22,7 +23,7 @@ matched-requires c κs = omega (arith, begun (c .before .before .before), c .bef
 operation-requires : tie.Need-operation-requires
 operation-requires c κs =
     let g = c .before .before .before .before .before .before in
-    let w = head-there (g .args .table .now) (g .args .n) (g .args .i) 19 _ printHead (omega arith) (lit< tt) (g .pre .1)
+    let w = head-there (g .args .table .now) (g .args .n) (g .args .i) kSystem _ printHead (omega arith) (lit< tt) (g .pre .1)
     (c .before .before .matched .ensures) in
     omega arith
 

@@ -3,6 +3,7 @@ use Prim.Native.Nat.{_+_}
 use borrow.Author.Needs.{needs}
 use native.Mathlib.Omega.{arith}
 use lib.Dec.{lit<}
+use Rattle.lexer.specs.Kinds.{kOpen}
 use Rattle.parser.proofs.Laws.{there}
 use Rattle.parser.proofs.Statements.{test-open, test-ok}
 use Rattle.parser.proofs.stmt.test.Statement.{statement}
@@ -11,7 +12,7 @@ use Rattle.parser.proofs.stmt.test.Tie as tie
 operation-requires : tie.Need-operation-requires
 operation-requires c κs =
     let g = c .before .before .before .before .before in
-    let w = there (g .args .table .now) (g .args .n) (g .args .i + 1) _ 34 (c .before .before .kind .ensures) (c .before .if1 .taken)
+    let w = there (g .args .table .now) (g .args .n) (g .args .i + 1) _ kOpen (c .before .before .kind .ensures) (c .before .if1 .taken)
     (lit< tt) in
     omega arith
 

@@ -3,6 +3,7 @@
 use Prim.Native.Nat.{ℕ, _+_, _*_, _-_, _<_}
 use borrow.Fn.Kinds.{In}
 use borrow.Fn.PlainCycle.{Measures, is, falls, and}
+use Rattle.base.specs.contracts.Table.{rows}
 use Rattle.reader.proofs.walk.node.Reads as node
 use Rattle.reader.proofs.walk.node.Kinds as node-kinds
 use Rattle.reader.proofs.walk.+node+part.Lts-node as node-lts
@@ -45,7 +46,7 @@ abbrev part-Inv-loop : part-lts.InvT-loop
 part-Inv-loop table n chain row d all₀ at₀ all at = SoFar (λ i w. Walks table n chain i d w) row at all
 
 abbrev part-μ-loop : part-lts.MeasureT-loop
-part-μ-loop table n chain row d all₀ at₀ all at = 2048 - at
+part-μ-loop table n chain row d all₀ at₀ all at = rows - at
 
 module _ (t : ℕ) where
   node-returns : node-lts.Need-returns (node-calls t) (node-at t) node.Post

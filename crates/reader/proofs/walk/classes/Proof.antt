@@ -4,6 +4,7 @@ use Prim.Native.Nat.{_-_}
 use mathlib.Core.Bool.{true}
 use native.Mathlib.Omega.{arith}
 use borrow.Author.Needs.{needs}
+use Rattle.base.specs.contracts.Table.{rows}
 use Rattle.reader.specs.contracts.WalkPost.{WalksClasses}
 use Rattle.reader.proofs.Lists.{SoFar, so-far-none, so-far-more, so-far-end, follower-rises}
 use Rattle.reader.proofs.Declarations.{classes-none, classes-step, classes-absent}
@@ -14,7 +15,7 @@ abbrev Inv-loop : tie.InvT-loop
 Inv-loop table n row all₀ at₀ all at = SoFar (WalksClasses table n) row at all
 
 abbrev μ-loop : tie.MeasureT-loop
-μ-loop table n row all₀ at₀ all at = 2048 - at
+μ-loop table n row all₀ at₀ all at = rows - at
 
 loop-holds : tie.Need-loop-holds Inv-loop μ-loop
 loop-holds c = so-far-none _ (c .nothing .ensures .0) (c .nothing .ensures .1) (λ rest w k j. classes-none (c .nothing .ensures .0) (c .nothing .ensures .1) k j)

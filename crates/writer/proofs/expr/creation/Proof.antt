@@ -6,12 +6,13 @@ use Rattle.writer.proofs.ExpressionLaws.{creation-wrote, creation-none}
 use borrow.Author.Needs.{needs}
 use Rattle.writer.proofs.expr.creation.Statement.{statement}
 use Rattle.writer.proofs.expr.creation.Tie as tie
+use Rattle.writer.specs.contracts.Sizing.{sizesFrom}
 
 cast-size : tie.Need-cast-size
-cast-size c = omega (arith, c .shared-slice-known3 .given (4096 + c .before .before .before .word .result))
+cast-size c = omega (arith, c .shared-slice-known3 .given (sizesFrom + c .before .before .before .word .result))
 
 put-requires : tie.Need-put-requires
-put-requires c κs = omega (arith, c .before .shared-slice-known3 .given (4096 + c .before .before .before .before .word .result))
+put-requires c κs = omega (arith, c .before .shared-slice-known3 .given (sizesFrom + c .before .before .before .before .word .result))
 
 returns : tie.Need-returns
 returns c = creation-wrote (c .before .before .before .before .before .before .before .word .ensures .0)

@@ -1,4 +1,5 @@
 -- Each return is a law of `ScopeLaws`; but a number of no name has no meaning, and a word of the array fits.
+use Rattle.lookup.specs.contracts.Fields.{slotsFrom}
 use Rattle.writer.proofs.scope.slot.Statement.{statement}
 use Rattle.writer.proofs.scope.slot.Tie as tie
 use borrow.Author.Needs.{needs}
@@ -10,10 +11,10 @@ cast-if4 : tie.Need-cast-if4
 cast-if4 c = omega (arith, c .shared-slice-known3 .given (c .before .before .before .before .before .before .before .before .args .x))
 
 cast-result : tie.Need-cast-result
-cast-result c = omega (arith, c .shared-slice-known4 .given (2048 + c .before .before .before .before .before .before .before .before .before .before .args .x))
+cast-result c = omega (arith, c .shared-slice-known4 .given (slotsFrom + c .before .before .before .before .before .before .before .before .before .before .args .x))
 
 returns-5 : tie.Need-returns-5
-returns-5 c = search (slot-held, c .shared-slice-known4 .given (2048 + c .before .before .before .before .before .before .before .before .before .before .args .x))
+returns-5 c = search (slot-held, c .shared-slice-known4 .given (slotsFrom + c .before .before .before .before .before .before .before .before .before .before .args .x))
 
 pub slot-spec : {M : Type 1} → statement M
 slot-spec =

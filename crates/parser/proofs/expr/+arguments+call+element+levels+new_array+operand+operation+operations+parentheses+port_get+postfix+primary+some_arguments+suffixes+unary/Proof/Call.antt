@@ -1,5 +1,6 @@
 -- The answers of `call`.
 use Prim.Native.Nat.{ℕ, _<_}
+use Rattle.lexer.specs.Kinds.{kOpen}
 use Rattle.parser.proofs.expr.call.Reads as call
 use Rattle.parser.proofs.expr.+arguments+call+element+levels+new_array+operand+operation+operations+parentheses+port_get+postfix+primary+some_arguments+suffixes+unary.Lts-call as call-lts
 use Prim.Native.Nat.{_+_}
@@ -30,16 +31,16 @@ module _ (t : ℕ) where
   call-add-arguments c = search needs
 
   pub call-arguments-requires : call-lts.Need-arguments-requires (call-calls t) (call-at t) call.Post
-  call-arguments-requires c κs = omega (arith, there (c .before .before .before .before .before .before .before .before .before .args .table .now) (c .before .before .before .before .before .before .before .before .before .args .n) (c .before .before .before .before .before .before .before .before .before .args .i + 2) _ 34 (c .before .before .kind2 .ensures) (c .before .if2 .taken) (lit< tt))
+  call-arguments-requires c κs = omega (arith, there (c .before .before .before .before .before .before .before .before .before .args .table .now) (c .before .before .before .before .before .before .before .before .before .args .n) (c .before .before .before .before .before .before .before .before .before .args .i + 2) _ kOpen (c .before .before .kind2 .ensures) (c .before .if2 .taken) (lit< tt))
 
   pub call-enum-known-a : call-lts.Need-enum-known-a (call-calls t) (call-at t) call.Post
   call-enum-known-a c = search needs
 
   pub call-node-requires : call-lts.Need-node-requires (call-calls t) (call-at t) call.Post
-  call-node-requires c κs = omega (arith, there (c .before .before .before .before .before .before .before .before .before .before .before .before .before .before .before .before .args .table .now) (c .before .before .before .before .before .before .before .before .before .before .before .before .before .before .before .before .args .n) (c .before .before .before .before .before .before .before .before .before .before .before .before .before .before .before .before .args .i + 2) _ 34 (c .before .before .before .before .before .before .before .before .before .kind2 .ensures) (c .before .before .before .before .before .before .before .before .if2 .taken) (lit< tt), within-ok (c .before .before .a .given .1) (c .before .before .before .before .before .before .arguments .ensures .within))
+  call-node-requires c κs = omega (arith, there (c .before .before .before .before .before .before .before .before .before .before .before .before .before .before .before .before .args .table .now) (c .before .before .before .before .before .before .before .before .before .before .before .before .before .before .before .before .args .n) (c .before .before .before .before .before .before .before .before .before .before .before .before .before .before .before .before .args .i + 2) _ kOpen (c .before .before .before .before .before .before .before .before .before .kind2 .ensures) (c .before .before .before .before .before .before .before .before .if2 .taken) (lit< tt), within-ok (c .before .before .a .given .1) (c .before .before .before .before .before .before .arguments .ensures .within))
 
   pub call-suffixes-requires : call-lts.Need-suffixes-requires (call-calls t) (call-at t) call.Post
-  call-suffixes-requires c κs = omega (arith, there (c .before .before .before .before .before .before .before .before .before .before .before .before .before .before .before .before .before .before .before .before .args .table .now) (c .before .before .before .before .before .before .before .before .before .before .before .before .before .before .before .before .before .before .before .before .args .n) (c .before .before .before .before .before .before .before .before .before .before .before .before .before .before .before .before .before .before .before .before .args .i + 2) _ 34 (c .before .before .before .before .before .before .before .before .before .before .before .before .before .kind2 .ensures) (c .before .before .before .before .before .before .before .before .before .before .before .before .if2 .taken) (lit< tt), within-ok (c .before .before .before .before .before .before .a .given .1) (c .before .before .before .before .before .before .before .before .before .before .arguments .ensures .within))
+  call-suffixes-requires c κs = omega (arith, there (c .before .before .before .before .before .before .before .before .before .before .before .before .before .before .before .before .before .before .before .before .args .table .now) (c .before .before .before .before .before .before .before .before .before .before .before .before .before .before .before .before .before .before .before .before .args .n) (c .before .before .before .before .before .before .before .before .before .before .before .before .before .before .before .before .before .before .before .before .args .i + 2) _ kOpen (c .before .before .before .before .before .before .before .before .before .before .before .before .before .kind2 .ensures) (c .before .before .before .before .before .before .before .before .before .before .before .before .if2 .taken) (lit< tt), within-ok (c .before .before .before .before .before .before .a .given .1) (c .before .before .before .before .before .before .before .before .before .before .arguments .ensures .within))
 
   pub call-same-length : call-lts.Need-same-length (call-calls t) (call-at t) call.Post
   call-same-length c = search needs

@@ -1,5 +1,7 @@
 -- The answers of `element`.
 use Prim.Native.Nat.{ℕ, _+_, _≤_, _<_}
+use Rattle.base.specs.Codes.{tokensMost}
+use Rattle.lexer.specs.Kinds.{kOpenBracket}
 use Rattle.parser.proofs.expr.element.Reads as element
 use Rattle.parser.proofs.expr.+arguments+call+element+levels+new_array+operand+operation+operations+parentheses+port_get+postfix+primary+some_arguments+suffixes+unary.Lts-element as element-lts
 use mathlib.Core.Path.{refl}
@@ -17,7 +19,7 @@ module _ (t : ℕ) where
   -- an index was read, and the `]` after it
   bounds : (c : element-lts.After-b (element-calls t) (element-at t) element.Post)
       → let g = c .before .before .before .before .before .before .before .before .before .args in
-      (g .n ≤ 2048) × (g .first < g .n) × (g .left < g .n)
+      (g .n ≤ tokensMost) × (g .first < g .n) × (g .left < g .n)
       × (g .i + 2 < c .b .given .0 .1 .0) × (c .b .given .0 .1 .0 ≤ g .n) × (c .b .given .0 .0 < g .n)
   bounds c =
       let r = c .before .before .before .before .before .before .before .before .before .pre .1 in
@@ -30,7 +32,7 @@ module _ (t : ℕ) where
 
   pub element-operation-requires : element-lts.Need-operation-requires (element-calls t) (element-at t) element.Post
   element-operation-requires c κs =
-      let w = there (c .before .before .args .table .now) (c .before .before .args .n) (c .before .before .args .i) _ 36 refl
+      let w = there (c .before .before .args .table .now) (c .before .before .args .n) (c .before .before .args .i) _ kOpenBracket refl
       (c .before .before .pre .1 .3) (lit< tt) in
       omega arith
 

@@ -1,5 +1,7 @@
 -- The answers of `new_array`.
 use Prim.Native.Nat.{ℕ, _+_, _≤_, _<_}
+use Rattle.base.specs.Codes.{tokensMost}
+use Rattle.lexer.specs.Kinds.{kOpenBracket}
 use Rattle.parser.proofs.expr.new_array.Reads as new-array
 use Rattle.parser.proofs.expr.+arguments+call+element+levels+new_array+operand+operation+operations+parentheses+port_get+postfix+primary+some_arguments+suffixes+unary.Lts-new_array as new-array-lts
 use borrow.Author.Needs.{needs}
@@ -16,7 +18,7 @@ module _ (t : ℕ) where
   -- a length was read, and the `]` after it
   bounds : (c : new-array-lts.After-b (new-array-calls t) (new-array-at t) new-array.Post)
       → let g = c .before .before .before .before .before .before .before .before .before .before .before .before .args in
-      (g .n ≤ 2048) × (g .i + 4 < c .b .given .0 .1 .0) × (c .b .given .0 .1 .0 ≤ g .n) × (c .b .given .0 .0 < g .n)
+      (g .n ≤ tokensMost) × (g .i + 4 < c .b .given .0 .1 .0) × (c .b .given .0 .1 .0 ≤ g .n) × (c .b .given .0 .0 < g .n)
   bounds c =
       let l = follows-ok (c .b .given .1) (c .before .before .followed .ensures) (lit< tt)
       (c .before .before .before .before .before .before .operation .ensures .within) in
@@ -36,7 +38,7 @@ module _ (t : ℕ) where
   new-array-operation-requires c κs =
       let k = c .before in
       let g = k .before .before .before .before .args in
-      let w = there (g .table .now) (g .n) (g .i + 2) _ 36 (k .before .kind .ensures) (k .if1 .taken) (lit< tt) in
+      let w = there (g .table .now) (g .n) (g .i + 2) _ kOpenBracket (k .before .kind .ensures) (k .if1 .taken) (lit< tt) in
       omega arith
 
   pub new-array-followed-requires : new-array-lts.Need-followed-requires (new-array-calls t) (new-array-at t) new-array.Post

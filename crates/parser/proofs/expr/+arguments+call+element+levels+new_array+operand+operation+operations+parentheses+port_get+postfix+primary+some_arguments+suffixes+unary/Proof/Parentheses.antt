@@ -1,5 +1,6 @@
 -- The answers of `parentheses`.
 use Prim.Native.Nat.{ℕ, _<_}
+use Rattle.lexer.specs.Kinds.{kOpen}
 use Rattle.parser.proofs.expr.parentheses.Reads as parentheses
 use Rattle.parser.proofs.expr.+arguments+call+element+levels+new_array+operand+operation+operations+parentheses+port_get+postfix+primary+some_arguments+suffixes+unary.Lts-parentheses as parentheses-lts
 use mathlib.Core.Path.{refl}
@@ -15,7 +16,7 @@ module _ (t : ℕ) where
   parentheses-add-operation c = search needs
 
   pub parentheses-operation-requires : parentheses-lts.Need-operation-requires (parentheses-calls t) (parentheses-at t) parentheses.Post
-  parentheses-operation-requires c κs = omega (arith, there (c .before .before .args .table .now) (c .before .before .args .n) (c .before .before .args .i) _ 34 refl (c .before .before .pre .1 .1) (lit< tt))
+  parentheses-operation-requires c κs = omega (arith, there (c .before .before .args .table .now) (c .before .before .args .n) (c .before .before .args .i) _ kOpen refl (c .before .before .pre .1 .1) (lit< tt))
 
   pub parentheses-enum-known-a : parentheses-lts.Need-enum-known-a (parentheses-calls t) (parentheses-at t) parentheses.Post
   parentheses-enum-known-a c = search needs

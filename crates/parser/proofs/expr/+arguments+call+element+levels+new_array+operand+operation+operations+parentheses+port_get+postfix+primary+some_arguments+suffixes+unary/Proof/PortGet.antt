@@ -1,5 +1,6 @@
 -- The answers of `port_get`.
 use Prim.Native.Nat.{ℕ, _<_}
+use Rattle.lexer.specs.Kinds.{kPort}
 use Rattle.parser.proofs.expr.port_get.Reads as port-get
 use Rattle.parser.proofs.expr.+arguments+call+element+levels+new_array+operand+operation+operations+parentheses+port_get+postfix+primary+some_arguments+suffixes+unary.Lts-port_get as port-get-lts
 use mathlib.Core.Path.{refl}
@@ -17,7 +18,7 @@ use Rattle.parser.proofs.expr.+arguments+call+element+levels+new_array+
 module _ (t : ℕ) where
   -- the `Port` is there
   begun : (g : port-get-lts.Start (port-get-calls t) (port-get-at t) port-get.Post) → g .args .i < g .args .n
-  begun g = there (g .args .table .now) (g .args .n) (g .args .i) _ 40 refl (g .pre .1 .1) (lit< tt)
+  begun g = there (g .args .table .now) (g .args .n) (g .args .i) _ kPort refl (g .pre .1 .1) (lit< tt)
 
   pub port-get-member-head-requires : port-get-lts.Need-member-head-requires (port-get-calls t) (port-get-at t) port-get.Post
   port-get-member-head-requires c κs = omega (arith, begun (c .before .before), c .before .before .pre .1)
@@ -44,7 +45,7 @@ module _ (t : ℕ) where
   port-get-operation-requires c κs =
       let h = c .before .before in
       let g = h .before .before .before in
-      let w = head-there (g .args .table .now) (g .args .n) (g .args .i) 40 _ getHead (omega arith) (lit< tt) (g .pre .1 .1) (h .member-head .ensures) in
+      let w = head-there (g .args .table .now) (g .args .n) (g .args .i) kPort _ getHead (omega arith) (lit< tt) (g .pre .1 .1) (h .member-head .ensures) in
       omega (arith, g .pre .1 .0)
 
   pub port-get-followed-requires : port-get-lts.Need-followed-requires (port-get-calls t) (port-get-at t) port-get.Post

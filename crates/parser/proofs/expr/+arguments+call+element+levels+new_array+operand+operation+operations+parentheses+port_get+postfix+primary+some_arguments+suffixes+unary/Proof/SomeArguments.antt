@@ -1,5 +1,6 @@
 -- The answers of `some_arguments`.
 use Prim.Native.Nat.{ℕ, _+_, _≤_, _<_}
+use Rattle.lexer.specs.Kinds.{kComma}
 use Rattle.parser.proofs.expr.some_arguments.Reads as some-arguments
 use Rattle.parser.proofs.expr.+arguments+call+element+levels+new_array+operand+operation+operations+parentheses+port_get+postfix+primary+some_arguments+suffixes+unary.Lts-some_arguments as some-arguments-lts
 use borrow.Author.Needs.{needs}
@@ -50,7 +51,7 @@ module _ (t : ℕ) where
   some-arguments-some-arguments-requires c κs =
       let a = c .before .before .before .before .before .before in
       let l = there (a .before .before .before .before .operation .last .0)
-      (a .before .before .before .before .before .before .before .args .n) (a .a .given .0 .1 .0) _ 32
+      (a .before .before .before .before .before .before .before .args .n) (a .a .given .0 .1 .0) _ kComma
       (c .before .before .before .kind .ensures) (c .before .if2 .taken) (lit< tt) in
       omega (arith, bounds a)
 

@@ -1,5 +1,6 @@
 -- The answers of `suffixes`.
 use Prim.Native.Nat.{ℕ, _<_}
+use Rattle.lexer.specs.Kinds.{kLength, kDot}
 use Rattle.parser.proofs.expr.suffixes.Reads as suffixes
 use Rattle.parser.proofs.expr.+arguments+call+element+levels+new_array+operand+operation+operations+parentheses+port_get+postfix+primary+some_arguments+suffixes+unary.Lts-suffixes as suffixes-lts
 use Prim.Native.Nat.{_+_}
@@ -36,13 +37,13 @@ module _ (t : ℕ) where
   suffixes-kind-requires-2 c κs = search needs
 
   pub suffixes-node-requires : suffixes-lts.Need-node-requires (suffixes-calls t) (suffixes-at t) suffixes.Post
-  suffixes-node-requires c κs = omega (arith, there (c .before .before .before .before .before .before .before .before .before .args .table .now) (c .before .before .before .before .before .before .before .before .before .args .n) (c .before .before .before .before .before .before .before .before .before .args .i) _ 31 (c .before .before .before .before .before .before .kind .ensures) (c .before .before .before .before .if3 .taken) (lit< tt))
+  suffixes-node-requires c κs = omega (arith, there (c .before .before .before .before .before .before .before .before .before .args .table .now) (c .before .before .before .before .before .before .before .before .before .args .n) (c .before .before .before .before .before .before .before .before .before .args .i) _ kDot (c .before .before .before .before .before .before .kind .ensures) (c .before .before .before .before .if3 .taken) (lit< tt))
 
   pub suffixes-add-suffixes : suffixes-lts.Need-add-suffixes (suffixes-calls t) (suffixes-at t) suffixes.Post
   suffixes-add-suffixes c = search needs
 
   pub suffixes-suffixes-requires : suffixes-lts.Need-suffixes-requires (suffixes-calls t) (suffixes-at t) suffixes.Post
-  suffixes-suffixes-requires c κs = omega (arith, there (c .before .before .before .before .before .before .before .before .before .before .before .before .before .args .table .now) (c .before .before .before .before .before .before .before .before .before .before .before .before .before .args .n) (c .before .before .before .before .before .before .before .before .before .before .before .before .before .args .i + 1) _ 12 (c .before .before .before .before .before .before .kind2 .ensures) (c .before .before .before .before .before .if4 .taken) (lit< tt))
+  suffixes-suffixes-requires c κs = omega (arith, there (c .before .before .before .before .before .before .before .before .before .before .before .before .before .args .table .now) (c .before .before .before .before .before .before .before .before .before .before .before .before .before .args .n) (c .before .before .before .before .before .before .before .before .before .before .before .before .before .args .i + 1) _ kLength (c .before .before .before .before .before .before .kind2 .ensures) (c .before .before .before .before .before .if4 .taken) (lit< tt))
 
   pub suffixes-same-length-3 : suffixes-lts.Need-same-length-3 (suffixes-calls t) (suffixes-at t) suffixes.Post
   suffixes-same-length-3 c = search needs

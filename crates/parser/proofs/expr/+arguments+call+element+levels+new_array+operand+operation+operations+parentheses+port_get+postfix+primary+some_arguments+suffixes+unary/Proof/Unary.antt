@@ -1,5 +1,6 @@
 -- The answers of `unary`.
 use Prim.Native.Nat.{ℕ, _<_}
+use Rattle.lexer.specs.Kinds.{kNot}
 use Rattle.parser.proofs.expr.unary.Reads as unary
 use Rattle.parser.proofs.expr.+arguments+call+element+levels+new_array+operand+operation+operations+parentheses+port_get+postfix+primary+some_arguments+suffixes+unary.Lts-unary as unary-lts
 use borrow.Author.Needs.{needs}
@@ -16,7 +17,7 @@ module _ (t : ℕ) where
   begun : (c : unary-lts.Then1 (unary-calls t) (unary-at t) unary.Post) → let g = c .before .before .before .before .args in g .i < g .n
   begun c =
       let g = c .before .before .before .before .args in
-      there (g .table .now) (g .n) (g .i) _ 29 (c .before .kind .ensures) (c .if1 .taken) (lit< tt)
+      there (g .table .now) (g .n) (g .i) _ kNot (c .before .kind .ensures) (c .if1 .taken) (lit< tt)
 
   pub unary-kind-requires : unary-lts.Need-kind-requires (unary-calls t) (unary-at t) unary.Post
   unary-kind-requires c κs = search needs

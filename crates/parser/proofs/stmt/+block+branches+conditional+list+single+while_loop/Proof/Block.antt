@@ -1,5 +1,6 @@
 -- The answers of `block`.
 use Prim.Native.Nat.{ℕ, _<_}
+use Rattle.lexer.specs.Kinds.{kOpenBrace}
 use Rattle.parser.proofs.stmt.block.Reads as block
 use Rattle.parser.proofs.stmt.+block+branches+conditional+list+single+while_loop.Lts-block as block-lts
 use mathlib.Core.Path.{refl}
@@ -14,7 +15,7 @@ use Rattle.parser.proofs.stmt.+block+branches+conditional+list+single+w
 module _ (t : ℕ) where
   -- the `{` is there
   begun : (g : block-lts.Start (block-calls t) (block-at t) block.Post) → g .args .i < g .args .n
-  begun g = there (g .args .table .now) (g .args .n) (g .args .i) _ 38 refl (g .pre .1 .1) (lit< tt)
+  begun g = there (g .args .table .now) (g .args .n) (g .args .i) _ kOpenBrace refl (g .pre .1 .1) (lit< tt)
 
   pub block-add-list : block-lts.Need-add-list (block-calls t) (block-at t) block.Post
   block-add-list c = search needs

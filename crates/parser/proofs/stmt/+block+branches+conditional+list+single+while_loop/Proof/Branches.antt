@@ -1,5 +1,6 @@
 -- The answers of `branches`.
 use Prim.Native.Nat.{ℕ, _+_, _≤_, _<_}
+use Rattle.base.specs.Codes.{tokensMost}
 use Rattle.parser.proofs.stmt.branches.Reads as branches
 use Rattle.parser.proofs.stmt.+block+branches+conditional+list+single+while_loop.Lts-branches as branches-lts
 use borrow.Author.Needs.{needs}
@@ -24,7 +25,7 @@ module _ (t : ℕ) where
   no-bounds : (c : branches-lts.After-c (branches-calls t) (branches-at t) branches.Post)
       → let y = c .before .before .before .before .before .before .before in
       let g = y .before .before .before .before .before .before .before .before .before .args in let k = y .b .given .0 .1 .0 in
-      (g .n ≤ 2048) × (g .i < g .j) × (g .test < g .n) × (g .j + 1 < k) × (y .b .given .0 .0 < g .n)
+      (g .n ≤ tokensMost) × (g .i < g .j) × (g .test < g .n) × (g .j + 1 < k) × (y .b .given .0 .0 < g .n)
       × (k + 1 ≤ c .c .given .0 .1 .0) × (c .c .given .0 .1 .0 ≤ g .n) × (c .c .given .0 .0 < g .n)
   no-bounds c =
       let r = c .before .before .before .before .before .before .before .before .before .before .before .before .before .before .before
