@@ -16,7 +16,7 @@ ghost use Rattle.device.specs.contracts.Holding.{heldIn, deviceOf, regis
 // How many registers there are.
 pub const REGISTERS: usize = 16;
 
-// The registers that the device itself sets: the flags, the mask, the last sample.
+// The registers that mean something to the device: the flags, the mask, the last sample.
 const FLAGS: usize = 0;
 
 const MASK: usize = 1;
