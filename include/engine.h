@@ -25,20 +25,20 @@
 extern "C" {
 #endif
 
-/* The version of this header; engine_version() is that of the library. It goes up when a declaration or the meaning of one changes. */
-#define ENGINE_VERSION 2
-
+/* [words/write constants: what words/operations.txt says */
+#define ENGINE_VERSION 2 /* the version of these declarations; it goes up when one of them or its meaning changes */
 #define ENGINE_TABLE_WORDS 16384 /* the work table has at least so many words */
 #define ENGINE_SOURCE_MOST 16384 /* a lesson has at most so many bytes; a longer one is refused, and never read past its end */
 #define ENGINE_HEAP_MOST 16384 /* the heap strip has at most so many words */
 #define ENGINE_CALLS_MOST 64 /* the call limit is 1 to this */
 #define ENGINE_REGISTERS 16 /* the register strip has exactly so many bytes */
 #define ENGINE_CLASSES_MOST 2048 /* no lesson has more classes: a strip of so many words is long enough for Menu */
-#define ENGINE_STACK_BYTES 1048576
+#define ENGINE_STACK_BYTES 1048576 /* a call takes at most so many bytes of stack */
+/* words/write] */
 
 /* docs/REFUSALS.md has for each number where it stands and a lesson that gives it. */
 enum engine_number {
-    /* [words/write */
+    /* [words/write numbers: what words/refusals.txt says */
     ENGINE_TABLE_TOO_SHORT = 1, /* The work table has fewer than 16,384 words. */
     ENGINE_CALL_LIMIT_OUT_OF_RANGE = 2, /* The call limit is not 1 to 64. */
     ENGINE_HEAP_TOO_LONG = 3, /* The heap strip has more than 16,384 words. */
@@ -81,6 +81,13 @@ enum engine_number {
     ENGINE_SUCCESS = 0
 };
 
+/* The version of the library: ENGINE_VERSION, where this header belongs to it. */
+uint32_t engine_version(void);
+
+/* In every operation `table` is room to work in. What it holds before does not matter; afterwards each of its words is 0, unless the answer is one of 1, 2, 3 and 62: these
+ * touch nothing that is lent. */
+
+/* [words/write operations: what words/operations.txt says */
 /* The answer of Read; the counts are 0 after a refusal. */
 typedef struct {
     uint32_t number;
@@ -99,23 +106,19 @@ typedef struct {
 /* The limits of a run. Two more are the lengths of the heap strip and of the output strip. */
 typedef struct {
     uint32_t budget; /* steps: every statement and every expression that begins takes one */
-    size_t calls;    /* how many calls may be open at once, main not counted */
+    size_t calls; /* how many calls may be open at once, main not counted */
 } engine_limits;
 
-/* The answer of Run. The counts are those of the run up to its end, also where a fault or a limit ended it; they are 0 where the lesson was refused and never ran. */
+/* The answer of Run. The counts are those of the run up to its end, also where a fault or a limit ended it; they are 0 where the lesson was
+ * refused and never ran. */
 typedef struct {
     uint32_t number;
     size_t position;
     size_t steps;
     uint64_t climbs; /* how many classes were visited to find the methods of all calls */
-    size_t words;    /* of the heap strip: 1 for each object and array, and 1 for each field and element */
-    size_t printed;  /* how many numbers lead the output strip */
+    size_t words; /* of the heap strip: 1 for each object and array, and 1 for each field and element */
+    size_t printed; /* how many numbers lead the output strip */
 } engine_run_answer;
-
-uint32_t engine_version(void);
-
-/* In all four `table` is room to work in. What it holds before does not matter; afterwards each of its words is 0, unless the answer is one of 1, 2, 3 and 62: these touch
- * nothing that is lent. */
 
 /* Is the lesson in the grammar, and within the bounds? Refuses with 1, 10 to 17, 60 and 65. */
 engine_read_answer engine_read(const uint8_t *source, size_t source_length, uint32_t *table, size_t table_length);
@@ -123,17 +126,22 @@ engine_read_answer engine_read(const uint8_t *source, size_t source_length, uint
 /* May the lesson run: are its names and types right too? Refuses as Read does, and with 20 to 34. */
 engine_check_answer engine_check(const uint8_t *source, size_t source_length, uint32_t *table, size_t table_length);
 
-/* Where do the names of the classes stand? After success `strip` begins with the position of the name of each class beside main's, each once, a parent before the classes that
- * extend it and otherwise as they stand in the lesson; its rest is unchanged, and so is all of it after a refusal. Refuses as Check does, and with 4. */
-engine_check_answer engine_menu(const uint8_t *source, size_t source_length, uint32_t *table, size_t table_length, uint32_t *strip, size_t strip_length);
+/* Where do the names of the classes stand? After success `strip` begins with the position of the name of each class beside main's, each
+ * once, a parent before the classes that extend it and otherwise as they stand in the lesson; its rest is unchanged, and so is all of it
+ * after a refusal. Refuses as Check does, and with 4. */
+engine_check_answer engine_menu(const uint8_t *source, size_t source_length, uint32_t *table, size_t table_length, uint32_t *strip,
+                                size_t strip_length);
 
-/* Checks the lesson and runs it. Refuses with 1, 2, 3, 62 and as Check does; then the run ends in 0, in a fault (40 to 42, 63, 64) or at a limit (50 to 53).
+/* Checks the lesson and runs it. Refuses with 1, 2, 3, 62 and as Check does; then the run ends in 0, in a fault (40 to 42, 63, 64) or at a
+ * limit (50 to 53).
  *   heap       room for objects and arrays. All 0 afterwards, also where Check refuses.
  *   output     begins with the printed numbers afterwards; its rest is unchanged, and so is all of it where the lesson is refused.
  *   registers  what the 16 registers hold at the end of the run, which sets them to 0 first; unchanged where the lesson is refused.
  *   tape       the samples that come in over the cable, one with every hundredth step; a length of 0 for none. */
-engine_run_answer engine_run(const uint8_t *source, size_t source_length, uint32_t *table, size_t table_length, engine_limits limits, int32_t *heap, size_t heap_length,
-                             int32_t *output, size_t output_length, uint8_t *registers, size_t registers_length, const uint8_t *tape, size_t tape_length);
+engine_run_answer engine_run(const uint8_t *source, size_t source_length, uint32_t *table, size_t table_length, engine_limits limits,
+                             int32_t *heap, size_t heap_length, int32_t *output, size_t output_length, uint8_t *registers,
+                             size_t registers_length, const uint8_t *tape, size_t tape_length);
+/* words/write] */
 
 #ifdef __cplusplus
 }

@@ -18,6 +18,19 @@ typedef struct {
     size_t length, room;
 } text;
 
+/* What a case lends: elements of a size, in memory of their own. */
+typedef struct {
+    void *at;
+    size_t length, size;
+} lent;
+
+/* How an operation's cases are answered: its name, how many words they have, and what answers one and says whether all strips hold what they should. */
+typedef struct {
+    const char *name;
+    int words;
+    int (*answer)(char **word, text *to);
+} operation;
+
 /* All of the input, for a thread, and what it answers. */
 typedef struct {
     const text *input;
@@ -66,73 +79,32 @@ static void add_number(text *to, const char *before, long long number) {
     add(to, digits, (size_t)snprintf(digits, sizeof digits, "%s%lld", before, number));
 }
 
-/* The bytes of a word in hexadecimal, and how many there are; `-` for none. */
-static uint8_t *bytes_of(const char *word, size_t *count) {
-    *count = strcmp(word, "-") ? strlen(word) / 2 : 0;
-    uint8_t *made = (uint8_t *)filled(*count);
-    for (size_t i = 0; i < *count; i++) {
-        char pair[3] = {word[2 * i], word[2 * i + 1], 0};
-        made[i] = (uint8_t)strtoul(pair, NULL, 16);
-    }
+static size_t number_of(const char *word) {
+    return (size_t)strtoull(word, NULL, 10);
+}
+
+/* Room for as many elements as a word says. */
+static lent room(const char *word, size_t size) {
+    lent made = {NULL, number_of(word), size};
+    made.at = filled(made.length * size);
     return made;
 }
 
-static size_t number_of(const char *word) {
-    return (size_t)strtoull(word, NULL, 10);
+/* The bytes of a word in hexadecimal; `-` for none. */
+static lent given(const char *word) {
+    lent made = {NULL, strcmp(word, "-") ? strlen(word) / 2 : 0, 1};
+    uint8_t *bytes = (uint8_t *)filled(made.length);
+    for (size_t i = 0; i < made.length; i++) {
+        char pair[3] = {word[2 * i], word[2 * i + 1], 0};
+        bytes[i] = (uint8_t)strtoul(pair, NULL, 16);
+    }
+    made.at = bytes;
+    return made;
 }
 
 /* 1, 2, 3 and 62 touch nothing. */
 static int is_untouched(uint32_t number) {
     return number == ENGINE_TABLE_TOO_SHORT || number == ENGINE_CALL_LIMIT_OUT_OF_RANGE || number == ENGINE_HEAP_TOO_LONG || number == ENGINE_REGISTERS_NOT_SIXTEEN;
-}
-
-static int is_cleared(const void *strip, uint32_t number, size_t bytes) {
-    return is_all(strip, is_untouched(number) ? FILLING : 0, bytes);
-}
-
-static int answer_read(char **word, text *to) {
-    size_t size, words = number_of(word[1]);
-    uint8_t *source = bytes_of(word[2], &size);
-    uint32_t *table = (uint32_t *)filled(words * sizeof *table);
-    engine_read_answer a = engine_read(source, size, table, words);
-    int is_right = is_cleared(table, a.number, words * sizeof *table);
-    add_number(to, "", a.number);
-    add_number(to, " ", (long long)a.position);
-    add_number(to, " ", (long long)a.tokens);
-    add_number(to, " ", (long long)a.nodes);
-    free(source);
-    free(table);
-    return is_right;
-}
-
-/* Check and Menu. */
-static int answer_check(char **word, int is_menu, text *to) {
-    size_t size, words = number_of(word[1]), length = is_menu ? number_of(word[2]) : 0;
-    uint8_t *source = bytes_of(word[is_menu ? 3 : 2], &size);
-    uint32_t *table = (uint32_t *)filled(words * sizeof *table);
-    uint32_t *strip = (uint32_t *)filled(length * sizeof *strip);
-    engine_check_answer a = is_menu ? engine_menu(source, size, table, words, strip, length) : engine_check(source, size, table, words);
-    size_t written = is_menu ? a.classes : 0;
-    int is_right = is_cleared(table, a.number, words * sizeof *table) && is_all(strip + written, FILLING, (length - written) * sizeof *strip);
-    add_number(to, "", a.number);
-    add_number(to, " ", (long long)a.position);
-    add_number(to, " ", (long long)a.classes);
-    for (size_t i = 0; i < written; i++) {
-        add_number(to, i ? " " : " : ", strip[i]);
-    }
-    free(source);
-    free(table);
-    free(strip);
-    return is_right;
-}
-
-static void add_registers(text *to, const uint8_t *registers, int is_run) {
-    add(to, is_run ? " " : " -", is_run ? 1 : 2);
-    for (size_t i = 0; is_run && i < ENGINE_REGISTERS; i++) {
-        char digits[3];
-        snprintf(digits, sizeof digits, "%02x", registers[i]);
-        add(to, digits, 2);
-    }
 }
 
 /* Whether the lesson ran: it finished, or met a fault or a limit. */
@@ -141,56 +113,141 @@ static int is_run(uint32_t number) {
            number == ENGINE_VALUE_OUT_OF_RANGE;
 }
 
+/* Whether a strip that is room to work in is all 0. */
+static int is_cleared(lent strip, uint32_t number) {
+    return is_all(strip.at, is_untouched(number) ? FILLING : 0, strip.length * strip.size);
+}
+
+/* Whether a strip is as it was behind its first elements. */
+static int is_led(lent strip, size_t count) {
+    return count <= strip.length && is_all((char *)strip.at + count * strip.size, FILLING, (strip.length - count) * strip.size);
+}
+
+/* Whether a strip that a run sets is as it was where the lesson did not run. */
+static int is_set_by_run(lent strip, uint32_t number) {
+    return is_run(number) || is_led(strip, 0);
+}
+
+static void add_digits(text *to, const uint8_t *bytes, size_t count) {
+    for (size_t i = 0; i < count; i++) {
+        char digits[3];
+        snprintf(digits, sizeof digits, "%02x", bytes[i]);
+        add(to, digits, 2);
+    }
+}
+
+/* A strip that a run sets; `-` where the lesson did not run. */
+static void add_set(text *to, lent strip, uint32_t number) {
+    add(to, is_run(number) ? " " : " -", is_run(number) ? 1 : 2);
+    add_digits(to, (const uint8_t *)strip.at, is_run(number) ? strip.length : 0);
+}
+
+/* The first elements of a strip, where there are any. */
+static void add_words(text *to, const uint32_t *words, size_t count) {
+    for (size_t i = 0; i < count; i++) {
+        add_number(to, i ? " " : " : ", words[i]);
+    }
+}
+
+static void add_numbers(text *to, const int32_t *numbers, size_t count) {
+    for (size_t i = 0; i < count; i++) {
+        add_number(to, i ? " " : " : ", numbers[i]);
+    }
+}
+
+/* [words/write operations: what words/operations.txt says */
+static int answer_read(char **word, text *to) {
+    lent source = given(word[2]);
+    lent table = room(word[1], sizeof(uint32_t));
+    engine_read_answer a = engine_read(source.at, source.length, table.at, table.length);
+    int is_right = is_cleared(table, a.number);
+    add_number(to, "", (long long)a.number);
+    add_number(to, " ", (long long)a.position);
+    add_number(to, " ", (long long)a.tokens);
+    add_number(to, " ", (long long)a.nodes);
+    free(source.at);
+    free(table.at);
+    return is_right;
+}
+
+static int answer_check(char **word, text *to) {
+    lent source = given(word[2]);
+    lent table = room(word[1], sizeof(uint32_t));
+    engine_check_answer a = engine_check(source.at, source.length, table.at, table.length);
+    int is_right = is_cleared(table, a.number);
+    add_number(to, "", (long long)a.number);
+    add_number(to, " ", (long long)a.position);
+    add_number(to, " ", (long long)a.classes);
+    free(source.at);
+    free(table.at);
+    return is_right;
+}
+
+static int answer_menu(char **word, text *to) {
+    lent source = given(word[3]);
+    lent table = room(word[1], sizeof(uint32_t));
+    lent strip = room(word[2], sizeof(uint32_t));
+    engine_check_answer a = engine_menu(source.at, source.length, table.at, table.length, strip.at, strip.length);
+    int is_right = is_cleared(table, a.number) && is_led(strip, a.classes);
+    add_number(to, "", (long long)a.number);
+    add_number(to, " ", (long long)a.position);
+    add_number(to, " ", (long long)a.classes);
+    add_words(to, strip.at, a.classes);
+    free(source.at);
+    free(table.at);
+    free(strip.at);
+    return is_right;
+}
+
 static int answer_run(char **word, text *to) {
-    size_t words = number_of(word[1]), heap_words = number_of(word[4]), numbers = number_of(word[5]), count = number_of(word[6]), samples, size;
-    engine_limits limits;
-    limits.budget = (uint32_t)number_of(word[2]);
-    limits.calls = number_of(word[3]);
-    uint8_t *tape = bytes_of(word[7], &samples);
-    uint8_t *source = bytes_of(word[8], &size);
-    uint32_t *table = (uint32_t *)filled(words * sizeof *table);
-    int32_t *heap = (int32_t *)filled(heap_words * sizeof *heap);
-    int32_t *output = (int32_t *)filled(numbers * sizeof *output);
-    uint8_t *registers = (uint8_t *)filled(count);
-    engine_run_answer a = engine_run(source, size, table, words, limits, heap, heap_words, output, numbers, registers, count, tape, samples);
-    int is_right = is_cleared(table, a.number, words * sizeof *table) && is_cleared(heap, a.number, heap_words * sizeof *heap) &&
-                   is_all(output + a.printed, FILLING, (numbers - a.printed) * sizeof *output) && (is_run(a.number) || is_all(registers, FILLING, count));
-    add_number(to, "", a.number);
+    lent source = given(word[8]);
+    lent table = room(word[1], sizeof(uint32_t));
+    engine_limits limits = {(uint32_t)number_of(word[2]), (size_t)number_of(word[3])};
+    lent heap = room(word[4], sizeof(int32_t));
+    lent output = room(word[5], sizeof(int32_t));
+    lent registers = room(word[6], sizeof(uint8_t));
+    lent tape = given(word[7]);
+    engine_run_answer a = engine_run(source.at, source.length, table.at, table.length, limits, heap.at, heap.length,
+                                     output.at, output.length, registers.at, registers.length, tape.at, tape.length);
+    int is_right = is_cleared(table, a.number) && is_cleared(heap, a.number) && is_led(output, a.printed) && is_set_by_run(registers, a.number);
+    add_number(to, "", (long long)a.number);
     add_number(to, " ", (long long)a.position);
     add_number(to, " ", (long long)a.steps);
     add_number(to, " ", (long long)a.climbs);
     add_number(to, " ", (long long)a.words);
-    add_registers(to, registers, is_run(a.number));
-    for (size_t i = 0; i < a.printed; i++) {
-        add_number(to, i ? " " : " : ", output[i]);
-    }
-    free(tape);
-    free(source);
-    free(table);
-    free(heap);
-    free(output);
-    free(registers);
+    add_set(to, registers, a.number);
+    add_numbers(to, output.at, a.printed);
+    free(source.at);
+    free(table.at);
+    free(heap.at);
+    free(output.at);
+    free(registers.at);
+    free(tape.at);
     return is_right;
 }
 
+static const operation operations[] = {
+    {"read", 3, answer_read},
+    {"check", 3, answer_check},
+    {"menu", 4, answer_menu},
+    {"run", 9, answer_run},
+};
+/* words/write] */
+
 static void answer(char *line, text *to) {
     char *word[WORDS_MOST + 1], *rest = line;
-    int count = 0, is_right = 1;
+    int count = 0;
     while (count <= WORDS_MOST && (word[count] = strtok_r(rest, " ", &rest))) {
         count++;
     }
-    if (count == 3 && !strcmp(word[0], "read")) {
-        is_right = answer_read(word, to);
-    } else if (count == 3 && !strcmp(word[0], "check")) {
-        is_right = answer_check(word, 0, to);
-    } else if (count == 4 && !strcmp(word[0], "menu")) {
-        is_right = answer_check(word, 1, to);
-    } else if (count == WORDS_MOST && !strcmp(word[0], "run")) {
-        is_right = answer_run(word, to);
-    } else {
-        fail("a line is no case");
+    for (size_t k = 0; k < sizeof operations / sizeof *operations; k++) {
+        if (count == operations[k].words && !strcmp(word[0], operations[k].name)) {
+            int is_right = operations[k].answer(word, to);
+            add(to, is_right ? "\n" : " STRIP\n", is_right ? 1 : 7);
+            return;
+        }
     }
-    add(to, is_right ? "\n" : " STRIP\n", is_right ? 1 : 7);
+    fail("a line is no case");
 }
 
 static void *answer_all(void *given) {

@@ -1,11 +1,16 @@
 """The cases of crates/cases that a program beside `cases` can answer: lines that are well formed, and what is due for each."""
 import pathlib
+import sys
 
 ROOT = pathlib.Path(__file__).resolve().parent.parent
-# How many numbers, and after them how many words of hexadecimal digits, a line of an operation has.
-FORMS = {"read": (1, 1), "check": (1, 1), "menu": (2, 1), "run": (6, 2)}
-TABLE_LEAST = 16384
-REGISTERS = "16"
+sys.path.insert(0, str(ROOT / "words"))
+from operations import surface
+from table import LIMITS, refusals
+
+# Of each operation, which words of a line after the first are bytes in hexadecimal digits; the others are numbers.
+FORMS = {o.name: [o.is_given(word) for word in o.case] for o in surface().operations}
+# The numbers that refuse what the bindings always lend enough of.
+NEVER_BY_BINDINGS = {str(r.number) for r in refusals() if not set(r.changed) <= set(LIMITS)}
 
 
 def paired():
@@ -21,8 +26,8 @@ def paired():
 def is_case(line, answer):
     """Whether it is answered by numbers, and 64 bits hold each number in it."""
     operation, *words = line.split(" ")
-    numbers, digits = FORMS.get(operation, (0, 0))
-    return answer[:1].isdigit() and len(words) == numbers + digits and all(int(word) < 1 << 64 for word in words[:numbers])
+    form = FORMS.get(operation)
+    return answer[:1].isdigit() and form is not None and len(words) == len(form) and all(is_given or int(word) < 1 << 64 for is_given, word in zip(form, words))
 
 
 def cases():
@@ -30,7 +35,5 @@ def cases():
 
 
 def is_for_bindings(line, answer):
-    """Whether the bindings, which lend their own table, strip and registers, give the same answer."""
-    words = line.split(" ")
-    is_table_long = int(words[1]) >= TABLE_LEAST
-    return is_table_long and not answer.startswith("4 ") and (words[0] != "run" or words[6] == REGISTERS)
+    """Whether the bindings, which lend their own table, strips and registers, give the same answer."""
+    return answer.split(" ")[0] not in NEVER_BY_BINDINGS

@@ -8,6 +8,8 @@ FILE = ROOT / "words" / "refusals.txt"
 KINDS = {"call", "lesson", "fault", "limit"}
 # What bayrun lends, and more than enough of what it does not.
 LENT = {"table": 16384, "strip": 2048, "budget": 100000, "calls": 64, "heap": 4096, "output": 256, "registers": 16}
+# Those of them that a caller of the bindings chooses.
+LIMITS = ["budget", "calls", "heap", "output"]
 REPEATED = re.compile("⟨(.)⟩([0-9]+)")
 
 

@@ -19,12 +19,16 @@ import os
 import pathlib
 import typing
 
-VERSION = 2  # of include/engine.h, whose declarations stand here again
-TABLE_WORDS = 16384
-HEAP_MOST = 16384
-REGISTERS = 16
-CLASSES_MOST = 2048
-STACK_BYTES = 1048576
+# [words/write constants: what words/operations.txt says
+VERSION = 2  # the version of these declarations; it goes up when one of them or its meaning changes
+TABLE_WORDS = 16384  # the work table has at least so many words
+SOURCE_MOST = 16384  # a lesson has at most so many bytes; a longer one is refused, and never read past its end
+HEAP_MOST = 16384  # the heap strip has at most so many words
+CALLS_MOST = 64  # the call limit is 1 to this
+REGISTERS = 16  # the register strip has exactly so many bytes
+CLASSES_MOST = 2048  # no lesson has more classes: a strip of so many words is long enough for Menu
+STACK_BYTES = 1048576  # a call takes at most so many bytes of stack
+# words/write]
 
 
 class Words(typing.NamedTuple):
@@ -36,7 +40,7 @@ class Words(typing.NamedTuple):
 
 
 WORDS = {
-    # [words/write
+    # [words/write numbers: what words/refusals.txt says
     1: Words("table too short", "The work table has fewer than 16,384 words.", "call"),
     2: Words("call limit out of range", "The call limit is not 1 to 64.", "call"),
     3: Words("heap too long", "The heap strip has more than 16,384 words.", "call"),
@@ -128,16 +132,29 @@ class Run:
     registers: bytes
 
 
+# [words/write records: what words/operations.txt says
 class ReadAnswer(ctypes.Structure):
-    _fields_ = [("number", ctypes.c_uint32), ("position", ctypes.c_size_t), ("tokens", ctypes.c_size_t), ("nodes", ctypes.c_size_t)]
+    _fields_ = [
+        ("number", ctypes.c_uint32),
+        ("position", ctypes.c_size_t),
+        ("tokens", ctypes.c_size_t),
+        ("nodes", ctypes.c_size_t),
+    ]
 
 
 class CheckAnswer(ctypes.Structure):
-    _fields_ = [("number", ctypes.c_uint32), ("position", ctypes.c_size_t), ("classes", ctypes.c_size_t)]
+    _fields_ = [
+        ("number", ctypes.c_uint32),
+        ("position", ctypes.c_size_t),
+        ("classes", ctypes.c_size_t),
+    ]
 
 
 class RunLimits(ctypes.Structure):
-    _fields_ = [("budget", ctypes.c_uint32), ("calls", ctypes.c_size_t)]
+    _fields_ = [
+        ("budget", ctypes.c_uint32),
+        ("calls", ctypes.c_size_t),
+    ]
 
 
 class RunAnswer(ctypes.Structure):
@@ -149,22 +166,31 @@ class RunAnswer(ctypes.Structure):
         ("words", ctypes.c_size_t),
         ("printed", ctypes.c_size_t),
     ]
+# words/write]
+
+
+def lent(kind):
+    """A strip to be written, of numbers of a kind: a pointer and a length."""
+    return [ctypes.POINTER(kind), ctypes.c_size_t]
 
 
 def load():
-    """The library, with its functions declared; a strip is a pointer and a length."""
+    """The library, with its functions declared."""
     here = pathlib.Path(__file__).resolve().parent
     folder = pathlib.Path(os.environ.get("ENGINE_LIBRARY", here.parent.parent / "target" / "lib"))
     found = ctypes.CDLL(str(folder / "libengine.so"))
-    lesson = [ctypes.c_char_p, ctypes.c_size_t]
-    words = [ctypes.POINTER(ctypes.c_uint32), ctypes.c_size_t]
-    numbers = [ctypes.POINTER(ctypes.c_int32), ctypes.c_size_t]
-    registers = [ctypes.POINTER(ctypes.c_uint8), ctypes.c_size_t]
+    given = [ctypes.c_char_p, ctypes.c_size_t]
     found.engine_version.argtypes, found.engine_version.restype = [], ctypes.c_uint32
-    found.engine_read.argtypes, found.engine_read.restype = lesson + words, ReadAnswer
-    found.engine_check.argtypes, found.engine_check.restype = lesson + words, CheckAnswer
-    found.engine_menu.argtypes, found.engine_menu.restype = lesson + words + words, CheckAnswer
-    found.engine_run.argtypes, found.engine_run.restype = lesson + words + [RunLimits] + numbers + numbers + registers + lesson, RunAnswer
+    # [words/write functions: what words/operations.txt says
+    found.engine_read.argtypes = given + lent(ctypes.c_uint32)
+    found.engine_read.restype = ReadAnswer
+    found.engine_check.argtypes = given + lent(ctypes.c_uint32)
+    found.engine_check.restype = CheckAnswer
+    found.engine_menu.argtypes = given + lent(ctypes.c_uint32) + lent(ctypes.c_uint32)
+    found.engine_menu.restype = CheckAnswer
+    found.engine_run.argtypes = given + lent(ctypes.c_uint32) + [RunLimits] + lent(ctypes.c_int32) + lent(ctypes.c_int32) + lent(ctypes.c_uint8) + given
+    found.engine_run.restype = RunAnswer
+    # words/write]
     if found.engine_version() != VERSION:
         raise ImportError("libengine.so has version %d, not %d" % (found.engine_version(), VERSION))
     return found

@@ -13,7 +13,7 @@ pub enum Cause {
     Limit,
 }
 
-// [words/write
+// [words/write numbers
 /// Why a lesson is refused, or how its run ended otherwise than by itself.
 #[derive(Clone, Copy, Debug, PartialEq, Eq, Hash)]
 pub enum Kind {

@@ -1,10 +1,11 @@
 //! What include/engine.h declares, as it stands there: for a caller that lends its own strips. The header says what a caller owes.
 
-/// The version of the header that these declarations follow.
+// [words/write operations: what words/operations.txt says
+/// The version of these declarations; it goes up when one of them or its meaning changes.
 pub const VERSION: u32 = 2;
 /// The work table has at least so many words.
 pub const TABLE_WORDS: usize = 16384;
-/// A lesson has at most so many bytes.
+/// A lesson has at most so many bytes; a longer one is refused, and never read past its end.
 pub const SOURCE_MOST: usize = 16384;
 /// The heap strip has at most so many words.
 pub const HEAP_MOST: usize = 16384;
@@ -12,50 +13,68 @@ pub const HEAP_MOST: usize = 16384;
 pub const CALLS_MOST: usize = 64;
 /// The register strip has exactly so many bytes.
 pub const REGISTERS: usize = 16;
-/// No lesson has more classes.
+/// No lesson has more classes: a strip of so many words is long enough for Menu.
 pub const CLASSES_MOST: usize = 2048;
 /// A call takes at most so many bytes of stack.
 pub const STACK_BYTES: usize = 1048576;
 
+/// The answer of Read; the counts are 0 after a refusal.
 #[repr(C)]
 #[derive(Clone, Copy, Debug, PartialEq, Eq)]
 pub struct ReadAnswer {
     pub number: u32,
     pub position: usize,
     pub tokens: usize,
+    /// Statements and expressions.
     pub nodes: usize,
 }
 
+/// The answer of Check and of Menu.
 #[repr(C)]
 #[derive(Clone, Copy, Debug, PartialEq, Eq)]
 pub struct CheckAnswer {
     pub number: u32,
     pub position: usize,
+    /// Beside main's; 0 after a refusal.
     pub classes: usize,
 }
 
+/// The limits of a run. Two more are the lengths of the heap strip and of the output strip.
 #[repr(C)]
 #[derive(Clone, Copy, Debug, PartialEq, Eq)]
 pub struct Limits {
+    /// Steps: every statement and every expression that begins takes one.
     pub budget: u32,
+    /// How many calls may be open at once, main not counted.
     pub calls: usize,
 }
 
+/// The answer of Run. The counts are those of the run up to its end, also where a fault or a limit ended it; they are 0 where the lesson
+/// was refused and never ran.
 #[repr(C)]
 #[derive(Clone, Copy, Debug, PartialEq, Eq)]
 pub struct RunAnswer {
     pub number: u32,
     pub position: usize,
     pub steps: usize,
+    /// How many classes were visited to find the methods of all calls.
     pub climbs: u64,
+    /// Of the heap strip: 1 for each object and array, and 1 for each field and element.
     pub words: usize,
+    /// How many numbers lead the output strip.
     pub printed: usize,
 }
 
 extern "C" {
+    /// The version that belongs to the library: [`VERSION`] of these declarations.
     pub fn engine_version() -> u32;
+    /// Is the lesson in the grammar, and within the bounds? Refuses with 1, 10 to 17, 60 and 65.
     pub fn engine_read(source: *const u8, source_length: usize, table: *mut u32, table_length: usize) -> ReadAnswer;
+    /// May the lesson run: are its names and types right too? Refuses as Read does, and with 20 to 34.
     pub fn engine_check(source: *const u8, source_length: usize, table: *mut u32, table_length: usize) -> CheckAnswer;
+    /// Where do the names of the classes stand? After success `strip` begins with the position of the name of each class beside main's,
+    /// each once, a parent before the classes that extend it and otherwise as they stand in the lesson; its rest is unchanged, and so is
+    /// all of it after a refusal. Refuses as Check does, and with 4.
     pub fn engine_menu(
         source: *const u8,
         source_length: usize,
@@ -64,6 +83,8 @@ extern "C" {
         strip: *mut u32,
         strip_length: usize,
     ) -> CheckAnswer;
+    /// Checks the lesson and runs it. Refuses with 1, 2, 3, 62 and as Check does; then the run ends in 0, in a fault (40 to 42, 63, 64) or
+    /// at a limit (50 to 53).
     pub fn engine_run(
         source: *const u8,
         source_length: usize,
@@ -80,3 +101,4 @@ extern "C" {
         tape_length: usize,
     ) -> RunAnswer;
 }
+// words/write]
