@@ -4,6 +4,7 @@ pub mod Starred
 pub mod Further
 pub mod Arrays
 pub mod Climbs
+pub mod AppendedRows
 pub mod Ports
 pub mod Thousandths
 pub mod Stuck

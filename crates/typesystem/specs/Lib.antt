@@ -5,3 +5,4 @@ pub mod Judge
 pub mod Declarations
 pub mod Check
 pub mod TypingRules
+pub mod laws

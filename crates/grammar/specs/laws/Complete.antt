@@ -280,6 +280,11 @@ module _ (ts : List Token) where
   found (no-statement {i = i}) = λ h. unroll Mode.statementList i λ f. rw h given
   found (more-statements {i = i} d ds) = λ h. unroll Mode.statementList i λ f. rw (first d .0) (after _ (found d f) (after _ (found ds h f) given))
 
+  -- a statement is found whatever follows it
+  pub found-statement : {i j : ℕ} {t : Part Sort.statement} → Derives ts Sort.statement Kind.aStatement i j t → (f : ℕ)
+      → Gives t j (parseAs f ts Mode.aStatement i)
+  found-statement d = found d
+
   -- DECLARATIONS
 
   found-type : {i j : ℕ} {t : TypeUse} → DerivesType ts i j t → isName (kindAt ts j) ≡ true → typeFrom ts i ≡ ok t j
@@ -378,15 +383,15 @@ module _ (ts : List Token) where
   found-parent no-parent e = rw e
   found-parent (a-parent e e₁) e₂ = rw (e, e₁) (simp towards-numerals)
 
-  found-class : {i j : ℕ} {c : Class} → DerivesClass ts i j c → (f : ℕ) → Gives c j (classFrom f ts i)
+  pub found-class : {i j : ℕ} {c : Class} → DerivesClass ts i j c → (f : ℕ) → Gives c j (classFrom f ts i)
   unfolding classFrom
   found-class (a-class-declaration e e₁ dp e₂ df dm e₃) f =
       rw (e, e₁) (simp towards-numerals (rw (found-parent dp e₂, e₂) (after _ (found-variables df true (methods-begin dm e₃) f) (after _ (found-methods dm e₃ f) (rw e₃ given)))))
 
-  class-begins : {i j : ℕ} {c : Class} → DerivesClass ts i j c → kindAt ts i ≡ kClass
+  pub class-begins : {i j : ℕ} {c : Class} → DerivesClass ts i j c → kindAt ts i ≡ kClass
   class-begins (a-class-declaration e e₁ dp e₂ df dm e₃) = e
 
-  found-classes : {i j : ℕ} {cs : List Class} → DerivesClasses ts i j cs → kindAt ts j ≡ kEnd → (f : ℕ) → Gives cs j (classesFrom f ts i)
+  pub found-classes : {i j : ℕ} {cs : List Class} → DerivesClasses ts i j cs → kindAt ts j ≡ kEnd → (f : ℕ) → Gives cs j (classesFrom f ts i)
   unfolding classesFrom
   found-classes no-class e zero = spent
   found-classes no-class e (suc f) = rw e given
