@@ -13,6 +13,11 @@ pub const STRIP_TOO_SHORT: u32 = 4;
 
 pub const REGISTERS_NOT_SIXTEEN: u32 = 62;
 
+// Join.
+pub const LIBRARY_REFUSED: u32 = 66;
+
+pub const JOINED_TOO_LONG: u32 = 67;
+
 // Read.
 pub const SOURCE_TOO_LONG: u32 = 10;
 

@@ -1,4 +1,5 @@
 // The operations for programs in other languages: include/engine.h declares them to C. Each promises what its operation promises.
+use joiner::join::join;
 use menu::menu::menu;
 use reader::read::read;
 use runner::run::run;
@@ -9,9 +10,10 @@ ghost use Rattle.typesystem.specs.Check.{Checks};
 ghost use Rattle.menu.specs.Menu.{Menus};
 ghost use Rattle.semantics.specs.Run.{Runs};
 ghost use Rattle.runner.specs.contracts.RunPost.{strips};
+ghost use Rattle.joining.specs.Join.{Joins};
 
 // Which header belongs to this library: ENGINE_VERSION there.
-const VERSION: u32 = 2;
+const VERSION: u32 = 3;
 
 // What Read answers, laid out as C lays it out.
 #[repr(C)]
@@ -28,6 +30,14 @@ pub struct CheckAnswer {
     pub number: u32,
     pub position: usize,
     pub classes: usize,
+}
+
+// What Join answers.
+#[repr(C)]
+pub struct WriteAnswer {
+    pub number: u32,
+    pub position: usize,
+    pub count: usize,
 }
 
 // The limits of a run that are not the length of a strip.
@@ -51,7 +61,7 @@ pub struct RunAnswer {
 // The version of the header that belongs to this library.
 #[no_mangle]
 pub extern "C" fn engine_version() -> u32
-    ensures { λ r. ⌜ r ≡ 2 ⌝ }
+    ensures { λ r. ⌜ r ≡ 3 ⌝ }
 {
     VERSION
 }
@@ -132,5 +142,24 @@ pub extern "C" fn engine_run(
         climbs: a.climbs,
         words: a.words,
         printed: a.printed,
+    }
+}
+
+// The operation Join.
+#[no_mangle]
+pub extern "C" fn engine_join(
+    source: &[u8],
+    table: &mut [u32],
+    library: &[u8],
+    strip: &mut [u8],
+) -> WriteAnswer
+    ensures { λ r. ⌜ Joins (now (source .entry)) (now (library .entry)) (now (table .entry)) (now (strip .entry))
+        (record { number = r .number; position = r .position; count = r .count }) (now (table .exit)) (now (strip .exit)) ⌝ }
+{
+    let a = join(source, table, library, strip);
+    WriteAnswer {
+        number: a.number,
+        position: a.position,
+        count: a.count,
     }
 }

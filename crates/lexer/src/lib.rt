@@ -17,7 +17,7 @@ ghost use Rattle.lexer.specs.Tokens.{tokens};
 ghost use Rattle.lexer.specs.contracts.Rows.{Lexes};
 ghost use Rattle.lexer.specs.contracts.Chains.{Adding, Added};
 
-mod bytes;
+pub mod bytes;
 pub mod kinds;
 mod limits;
 mod names;

@@ -364,7 +364,7 @@ fn class_row(table: &mut [u32], name: usize, above: usize, first: usize, second:
 }
 
 // Classes, up to the last token.
-fn classes(table: &mut [u32], n: usize, i: usize) -> Answer
+pub fn classes(table: &mut [u32], n: usize, i: usize) -> Answer
     requires { ⌜ Parsable (now table) n i ⌝ }
     ensures { λ r. ⌜ DeclPost classList n i (now (table .entry)) r (now (table .exit)) ⌝ }
 {

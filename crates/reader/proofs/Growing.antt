@@ -5,24 +5,22 @@ use mathlib.Core.List.{List}
 use mathlib.Core.Option.{Option, none, some}
 use native.Mathlib.Omega.{arith}
 use native.Mathlib.Decide.{decLt}
-use lib.ListN.{length, getD, replicate}
-use lib.Seq.{getD-take}
+use lib.ListN.{length, replicate}
 use borrow.Author.Tests.{lt-ltb, le-ltb}
 use Rattle.base.specs.Choice.{option}
 use Rattle.base.specs.Codes.{sourceMost, tooDeep, notInGrammar, sourceTooLong, tokensMost, tableLeast, tableTooShort}
-use Rattle.base.specs.laws.Lists.{get-below, get-getD}
+use Rattle.base.specs.laws.Lists.{get-getD}
 use Rattle.base.specs.Outcome.{Outcome, accepted, refused}
-use Rattle.base.specs.contracts.Table.{cell, col, cKind, cStart, cNumber}
+use Rattle.base.specs.contracts.Table.{cell, cStart}
 use Rattle.lexer.specs.Tokens.{Token, tokens}
 use Rattle.lexer.specs.declared.Lexed.{Lexed}
 use Rattle.lexer.specs.declared.Lexed.the-variants.{Tokens}
 use Rattle.lexer.specs.contracts.Rows.{Rows, Lexes}
-use Rattle.lexer.specs.laws.RowLaws.{starts-increase, accepted-of-answer, refused-of-answer}
+use Rattle.lexer.specs.laws.RowLaws.{accepted-of-answer, refused-of-answer}
 use Rattle.parser.specs.declared.answer.Answer.{Answer}
 use Rattle.parser.specs.declared.answer.Answer.the-variants.{At, Bad}
 use Rattle.parser.specs.Tree.{Program}
-use Rattle.parser.specs.Stream.{startAt, tokenAt, noMore}
-use Rattle.parser.specs.contracts.Layout.{given, givenWords}
+use Rattle.parser.specs.Stream.{tokenAt, noMore}
 use Rattle.parser.specs.Measure.{programNodes, programDeep}
 use Rattle.parser.specs.Parse.{ok, parse}
 use Rattle.parser.specs.contracts.Post.{TokensIn}
@@ -34,36 +32,11 @@ use Rattle.reader.specs.declared.read.Filled.the-variants.{Tree, Refused
 use Rattle.reader.specs.declared.walk.Walked.{Walked}
 use Rattle.reader.specs.contracts.Holds.{HoldsProgram}
 use Rattle.reader.specs.contracts.FilledTable.{matches, holds as holds-stored}
-use Rattle.reader.specs.laws.Order.{TokensRise, program-order}
-use Rattle.reader.specs.laws.ReadingLaws.{too-long, not-lexed, not-parsed, not-shallow, read-well, proper, tokens-in, parsed-at, refused-at}
+use Rattle.reader.specs.laws.Order.{program-order}
+use Rattle.reader.specs.laws.ReadingLaws.{too-long, not-lexed, not-parsed, not-shallow, read-well, proper, parsed-at, refused-at}
+use Rattle.reader.specs.laws.ReadingLaws.{same-col, rows-kept, rising, at-tokens}
 use Rattle.reader.specs.contracts.ReadPost.{Filling, Fills, GrowPost, MeasurePost, placeIn}
 use Rattle.reader.specs.contracts.WalkPost.{FoundPlace, WalksProgram, nowhere}
-
--- THE TABLE AFTER THE PARSER
-
--- the token columns are kept
-same-col : (T T′ : List ℕ) (k i : ℕ) → given T′ ≡ given T → cell k i < givenWords → col T′ k i ≡ col T k i
-unfolding given col
-same-col T T′ k i e h =
-    sym (getD-take givenWords T′ (cell k i) 0 h) ∙ ap (λ (l : List ℕ). getD l (cell k i) 0) e ∙ getD-take givenWords T (cell k i) 0 h
-
-rows-kept : (T T′ : List ℕ) (ts : List Token) → length ts ≤ tokensMost → given T′ ≡ given T → Rows T ts → Rows T′ ts
-rows-kept T T′ ts few e h i t g =
-    let l = get-below ts i g in
-    let r = h i t g in
-    record {
-      kind = same-col T T′ cKind i e (omega arith) ∙ r .kind;
-      start = same-col T T′ cStart i e (omega arith) ∙ r .start;
-      name = λ n. same-col T T′ cNumber i e (omega arith) ∙ r .name n;
-      literal = λ n. same-col T T′ cNumber i e (omega arith) ∙ r .literal n;
-      fixed = λ n. same-col T T′ cNumber i e (omega arith) ∙ r .fixed n;
-    }
-
-rising : (s : List ℕ) (ts : List Token) → tokens s ≡ accepted ts → TokensRise ts
-rising s ts e i j le l = elim (decLt i j) [
-  | yes lt ↦ omega (arith, starts-increase s ts e i j (tokenAt ts i) (tokenAt ts j) lt (get-getD ts i noMore (omega arith)) (get-getD ts j noMore l))
-  | no ge ↦ let z : i ≡ j = omega arith in subst (λ (x : ℕ). startAt ts i ≤ startAt ts x) z (omega arith)
-]
 
 -- THE WALK'S ANSWER
 module _ {tab : List ℕ} {n : ℕ} {w : Walked} (h : WalksProgram tab n w) where
@@ -96,10 +69,6 @@ filled s ts short lexed j p q {a} {tab} is f = go (programDeep p) refl is
     go none d e =
         subst (λ (o : Outcome Reading). Fills o a tab) (sym (read-well s short ts lexed p j q d)) (e, f)
     go (some at) d e = subst (λ (o : Outcome Reading). Fills o a tab) (sym (not-shallow s short ts lexed p j at q d)) e
-
--- the parser's contract for the tokens of a source
-at-tokens : {T : List ℕ} {n : ℕ} (ts : List Token) → length ts ≡ n → Rows T ts → TokensIn T n ts
-at-tokens {T} ts e h = subst (λ (m : ℕ). TokensIn T m ts) e (tokens-in T ts h)
 
 at-answer : {n : ℕ} {T T₁ : List ℕ} {r₁ r : Answer} → r₁ ≡ r → ProgramPost n T r₁ T₁ → ProgramPost n T r T₁
 at-answer {n} {T} {T₁} e p = subst (λ (r : Answer). ProgramPost n T r T₁) e p

@@ -29,7 +29,7 @@ pub struct ReadAnswer {
 }
 
 // The position of token k of n, or the size of the source past the last.
-fn place(table: &[u32], n: usize, k: usize, size: usize) -> usize
+pub fn place(table: &[u32], n: usize, k: usize, size: usize) -> usize
     requires { ⌜ Walkable (now table) n ⌝ }
     ensures { λ r. ⌜ r ≡ placeIn (now (table .entry)) n k size ⌝ }
 {
@@ -47,7 +47,7 @@ fn measure(table: &[u32], n: usize) -> Filled
     let walked = walk::program(table, n);
     let place = walked.place;
     let count = walked.count;
-    if place < 4294967296 {
+    if place < walk::NOWHERE {
         return Filled::Refused(codes::TOO_DEEP, place);
     }
     Filled::Tree(n, count)

@@ -27,7 +27,7 @@ pub struct Walked {
 const COUNT_MOST: usize = 65535;
 
 // No position.
-const NOWHERE: usize = 4294967296;
+pub const NOWHERE: usize = 4294967296;
 
 // The greatest depth that is allowed.
 const DEPTH_MOST: usize = 64;
@@ -168,7 +168,7 @@ fn methods(table: &[u32], n: usize, row: usize) -> Walked
 }
 
 // The classes from this row on.
-fn classes(table: &[u32], n: usize, row: usize) -> Walked
+pub fn classes(table: &[u32], n: usize, row: usize) -> Walked
     requires { ⌜ Walkable (now table) n ⌝ }
     ensures { λ r. ⌜ WalksClasses (now (table .entry)) n row r ⌝ }
 {

@@ -522,3 +522,16 @@ pub completed : (ts : List Token) {k : ℕ} → RunsTo ts startStack 0 (stopped 
 completed ts {k} h =
     let c = completes ts start-fits (omega arith) h in
     (cut ts k (c .0), c .1, take-at (take k ts) (map plain (c .0)) k (length-take-le k ts (within ts h)))
+
+-- the same from the stack of classes alone
+classes-fit : Fits (classes ∷ [])
+classes-fit = refl ▹ empty
+
+pub within-classes : (ts : List Token) {e : Halt} → RunsTo ts (classes ∷ []) 0 e → indexOf e ≤ length ts
+within-classes ts h = inside ts classes-fit (omega arith) h
+
+pub completed-classes : (ts : List Token) {k : ℕ} → RunsTo ts (classes ∷ []) 0 (stopped k)
+    → (us : List Token) × RunsTo us (classes ∷ []) 0 (done (length us)) × (take k us ≡ take k ts)
+completed-classes ts {k} h =
+    let c = completes ts classes-fit (omega arith) h in
+    (cut ts k (c .0), c .1, take-at (take k ts) (map plain (c .0)) k (length-take-le k ts (within-classes ts h)))

@@ -244,7 +244,7 @@ module _ (ts : List Token) where
       binds _ (read-fields f (a + 1) (omega arith)) λ fs b le₂ df. binds _ (read-methods f b (omega arith)) λ ms c le₃ dm. expects kCloseBrace c _ λ e₃.
       accept (a-class-declaration e e₁ (simp towards-numerals at dp) e₂ df dm e₃, omega arith)
 
-  read-classes : (f i : ℕ) → 16 * (length ts - i) < f
+  pub read-classes : (f i : ℕ) → 16 * (length ts - i) < f
       → PassesOver ts (classes ∷ []) i (λ cs j. DerivesClasses ts i j cs × (kindAt ts j ≡ kEnd)) (classesFrom f ts i)
   unfolding classesFrom rule
   read-classes zero i h = absurd (omega arith)

@@ -25,10 +25,10 @@ module _ {ts : List Token} {A : Type 0} {xs : List Symbol} {i : ℕ} {Q : A → 
   not-out (passes-ok le go q) e = let z : _≡_ {A = ℕ} 0 1 = cc in omega arith
   not-out (passes-bad go) e = let z : _≡_ {A = ℕ} 0 1 = cc in omega arith
 
-  at-ok : {a : A} {j : ℕ} → PassesOver ts xs i Q (ok a j) → Q a j × RunsTo ts (xs ++ []) i (done j)
+  pub at-ok : {a : A} {j : ℕ} → PassesOver ts xs i Q (ok a j) → Q a j × RunsTo ts (xs ++ []) i (done j)
   at-ok {j = j} (passes-ok le go q) = (q, go [] (done j) finish)
 
-  at-bad : {k : ℕ} → PassesOver ts xs i Q (bad k) → RunsTo ts (xs ++ []) i (stopped k)
+  pub at-bad : {k : ℕ} → PassesOver ts xs i Q (bad k) → RunsTo ts (xs ++ []) i (stopped k)
   at-bad (passes-bad go) = go []
 
 pub parsed : (ts : List Token) {p : Program} {j : ℕ} → parse ts ≡ ok p j
@@ -57,7 +57,7 @@ accepted us h = go (parse us) refl
 
 -- WHICH BEGINNINGS ARE VIABLE
 
-alike : (ts us : List Token) (n : ℕ) → take n us ≡ take n ts → (p : ℕ) → p < n → kindAt us p ≡ kindAt ts p
+pub alike : (ts us : List Token) (n : ℕ) → take n us ≡ take n ts → (p : ℕ) → p < n → kindAt us p ≡ kindAt ts p
 alike ts us n e p lt =
     ap (λ (t : Token). t .kind) (sym (getD-take n us p noMore lt) ∙ ap (λ (l : List Token). getD l p noMore) e ∙ getD-take n ts p noMore lt)
 

@@ -18,7 +18,9 @@ use Rattle.base.specs.laws.Tests.{apart, and-true, and-false, or-neither, if-bo
 use Rattle.lexer.specs.Bytes.{bLineFeed, bUnderscore, bSlash, bAmpersand, bLess, bPlus, bMinus, bStar, bExclamation, bEquals, bDot}
 use Rattle.lexer.specs.Bytes.{bComma, bSemicolon, bOpen, bClose, bOpenBracket, bCloseBracket, bOpenBrace, bCloseBrace}
 use Rattle.lexer.specs.Bytes.{isBlank, isLetter, isDigit, isNamePart}
-use Rattle.lexer.specs.Kinds.{Word, words, kLiteral, kFixedLiteral, kAnd, isName, kindIn, wordKind, markKind, kEnd, kLess, kPlus, kMinus, kTimes, kNot, kAssign, kDot, kComma, kSemicolon, kOpen, kClose, kOpenBracket, kCloseBracket, kOpenBrace, kCloseBrace}
+use Rattle.lexer.specs.Kinds.{Word, words, kLiteral, kFixedLiteral, kAnd, isName, kindIn, wordKind, markKind, kEnd, kLess, kPlus}
+use Rattle.lexer.specs.Kinds.{kMinus, kTimes, kNot, kAssign, kDot, kComma, kSemicolon, kOpen, kClose, kOpenBracket, kCloseBracket}
+use Rattle.lexer.specs.Kinds.{kOpenBrace, kCloseBrace}
 use Rattle.lexer.specs.Tokens.{Item, gap, unclosed, nothing, token, longestRun, begins, closing, comment, mark, numeral, item}
 use Rattle.lexer.specs.Tokens.{wholeDigits, fractionDigits}
 
@@ -63,7 +65,7 @@ run-short p (b ∷ l) = go (p b) (run-short p l)
     go false h = omega arith
 
 -- each byte of it passes the test
-run-all : (p : ℕ → Bool) (l : List ℕ) → All (λ b. p b ≡ true) (longestRun p l)
+pub run-all : (p : ℕ → Bool) (l : List ℕ) → All (λ b. p b ≡ true) (longestRun p l)
 unfolding longestRun
 run-all p [] = all-nil
 run-all p (b ∷ l) = go (p b) refl (run-all p l)
@@ -78,7 +80,7 @@ unfolding longestRun
 run-some p b l e = rw e (omega arith)
 
 -- it ends before a byte that does not pass
-run-stop : (p : ℕ → Bool) (l : List ℕ) (b : ℕ) (r : List ℕ) → All (λ c. p c ≡ true) l → p b ≡ false → longestRun p (l ++ b ∷ r) ≡ l
+pub run-stop : (p : ℕ → Bool) (l : List ℕ) (b : ℕ) (r : List ℕ) → All (λ c. p c ≡ true) l → p b ≡ false → longestRun p (l ++ b ∷ r) ≡ l
 unfolding longestRun
 run-stop p [] b r all-nil n = rw n refl
 run-stop p (c ∷ l) b r (all-cons e h) n = rw e (ap (λ (m : List ℕ). c ∷ m) (run-stop p l b r h n))
@@ -124,7 +126,8 @@ word-kind-fits t =
     (ltb-true 0 (wordKind t) (q .0), kind-fits (wordKind t) (q .1))
 
 -- what holds of the kind of each mark and of `kEnd` holds of every mark's
-of-marks : (P : ℕ → Type 0) → P kLess → P kPlus → P kMinus → P kTimes → P kNot → P kAssign → P kDot → P kComma → P kSemicolon → P kOpen → P kClose
+of-marks : (P : ℕ → Type 0) → P kLess → P kPlus → P kMinus → P kTimes → P kNot → P kAssign → P kDot → P kComma → P kSemicolon → P kOpen → P
+    kClose
     → P kOpenBracket → P kCloseBracket → P kOpenBrace → P kCloseBrace → P kEnd → (b : ℕ) → P (markKind b)
 unfolding markKind
 of-marks P m₁ m₂ m₃ m₄ m₅ m₆ m₇ m₈ m₉ m₁₀ m₁₁ m₁₂ m₁₃ m₁₄ m₁₅ m₀ b =
@@ -147,7 +150,7 @@ of-marks P m₁ m₂ m₃ m₄ m₅ m₆ m₇ m₈ m₉ m₁₀ m₁₁ m₁₂ 
 mark-kind-fits : (b : ℕ) → kindFits (markKind b) ≡ true
 mark-kind-fits b = of-marks (λ k. kindFits k ≡ true) refl refl refl refl refl refl refl refl refl refl refl refl refl refl refl refl b
 
-mark-no-name : (b : ℕ) → isName (markKind b) ≡ false
+pub mark-no-name : (b : ℕ) → isName (markKind b) ≡ false
 unfolding isName
 mark-no-name b = of-marks (λ k. isName k ≡ false) refl refl refl refl refl refl refl refl refl refl refl refl refl refl refl refl b
 
@@ -188,7 +191,7 @@ pub record Pointed (text : List ℕ) : Type 0 where
   pub fraction : Digits (fractionDigits text)
   pub is : text ≡ wholeDigits text ++ bDot ∷ fractionDigits text
 
-with-point : (w f : List ℕ) → 0 < length w → Digits w → Digits f → Pointed (w ++ bDot ∷ f)
+pub with-point : (w f : List ℕ) → 0 < length w → Digits w → Digits f → Pointed (w ++ bDot ∷ f)
 unfolding isDigit
 with-point w f l dw df =
     let whole : wholeDigits (w ++ bDot ∷ f) ≡ w = run-stop isDigit w bDot f dw refl in
@@ -208,6 +211,14 @@ behind-point (c ∷ l) e = ap (λ (d : ℕ). d ∷ l) e
 
 -- ---- items
 
+-- what kind and text have to do with each other
+pub data TokenForm : (kind : ℕ) → (text : List ℕ) → Type 0 where
+  a-word : {k : ℕ} {t : List ℕ} → isLetter (getD t 0 0) ≡ true → wordKind t ≡ k → TokenForm k t
+  a-literal : {t : List ℕ} → TokenForm kLiteral t
+  a-fixed-literal : {t : List ℕ} → TokenForm kFixedLiteral t
+  an-and : TokenForm kAnd (bAmpersand ∷ bAmpersand ∷ [])
+  a-mark : {k b : ℕ} → markKind b ≡ k → TokenForm k (b ∷ [])
+
 -- a token's kind and its text, which the bytes begin with
 pub record Shape (kind : ℕ) (text bs : List ℕ) : Type 0 where
   pub positive : 0 < kind
@@ -218,6 +229,7 @@ pub record Shape (kind : ℕ) (text bs : List ℕ) : Type 0 where
   pub digits : kind ≡ kLiteral → Digits text
   pub pointed : kind ≡ kFixedLiteral → Pointed text
   pub named : isName kind ≡ true → text ≡ longestRun isNamePart bs
+  pub form : TokenForm kind text
 
 -- an item that begins at i, with the bytes bs
 abbrev pub Good : (i : ℕ) → List ℕ → Item → Type 0
@@ -249,9 +261,9 @@ module _ (i b : ℕ) (r : List ℕ) where
   good-comment (some j) e w = omega (arith, length-drop 1 r, ap length (w .second))
 
   good-run : (p : ℕ → Bool) (k : ℕ) → 0 < k → k < kindsEnd → (k ≡ kLiteral → Digits (longestRun p (b ∷ r))) → k ≢ kFixedLiteral
-      → (isName k ≡ true → longestRun p (b ∷ r) ≡ longestRun isNamePart (b ∷ r))
+      → (isName k ≡ true → longestRun p (b ∷ r) ≡ longestRun isNamePart (b ∷ r)) → TokenForm k (longestRun p (b ∷ r))
       → p b ≡ true → Good i (b ∷ r) (token k (longestRun p (b ∷ r)))
-  good-run p k l h d f n e = record {
+  good-run p k l h d f n m e = record {
     positive = l;
     below = h;
     nonempty = run-some p b r e;
@@ -260,20 +272,27 @@ module _ (i b : ℕ) (r : List ℕ) where
     digits = d;
     pointed = λ q. absurd (f q);
     named = n;
+    form = m;
   }
+
+  -- the first byte of a word
+  first-letter : isLetter b ≡ true → isLetter (getD (longestRun isNamePart (b ∷ r)) 0 0) ≡ true
+  unfolding longestRun isNamePart
+  first-letter e = rw (e, e) refl
 
   good-word : isLetter b ≡ true → Good i (b ∷ r) (token (wordKind (longestRun isNamePart (b ∷ r))) (longestRun isNamePart (b ∷ r)))
   unfolding isNamePart
   good-word e =
       let t = longestRun isNamePart (b ∷ r) in
       let f = word-kind-fits t in
-      good-run isNamePart (wordKind t) (f .0) (f .1 .0) (λ q. absurd (f .1 .1 q)) (f .1 .2) (λ _. refl)
+      good-run isNamePart (wordKind t) (f .0) (f .1 .0) (λ q. absurd (f .1 .1 q)) (f .1 .2) (λ _. refl) (a-word (first-letter e) refl)
       (ap (λ (x : Bool). x || isDigit b || eqb b bUnderscore) e)
 
   good-literal : isDigit b ≡ true → Good i (b ∷ r) (token kLiteral (longestRun isDigit (b ∷ r)))
   unfolding isName
   good-literal e =
-      good-run isDigit kLiteral (lit< tt) (lit< tt) (λ _. run-all isDigit (b ∷ r)) (λ q. apart (cc)) (λ q. absurd (false≢true q)) e
+      good-run isDigit kLiteral (lit< tt) (lit< tt) (λ _. run-all isDigit (b ∷ r)) (λ q. apart (cc)) (λ q. absurd (false≢true q)) a-literal
+      e
 
   good-fixed : let rest = drop (length (longestRun isDigit (b ∷ r))) (b ∷ r) in isDigit b ≡ true → getD rest 0 0 ≡ bDot
       → Good i (b ∷ r) (token kFixedLiteral (longestRun isDigit (b ∷ r) ++ bDot ∷ longestRun isDigit (drop 1 rest)))
@@ -299,6 +318,7 @@ module _ (i b : ℕ) (r : List ℕ) where
         digits = λ k. apart (cc);
         pointed = λ _. with-point w f (run-some isDigit b r e) (run-all isDigit bs) (run-all isDigit (drop 1 rest));
         named = λ k. absurd (false≢true k);
+        form = a-fixed-literal;
       }
 
   good-numeral : isDigit b ≡ true → Good i (b ∷ r) (numeral (b ∷ r))
@@ -325,12 +345,13 @@ module _ (i b : ℕ) (r : List ℕ) where
     digits = λ q. apart (cc);
     pointed = λ q. apart (cc);
     named = λ q. absurd (false≢true q);
+    form = an-and;
   }
 
-  good-mark : (k : ℕ) → KindFits k → isName k ≡ false → (z : Bool) → eqb k 0 ≡ z
+  good-mark : (k : ℕ) → markKind b ≡ k → KindFits k → isName k ≡ false → (z : Bool) → eqb k 0 ≡ z
       → Good i (b ∷ r) (if z then (λ _. nothing) else λ _. token k (b ∷ []))
-  good-mark k h n true e = tt
-  good-mark k h n false e = record {
+  good-mark k m h n true e = tt
+  good-mark k m h n false e = record {
     positive = not-zero k (eqb-false k 0 e);
     below = h .0;
     nonempty = lit< tt;
@@ -339,6 +360,7 @@ module _ (i b : ℕ) (r : List ℕ) where
     digits = λ q. absurd (h .1 q);
     pointed = λ q. absurd (h .2 q);
     named = λ q. absurd (false≢true (sym n ∙ q));
+    form = a-mark m;
   }
     where
       not-zero : (n : ℕ) → n ≢ 0 → 0 < n
@@ -355,7 +377,7 @@ module _ (i b : ℕ) (r : List ℕ) where
   good-chosen false false false false true x₆ e₂ e₃ e₄ e₅ e₆ = good-numeral e₅
   good-chosen false false false false false true e₂ e₃ e₄ e₅ e₆ = good-and (two bAmpersand bAmpersand b r e₆)
   good-chosen false false false false false false e₂ e₃ e₄ e₅ e₆ =
-      good-mark (markKind b) (kind-fits (markKind b) (mark-kind-fits b)) (mark-no-name b) (eqb (markKind b) kEnd) refl
+      good-mark (markKind b) refl (kind-fits (markKind b) (mark-kind-fits b)) (mark-no-name b) (eqb (markKind b) kEnd) refl
 
 good-item : (i b : ℕ) (r : List ℕ) → Good i (b ∷ r) (item i (b ∷ r))
 unfolding item

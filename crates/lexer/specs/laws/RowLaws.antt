@@ -22,7 +22,7 @@ use Rattle.lexer.specs.Tokens.{Token, Item, gap, unclosed, nothing, toke
 use Rattle.lexer.specs.Tokens.{wholeDigits, fractionDigits, thousandthsOf, tooLong, zeroFirst, notThree, tooLarge}
 use Rattle.lexer.specs.Tokens.{turn, tokensFrom, tokens}
 use Rattle.base.specs.laws.Tests.{apart, and-true, and-right, or-neither, same-refl, same-equal}
-use Rattle.lexer.specs.laws.ItemLaws.{kindsEnd, Good, Shape, Digits, Pointed, good}
+use Rattle.lexer.specs.laws.ItemLaws.{kindsEnd, Good, Shape, Digits, Pointed, TokenForm, good}
 use Rattle.lexer.specs.contracts.Rows.{firstNamed, Rows, Lexes}
 use Rattle.lexer.specs.declared.Lexed.the-variants.{Tokens, Refused}
 
@@ -135,6 +135,8 @@ pub record TokenOf (s : List ℕ) (t : Token) : Type 0 where
   pub digits : t .kind ≡ kLiteral → Digits (t .text)
   pub no-zero : t .kind ≡ kLiteral → startsWithZero (t .text) ≡ false
   pub fixed : t .kind ≡ kFixedLiteral → FixedText (t .text)
+  pub form : TokenForm (t .kind) (t .text)
+  pub begins : item (t .start) (drop (t .start) s) ≡ token (t .kind) (t .text)
 
 -- tokens of s, one behind the other from i on, where `count` stand before; others may lie between
 pub data Sequence (s : List ℕ) : (count i : ℕ) → List Token → Type 0 where
@@ -168,7 +170,8 @@ module _
     (inside : i < length s)
     (ts : List Token)
   where
-    of-token : (k : ℕ) (t : List ℕ) → Shape k t (drop i s) → (x y w v z : Bool) → eqb count tokensMost ≡ x → tooLong k t ≡ y
+    of-token : (k : ℕ) (t : List ℕ) → item i (drop i s) ≡ token k t → Shape k t (drop i s) → (x y w v z : Bool) → eqb count tokensMost ≡ x →
+        tooLong k t ≡ y
         → zeroFirst k t ≡ w → notThree k t ≡ v → tooLarge k t ≡ z
         → (if x then (λ _. refused tooManyTokens i) else λ _.
         if y then (λ _. refused nameTooLong i) else λ _.
@@ -177,12 +180,12 @@ module _
         if z then (λ _. refused literalTooLarge i) else λ _.
         next (count + 1) (i + length t) >>= λ us. accepted ((record { kind = k; start = i; text = t }) ∷ us))
         ≡ accepted ts → Sequence s count i ts
-    of-token k t g true y w v z ex ey ew ev ez e = never e
-    of-token k t g false true w v z ex ey ew ev ez e = never e
-    of-token k t g false false true v z ex ey ew ev ez e = never e
-    of-token k t g false false false true z ex ey ew ev ez e = never e
-    of-token k t g false false false false true ex ey ew ev ez e = never e
-    of-token k t g false false false false false ex ey ew ev ez e =
+    of-token k t b g true y w v z ex ey ew ev ez e = never e
+    of-token k t b g false true w v z ex ey ew ev ez e = never e
+    of-token k t b g false false true v z ex ey ew ev ez e = never e
+    of-token k t b g false false false true z ex ey ew ev ez e = never e
+    of-token k t b g false false false false true ex ey ew ev ez e = never e
+    of-token k t q g false false false false false ex ey ew ev ez e =
         let u : Token = record { kind = k; start = i; text = t } in
         let b = bound (next (count + 1) (i + length t)) (λ us. u ∷ us) e in
         let c : count < tokensMost = below (eqb-false count tokensMost ex) in
@@ -214,19 +217,21 @@ module _
                     ltb-false literalMost (thousandthsOf t)
                     (and-right (eqb k kFixedLiteral) (ltb literalMost (thousandthsOf t)) (larges .1) is);
               };
+          form = g .form;
+          begins = q;
         } in
         subst (Sequence s count i) (b .2) (follow {t = u} c (omega arith) o (after (count + 1) (i + length t) (b .0) (omega arith) (b .1)))
       where
         below : count ≢ tokensMost → count < tokensMost
         below n = omega arith
 
-    of-item : (x : Item) → Good i (drop i s) x → turn next count i x ≡ accepted ts → Sequence s count i ts
+    of-item : (x : Item) → item i (drop i s) ≡ x → Good i (drop i s) x → turn next count i x ≡ accepted ts → Sequence s count i ts
     unfolding turn
-    of-item (gap j) g e = earlier (omega (arith, g .0)) (after count j ts few e)
-    of-item unclosed g e = never e
-    of-item nothing g e = never e
-    of-item (token k t) g e =
-        of-token k t g (eqb count tokensMost) (tooLong k t) (zeroFirst k t) (notThree k t) (tooLarge k t) refl refl refl refl refl e
+    of-item (gap j) q g e = earlier (omega (arith, g .0)) (after count j ts few e)
+    of-item unclosed q g e = never e
+    of-item nothing q g e = never e
+    of-item (token k t) q g e =
+        of-token k t q g (eqb count tokensMost) (tooLong k t) (zeroFirst k t) (notThree k t) (tooLarge k t) refl refl refl refl refl e
 
 sequence-from : (f : ℕ) (s : List ℕ) (count i : ℕ) (ts : List Token) → count ≤ tokensMost → tokensFrom f s count i ≡ accepted ts
     → Sequence s count i ts
@@ -242,7 +247,7 @@ sequence-from (suc f) s count i ts h e = go (λ c j us k q. sequence-from f s c 
     go after true l q = subst (Sequence s count i) (accepted-eq q) finish
     go after false l q =
         let inside = leb-false (length s) i l in
-        of-item s next after count i h inside ts (item i (drop i s)) (good s i inside) q
+        of-item s next after count i h inside ts (item i (drop i s)) refl (good s i inside) q
 
 -- ---- of a sequence
 
@@ -261,9 +266,9 @@ ordered zero (suc k) {t} {u} h (follow {t = v} c l o r) e f =
     subst (λ (w : Token). w .start + length (w .text) ≤ u .start) (Option·some-injective v t e) (of-sequence k r f .0)
 ordered (suc j) (suc k) h (follow c l o r) e f = ordered j k (le-of-suc-le-suc h) r e f
 
-counted : {s : List ℕ} {count i : ℕ} {ts : List Token} → count ≤ tokensMost → Sequence s count i ts → count + length ts ≤ tokensMost
-counted h finish = omega arith
-counted h (follow c l o r) = omega (arith, counted (omega arith) r)
+pub sequence-few : {s : List ℕ} {count i : ℕ} {ts : List Token} → count ≤ tokensMost → Sequence s count i ts → count + length ts ≤ tokensMost
+sequence-few h finish = omega arith
+sequence-few h (follow c l o r) = omega (arith, sequence-few (omega arith) r)
 
 module _ (s : List ℕ) (ts : List Token) (accepts : tokens s ≡ accepted ts) where
   pub sequence : Sequence s 0 0 ts

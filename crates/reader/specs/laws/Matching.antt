@@ -180,7 +180,7 @@ module _ {ts : List Token} where
   class-matches (a-class-declaration {i} _ n p _ fs ms _) =
       record { name = name (i + 1) n; parent = parent-matches p; fields = variables-match fs; methods = methods-match ms }
 
-  classes-match : {i j : ℕ} {cs : List Class} → DerivesClasses ts i j cs → ClassesMatch ts cs
+  pub classes-match : {i j : ℕ} {cs : List Class} → DerivesClasses ts i j cs → ClassesMatch ts cs
   unfolding ClassesMatch
   classes-match no-class = tt
   classes-match (more-classes d d′) = (class-matches d, classes-match d′)

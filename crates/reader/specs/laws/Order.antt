@@ -309,7 +309,7 @@ module _ (ts : List Token) (few : length ts ≤ tokensMost) (rising : TokensRise
       let n₄ = there ts c e₄ (lit< tt) in
       (refl, omega (arith, n₁, n₃, u .0), omega arith, u .3)
 
-  classes-order : {i j : ℕ} {ks : List Class} → DerivesClasses ts i j ks → i ≤ length ts → (i ≤ rowClasses ks) × ClassesOrdered ks
+  pub classes-order : {i j : ℕ} {ks : List Class} → DerivesClasses ts i j ks → i ≤ length ts → (i ≤ rowClasses ks) × ClassesOrdered ks
   unfolding ClassesOrdered
   classes-order no-class h = (omega arith, tt)
   classes-order (more-classes k ks) h =

@@ -219,7 +219,7 @@ module _ {ts : List Token} where
             record { parent = h .0 .start; first = h .0 .first; second = h .0 .second; fields = h .1; methods = h .2 },
       )
 
-  classes-lie : {i j : ℕ} {ks : List Class} → DerivesClasses ts i j ks
+  pub classes-lie : {i j : ℕ} {ks : List Class} → DerivesClasses ts i j ks
       → Lies i j nowhere (λ tab. storeClasses ks tab) (λ tab. HoldsClasses tab ks)
   unfolding storeClasses HoldsClasses
   classes-lie (no-class {i}) = writes-nothing i i nowhere (omega arith)

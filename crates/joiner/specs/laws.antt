@@ -1,0 +1,4 @@
+-- Laws that proofs cite.
+pub mod NameLaws
+pub mod Braces
+pub mod TextLaws
