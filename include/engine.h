@@ -1,4 +1,4 @@
-/* The lesson engine: Read, Check, Menu and Run of a MiniJava lesson, for C and C++ on x86-64 Linux.
+/* The lesson engine: operations on a MiniJava lesson, for C and C++ on x86-64 Linux.
  *
  * Link libengine.a or libengine.so, which ./build writes into target/lib/. The functions of the library are proved to answer what the definitions say, for all inputs;
  * this header, like everything outside the library, is tested and not proved.
@@ -11,9 +11,9 @@
  *
  * Stack. A call takes at most ENGINE_STACK_BYTES of stack, whatever the lesson is. It allocates nothing, and calls nothing but memset.
  *
- * Time. Read, Check and Menu end within milliseconds. Run takes a time proportional to the steps, which the budget bounds: a few nanoseconds each.
+ * Time. All but Run end within milliseconds. Run takes a time proportional to the steps, which the budget bounds: a few nanoseconds each.
  *
- * Positions count the bytes of the lesson from 0. Every answer has a number and a position: 0 at position 0 for success, else one of the numbers below.
+ * Positions count the bytes of the lesson from 0, and that of 66 those of the library. Every answer has a number and a position: 0 at position 0 for success, else one of the numbers below.
  */
 #ifndef ENGINE_H
 #define ENGINE_H
@@ -26,13 +26,14 @@ extern "C" {
 #endif
 
 /* [words/write constants: what words/operations.txt says */
-#define ENGINE_VERSION 2 /* the version of these declarations; it goes up when one of them or its meaning changes */
+#define ENGINE_VERSION 3 /* the version of these declarations; it goes up when one of them or its meaning changes */
 #define ENGINE_TABLE_WORDS 16384 /* the work table has at least so many words */
 #define ENGINE_SOURCE_MOST 16384 /* a lesson has at most so many bytes; a longer one is refused, and never read past its end */
 #define ENGINE_HEAP_MOST 16384 /* the heap strip has at most so many words */
 #define ENGINE_CALLS_MOST 64 /* the call limit is 1 to this */
 #define ENGINE_REGISTERS 16 /* the register strip has exactly so many bytes */
 #define ENGINE_CLASSES_MOST 2048 /* no lesson has more classes: a strip of so many words is long enough for Menu */
+#define ENGINE_JOIN_MOST 33281 /* no joined text has more bytes: a strip of so many is long enough for Join */
 #define ENGINE_STACK_BYTES 1048576 /* a call takes at most so many bytes of stack */
 /* words/write] */
 
@@ -77,6 +78,8 @@ enum engine_number {
     ENGINE_REGISTER_OUT_OF_RANGE = 63, /* The cable has registers 0 to 15 only. */
     ENGINE_VALUE_OUT_OF_RANGE = 64, /* A register takes 0 to 255 only. */
     ENGINE_NOT_THREE_DIGITS = 65, /* A number with a point has other than three digits behind it. */
+    ENGINE_LIBRARY_REFUSED = 66, /* The library has something other than class declarations, or Read's rules and bounds do not hold for it. */
+    ENGINE_JOINED_TOO_LONG = 67, /* The strip is too short for the lesson and the classes of the library. */
     /* words/write] */
     ENGINE_SUCCESS = 0
 };
@@ -102,6 +105,13 @@ typedef struct {
     size_t position;
     size_t classes; /* beside main's; 0 after a refusal */
 } engine_check_answer;
+
+/* The answer of Join. */
+typedef struct {
+    uint32_t number;
+    size_t position;
+    size_t count; /* how many bytes lead the strip; 0 after a refusal */
+} engine_write_answer;
 
 /* The limits of a run. Two more are the lengths of the heap strip and of the output strip. */
 typedef struct {
@@ -141,6 +151,13 @@ engine_check_answer engine_menu(const uint8_t *source, size_t source_length, uin
 engine_run_answer engine_run(const uint8_t *source, size_t source_length, uint32_t *table, size_t table_length, engine_limits limits,
                              int32_t *heap, size_t heap_length, int32_t *output, size_t output_length, uint8_t *registers,
                              size_t registers_length, const uint8_t *tape, size_t tape_length);
+
+/* Puts a library under the lesson. A library is zero or more class declarations, which Read's rules and bounds hold for. After success
+ * `strip` begins with the lesson, a line feed, then each class of the library whose name no class of the lesson has, main's included, from
+ * its `class` to its closing brace, a line feed after each; its rest is unchanged, and so is all of it after a refusal. All other
+ * operations take that text. Refuses as Read does; with 66, whose position counts the bytes of the library; and last with 67. */
+engine_write_answer engine_join(const uint8_t *source, size_t source_length, uint32_t *table, size_t table_length, const uint8_t *library,
+                                size_t library_length, uint8_t *strip, size_t strip_length);
 /* words/write] */
 
 #ifdef __cplusplus

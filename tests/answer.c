@@ -143,6 +143,11 @@ static void add_set(text *to, lent strip, uint32_t number) {
 }
 
 /* The first elements of a strip, where there are any. */
+static void add_bytes(text *to, const uint8_t *bytes, size_t count) {
+    add(to, " : ", count ? 3 : 0);
+    add_digits(to, bytes, count);
+}
+
 static void add_words(text *to, const uint32_t *words, size_t count) {
     for (size_t i = 0; i < count; i++) {
         add_number(to, i ? " " : " : ", words[i]);
@@ -226,11 +231,31 @@ static int answer_run(char **word, text *to) {
     return is_right;
 }
 
+static int answer_join(char **word, text *to) {
+    lent source = given(word[3]);
+    lent table = room(word[1], sizeof(uint32_t));
+    lent library = given(word[4]);
+    lent strip = room(word[2], sizeof(uint8_t));
+    engine_write_answer a = engine_join(source.at, source.length, table.at, table.length, library.at, library.length,
+                                        strip.at, strip.length);
+    int is_right = is_cleared(table, a.number) && is_led(strip, a.count);
+    add_number(to, "", (long long)a.number);
+    add_number(to, " ", (long long)a.position);
+    add_number(to, " ", (long long)a.count);
+    add_bytes(to, strip.at, a.count);
+    free(source.at);
+    free(table.at);
+    free(library.at);
+    free(strip.at);
+    return is_right;
+}
+
 static const operation operations[] = {
     {"read", 3, answer_read},
     {"check", 3, answer_check},
     {"menu", 4, answer_menu},
     {"run", 9, answer_run},
+    {"join", 5, answer_join},
 };
 /* words/write] */
 

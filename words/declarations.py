@@ -164,7 +164,7 @@ def is_as_due(a):
 def answer_function(o, surface):
     passed = ["%s.at, %s.length" % (a.name, a.name) if a.is_strip else a.name for a in o.arguments]
     due = " && ".join(is_as_due(a) for a in o.arguments if a.after)
-    strips = {a.name for a in o.arguments}
+    strips = {a.name for a in o.arguments if a.is_strip}
     lines = ["static int answer_%s(char **word, text *to) {" % o.name]
     lines += [lent(o, a) if a.is_strip else filled(o, a, surface) for a in o.arguments]
     lines += called("    engine_%s a = engine_%s(" % (o.answer, o.name), passed, ");") + ["    int is_right = %s;" % due]

@@ -17,22 +17,24 @@ import ctypes
 import dataclasses
 import os
 import pathlib
+import re
 import typing
 
 # [words/write constants: what words/operations.txt says
-VERSION = 2  # the version of these declarations; it goes up when one of them or its meaning changes
+VERSION = 3  # the version of these declarations; it goes up when one of them or its meaning changes
 TABLE_WORDS = 16384  # the work table has at least so many words
 SOURCE_MOST = 16384  # a lesson has at most so many bytes; a longer one is refused, and never read past its end
 HEAP_MOST = 16384  # the heap strip has at most so many words
 CALLS_MOST = 64  # the call limit is 1 to this
 REGISTERS = 16  # the register strip has exactly so many bytes
 CLASSES_MOST = 2048  # no lesson has more classes: a strip of so many words is long enough for Menu
+JOIN_MOST = 33281  # no joined text has more bytes: a strip of so many is long enough for Join
 STACK_BYTES = 1048576  # a call takes at most so many bytes of stack
 # words/write]
 
 
 class Words(typing.NamedTuple):
-    """What a number means. `cause` is `call` where what was lent does not fit, `lesson` where the lesson is refused, `fault` or `limit` where a run ended so."""
+    """What a number means. `cause` is `call` where what was lent does not fit, `lesson` or `library` where that is refused, `fault` or `limit` where a run ended so."""
 
     name: str
     sentence: str
@@ -79,12 +81,15 @@ WORDS = {
     63: Words("register out of range", "The cable has registers 0 to 15 only.", "fault"),
     64: Words("value out of range", "A register takes 0 to 255 only.", "fault"),
     65: Words("not three digits", "A number with a point has other than three digits behind it.", "lesson"),
+    66: Words("library refused", "The library has something other than class declarations, or Read's rules and bounds do not hold for it.", "library"),
+    67: Words("joined too long", "The strip is too short for the lesson and the classes of the library.", "call"),
     # words/write]
 }
 
 
 class Refusal(Exception):
-    """Why a lesson is refused, or how its run ended otherwise than by itself, and where: a position in bytes, from 0."""
+    """Why a lesson or a library is refused, or how a run ended otherwise than by itself, and where: a position in bytes, from 0. Of number 66, and of what `read_library`
+    refuses, it counts the bytes of the library."""
 
     def __init__(self, number, position):
         super().__init__(number, position)
@@ -150,6 +155,14 @@ class CheckAnswer(ctypes.Structure):
     ]
 
 
+class WriteAnswer(ctypes.Structure):
+    _fields_ = [
+        ("number", ctypes.c_uint32),
+        ("position", ctypes.c_size_t),
+        ("count", ctypes.c_size_t),
+    ]
+
+
 class RunLimits(ctypes.Structure):
     _fields_ = [
         ("budget", ctypes.c_uint32),
@@ -190,6 +203,8 @@ def load():
     found.engine_menu.restype = CheckAnswer
     found.engine_run.argtypes = given + lent(ctypes.c_uint32) + [RunLimits] + lent(ctypes.c_int32) + lent(ctypes.c_int32) + lent(ctypes.c_uint8) + given
     found.engine_run.restype = RunAnswer
+    found.engine_join.argtypes = given + lent(ctypes.c_uint32) + given + lent(ctypes.c_uint8)
+    found.engine_join.restype = WriteAnswer
     # words/write]
     if found.engine_version() != VERSION:
         raise ImportError("libengine.so has version %d, not %d" % (found.engine_version(), VERSION))
@@ -262,3 +277,60 @@ def run(lesson, limits=Limits(), tape=b""):
     if end and end.cause in ("call", "lesson"):
         raise end
     return Run(end, answer.steps, answer.climbs, answer.words, output[0][: answer.printed], bytes(registers[0]))
+
+
+def join(lesson, library):
+    """Puts a library, which is zero or more class declarations, under a lesson: the lesson, a line feed, and each class of the library whose name no class of the lesson has.
+    All other functions take that text. What is wrong with a library that is refused `read_library` says.
+
+    >>> join(b"class M{public static void main(String[] a){{}}} class A{}", b"class A{int a;} class B{}")
+    b'class M{public static void main(String[] a){{}}} class A{}\\nclass B{}\\n'
+    """
+    text, length = strip(ctypes.c_uint8, JOIN_MOST)
+    answer = accepted(LIBRARY.engine_join(lesson, len(lesson), *table(), library, len(library), text, length))
+    return bytes(text[: answer.count])
+
+
+def read_library(library):
+    """Is a library in the grammar, and within the bounds? Raises a Refusal, with the number that Read gives a lesson for the same fault, where it is not.
+
+    >>> try:
+    ...     read_library(b"class A{} main")
+    ... except Refusal as refusal:
+    ...     print(refusal.number, refusal.position, refusal.name)
+    16 10 not in grammar
+    """
+    position = refused_at(library)
+    if position is None:
+        return
+    try:
+        read(library)
+    except Refusal as found:
+        # The bounds of bytes and tokens, and what is wrong with a token, come before the grammar, so Read finds the same in a library as Join does.
+        if found.number not in (NOT_IN_GRAMMAR, TOO_DEEP):
+            raise
+    raise Refusal(NOT_IN_GRAMMAR if is_ungrammatical(library, position) else TOO_DEEP, position)
+
+
+SMALLEST = b"class M{public static void main(String[]a){{}}}"  # a lesson to which every library can be joined
+NOT_IN_GRAMMAR = 16
+TOO_DEEP = 17
+# The token at a position, or more tokens: one is a mark of one byte or two, or within a run of letters, digits, underscores and points.
+TOKEN = re.compile(rb"[A-Za-z0-9_.]+|&&|.", re.DOTALL)
+
+
+def refused_at(library):
+    """Where Join refuses a library; None where it does not."""
+    try:
+        join(SMALLEST, library)
+    except Refusal as refusal:
+        return refusal.position
+
+
+def is_ungrammatical(library, at):
+    """Whether a library all of whose tokens are good, and which is refused at a position, is not in the grammar; else it is too deep there.
+
+    What is refused at its end is not in the grammar. Else it is cut off behind the token at that place. If no library begins with the tokens up to this one, it is refused at the
+    same place again; if the whole is in the grammar, it is cut off within a class, and refused at its end.
+    """
+    return at == len(library) or refused_at(library[: TOKEN.match(library, at).end()]) == at

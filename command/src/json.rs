@@ -1,7 +1,7 @@
 //! An answer as one JSON object on a line.
 
 use crate::place::place;
-use lesson_engine::Refusal;
+use crate::source::Finding;
 use std::fmt::Write;
 
 pub struct Object {
@@ -29,17 +29,33 @@ impl Object {
         Object { text: String::from("{") }
     }
 
-    /// Of a lesson: number, position, line, column and words of how it ended. Of success line and column are null.
-    pub fn of(file: &str, lesson: &[u8], end: Option<&Refusal>, success: &str) -> Object {
-        let found = end.map(|r| place(lesson, r.position));
+    /// Of a lesson with which all went well; line and column are null.
+    pub fn good(file: &str, name: &str) -> Object {
         let mut made = Object::empty();
         made.text("file", file);
-        made.number("number", end.map_or(0, |r| r.kind.number()));
-        made.number("position", end.map_or(0, |r| r.position));
-        made.number_or_null("line", found.as_ref().map(|p| p.line));
-        made.number_or_null("column", found.as_ref().map(|p| p.column));
-        made.text("name", end.map_or(success, |r| r.kind.name()));
-        made.text("words", end.map_or("", |r| r.kind.sentence()));
+        made.number("number", 0);
+        made.number("position", 0);
+        made.number_or_null::<usize>("line", None);
+        made.number_or_null::<usize>("column", None);
+        made.text("name", name);
+        made.text("words", "");
+        made
+    }
+
+    /// Of a refusal, a fault or a limit: number, position, line, column and words.
+    pub fn of(finding: &Finding) -> Object {
+        let found = place(&finding.file.text, finding.position);
+        let mut made = Object::empty();
+        made.text("file", &finding.file.name);
+        made.number("number", finding.kind.number());
+        made.number("position", finding.position);
+        made.number("line", found.line);
+        made.number("column", found.column);
+        made.text("name", finding.kind.name());
+        made.text("words", &finding.words());
+        if let Some(fault) = finding.fault() {
+            made.number("fault", fault);
+        }
         made
     }
 
@@ -58,6 +74,11 @@ impl Object {
 
     pub fn number_or_null<N: ToString>(&mut self, key: &str, value: Option<N>) {
         self.raw(key, &value.map_or("null".to_owned(), |v| v.to_string()));
+    }
+
+    /// Bytes as text; null where they are none.
+    pub fn bytes(&mut self, key: &str, value: &[u8]) {
+        self.raw(key, &std::str::from_utf8(value).map_or("null".to_owned(), quoted));
     }
 
     pub fn truth(&mut self, key: &str, value: bool) {

@@ -4,15 +4,17 @@ mod json;
 mod mark;
 mod place;
 mod show;
+mod source;
 mod usage;
 
 use json::Object;
 use lesson_engine::{Cause, Refusal, Run};
 use mark::Ending;
 use place::place;
+use source::{File, Finding, Source};
 use std::env;
 use std::ffi::{OsStr, OsString};
-use std::fs::File;
+use std::fs;
 use std::io::{self, Read, Write};
 use std::process::exit;
 use usage::{Asked, Request, Task};
@@ -21,12 +23,12 @@ const GOOD: i32 = 0;
 const REFUSED: i32 = 1;
 const WRONG_USE: i32 = 2;
 
-/// A byte more than a lesson may have, so that the engine refuses a longer one; the rest of it need not be read.
+/// A byte more than a lesson or a library may have, so that the engine refuses a longer one; the rest of it need not be read.
 const LESSON_BYTES: u64 = lesson_engine::sys::SOURCE_MOST as u64 + 1;
 
 /// What is written of one lesson, and the exit status that it asks for.
 struct Said {
-    output: String,
+    output: Vec<u8>,
     errors: String,
     status: i32,
 }
@@ -36,7 +38,7 @@ fn content(file: &OsStr, most: u64) -> io::Result<Vec<u8>> {
     if file == "-" {
         io::stdin().take(most).read_to_end(&mut bytes)?;
     } else {
-        File::open(file)?.take(most).read_to_end(&mut bytes)?;
+        fs::File::open(file)?.take(most).read_to_end(&mut bytes)?;
     }
     Ok(bytes)
 }
@@ -46,74 +48,90 @@ fn opened(file: &OsStr, most: u64) -> Result<Vec<u8>, Said> {
     content(file, most).map_err(|e| wrong(&format!("{}: {}", show::name(file), e)))
 }
 
-fn wrong(message: &str) -> Said {
-    Said { output: String::new(), errors: format!("lesson: {}\n", message), status: WRONG_USE }
+/// A lesson or a library.
+fn text_of(file: &OsString) -> Result<File, Said> {
+    Ok(File { name: show::name(file), text: opened(file, LESSON_BYTES)? })
 }
 
-/// Of a lesson that was refused, or whose run ended in a fault or at a limit.
-fn refused(asked: &Asked, file: &str, lesson: &[u8], refusal: &Refusal) -> Said {
-    if refusal.kind.cause() == Cause::Call {
-        return wrong(&format!("{} {}: {}", refusal.kind.number(), refusal.kind.name(), refusal.kind.sentence()));
-    }
-    let mut said = Said { output: String::new(), errors: String::new(), status: REFUSED };
-    if asked.is_json {
-        said.output = Object::of(file, lesson, Some(refusal), "").line();
-    } else {
-        said.errors = show::diagnostic(file, lesson, refusal, show::is_coloured());
-    }
-    said
+/// What is lent to every lesson.
+struct Lent {
+    library: Option<File>,
+    tape: Vec<u8>,
+    expected: Vec<u8>,
+}
+
+fn lent(asked: &Asked) -> Result<Lent, Said> {
+    let bytes = |file: &Option<OsString>| file.as_ref().map_or(Ok(Vec::new()), |f| opened(f, u64::MAX));
+    Ok(Lent { library: asked.library.as_ref().map(text_of).transpose()?, tape: bytes(&asked.tape)?, expected: bytes(&asked.expected)? })
+}
+
+fn wrong(message: &str) -> Said {
+    Said { output: Vec::new(), errors: format!("lesson: {}\n", message), status: WRONG_USE }
 }
 
 fn good(output: String) -> Said {
-    Said { output, errors: String::new(), status: GOOD }
+    Said { output: output.into_bytes(), errors: String::new(), status: GOOD }
 }
 
-fn check(asked: &Asked, file: &str, lesson: &[u8]) -> Said {
-    match lesson_engine::check(lesson) {
-        Err(refusal) => refused(asked, file, lesson, &refusal),
-        Ok(classes) if asked.is_json => {
-            let mut object = Object::of(file, lesson, None, "accepted");
-            object.number("classes", classes);
-            good(object.line())
-        }
-        Ok(_) => good(format!("{}: accepted\n", file)),
+/// Of what was refused, or of a run that ended in a fault or at a limit.
+fn refused(asked: &Asked, finding: &Finding) -> Said {
+    if finding.kind.cause() == Cause::Call {
+        return wrong(&format!("{} {}: {}", finding.kind.number(), finding.kind.name(), finding.words()));
     }
+    if !asked.is_json {
+        return Said { output: Vec::new(), errors: show::diagnostic(finding), status: REFUSED };
+    }
+    let mut object = Object::of(finding);
+    if asked.task == Task::Mark {
+        object.truth("right", false);
+    }
+    Said { output: object.line().into_bytes(), errors: String::new(), status: REFUSED }
+}
+
+fn check(asked: &Asked, source: &Source) -> Result<Said, Refusal> {
+    let classes = lesson_engine::check(source.text())?;
+    if !asked.is_json {
+        return Ok(good(format!("{}: accepted\n", source.lesson.name)));
+    }
+    let mut object = Object::good(&source.lesson.name, "accepted");
+    object.number("classes", classes);
+    Ok(good(object.line()))
 }
 
 /// The name that stands at a position: letters, digits and underscores.
-fn name_at(lesson: &[u8], position: usize) -> String {
-    lesson[position..].iter().take_while(|b| b.is_ascii_alphanumeric() || **b == b'_').map(|&b| b as char).collect()
+fn name_at(text: &[u8], position: usize) -> String {
+    text[position..].iter().take_while(|b| b.is_ascii_alphanumeric() || **b == b'_').map(|&b| b as char).collect()
 }
 
-fn menu(asked: &Asked, file: &str, lesson: &[u8]) -> Said {
-    let positions = match lesson_engine::menu(lesson) {
-        Err(refusal) => return refused(asked, file, lesson, &refusal),
-        Ok(positions) => positions,
-    };
+fn class_object(file: &File, position: usize) -> Object {
+    let found = place(&file.text, position);
+    let mut class = Object::empty();
+    class.text("class", &name_at(&file.text, position));
+    class.text("file", &file.name);
+    class.number("position", position);
+    class.number("line", found.line);
+    class.number("column", found.column);
+    class
+}
+
+fn menu(asked: &Asked, source: &Source) -> Result<Said, Refusal> {
+    let positions = lesson_engine::menu(source.text())?;
+    let spots = positions.iter().map(|&p| source.spot(p));
     if asked.is_json {
-        let mut object = Object::of(file, lesson, None, "accepted");
-        let classes = positions.iter().map(|&p| {
-            let found = place(lesson, p);
-            let mut class = Object::empty();
-            class.text("class", &name_at(lesson, p));
-            class.number("position", p);
-            class.number("line", found.line);
-            class.number("column", found.column);
-            class
-        });
-        object.objects("classes", classes.collect());
-        return good(object.line());
+        let mut object = Object::good(&source.lesson.name, "accepted");
+        object.objects("classes", spots.map(|(file, p)| class_object(file, p)).collect());
+        return Ok(good(object.line()));
     }
-    let line = |&p: &usize| {
-        let found = place(lesson, p);
-        format!("{}:{}:{}: {}\n", file, found.line, found.column, name_at(lesson, p))
+    let line = |(file, p): (&File, usize)| {
+        let found = place(&file.text, p);
+        format!("{}:{}:{}: {}\n", file.name, found.line, found.column, name_at(&file.text, p))
     };
-    good(positions.iter().map(line).collect())
+    Ok(good(spots.map(line).collect()))
 }
 
 /// The object of a run.
-fn run_object(file: &str, lesson: &[u8], run: &Run) -> Object {
-    let mut object = Object::of(file, lesson, run.end.as_ref(), "finished");
+fn run_object(source: &Source, run: &Run) -> Object {
+    let mut object = run.end.map_or_else(|| Object::good(&source.lesson.name, "finished"), |r| Object::of(&source.finding(&r)));
     object.number("steps", run.steps);
     object.number("climbs", run.climbs);
     object.number("heap_words", run.words);
@@ -122,14 +140,23 @@ fn run_object(file: &str, lesson: &[u8], run: &Run) -> Object {
     object
 }
 
-fn run(asked: &Asked, file: &str, lesson: &[u8], tape: &[u8]) -> Said {
-    let run = match lesson_engine::run(lesson, &asked.limits, tape) {
-        Err(refusal) => return refused(asked, file, lesson, &refusal),
-        Ok(run) => run,
-    };
-    let mut said = run.end.map_or_else(|| good(String::new()), |r| refused(asked, file, lesson, &r));
-    said.output = if asked.is_json { run_object(file, lesson, &run).line() } else { run.printed.iter().map(|n| format!("{}\n", n)).collect() };
-    said
+fn run(asked: &Asked, source: &Source, tape: &[u8]) -> Result<Said, Refusal> {
+    let run = lesson_engine::run(source.text(), &asked.limits, tape)?;
+    let mut said = run.end.map_or_else(|| good(String::new()), |r| refused(asked, &source.finding(&r)));
+    let printed = || run.printed.iter().map(|n| format!("{}\n", n)).collect();
+    said.output = if asked.is_json { run_object(source, &run).line() } else { printed() }.into_bytes();
+    Ok(said)
+}
+
+fn join(asked: &Asked, source: &Source) -> Result<Said, Refusal> {
+    let text = source.text();
+    if !asked.is_json {
+        return Ok(Said { output: text.to_owned(), errors: String::new(), status: GOOD });
+    }
+    let mut object = Object::good(&source.lesson.name, "joined");
+    object.number("bytes", text.len());
+    object.bytes("text", text);
+    Ok(good(object.line()))
 }
 
 /// How a run ended, as bayrun says it.
@@ -137,72 +164,67 @@ fn ending(run: &Run) -> Ending {
     Ending { number: run.end.map_or(0, |r| r.kind.number()), position: run.end.map_or(0, |r| r.position), steps: run.steps, words: run.words }
 }
 
-fn mark(asked: &Asked, file: &str, lesson: &[u8], tape: &[u8], expected: &[u8]) -> Said {
-    let expected = match mark::expected(expected) {
-        Err(word) => return wrong(&format!("what is expected has '{}', which is no number", word.escape_default())),
+fn mark(asked: &Asked, source: &Source, lent: &Lent) -> Result<Said, Refusal> {
+    let expected = match mark::expected(&lent.expected) {
+        Err(word) => return Ok(wrong(&format!("what is expected has '{}', which is no number", word.escape_default()))),
         Ok(expected) => expected,
     };
-    let run = match lesson_engine::run(lesson, &asked.limits, tape) {
-        Err(refusal) => {
-            let mut said = refused(asked, file, lesson, &refusal);
-            if asked.is_json && said.status == REFUSED {
-                let mut object = Object::of(file, lesson, Some(&refusal), "");
-                object.truth("right", false);
-                said.output = object.line();
-            }
-            return said;
-        }
-        Ok(run) => run,
-    };
+    let run = lesson_engine::run(source.text(), &asked.limits, &lent.tape)?;
     let difference = mark::difference(&run.printed, &expected.numbers);
     let ended = ending(&run);
     let is_ended_right = expected.ending.map_or(run.end.is_none(), |e| e == ended);
     let is_right = difference.is_none() && is_ended_right;
-    let mut said = Said { output: String::new(), errors: String::new(), status: if is_right { GOOD } else { REFUSED } };
+    let mut said = Said { output: Vec::new(), errors: String::new(), status: if is_right { GOOD } else { REFUSED } };
     if asked.is_json {
-        let mut object = run_object(file, lesson, &run);
+        let mut object = run_object(source, &run);
         object.truth("right", is_right);
         object.number_or_null("first_difference", difference.map(|d| d.index));
         object.number_or_null("expected", difference.and_then(|d| d.expected));
-        said.output = object.line();
-        return said;
+        said.output = object.line().into_bytes();
+        return Ok(said);
     }
+    let file = &source.lesson.name;
+    let mut lines = String::new();
     if is_right {
-        said.output = format!("{}: right, {} numbers\n", file, run.printed.len());
-        return said;
+        lines = format!("{}: right, {} numbers\n", file, run.printed.len());
     }
     if let Some(d) = difference {
-        said.output = format!("{}: {}\n", file, d.words());
+        lines = format!("{}: {}\n", file, d.words());
     }
     if let (false, Some(e)) = (is_ended_right, expected.ending) {
-        said.output += &format!(
-            "{}: ends = {} {} {} {}, expected = {} {} {} {}\n",
-            file, ended.number, ended.position, ended.steps, ended.words, e.number, e.position, e.steps, e.words
-        );
+        lines += &format!("{}: ends {}, expected {}\n", file, ended.words(), e.words());
     }
     if let (false, Some(r)) = (is_ended_right, run.end) {
-        said.errors = show::diagnostic(file, lesson, &r, show::is_coloured());
+        said.errors = show::diagnostic(&source.finding(&r));
     }
-    said
+    said.output = lines.into_bytes();
+    Ok(said)
+}
+
+/// Answers for a text that the operations take.
+fn answer_source(asked: &Asked, source: &Source, lent: &Lent) -> Result<Said, Refusal> {
+    match asked.task {
+        Task::Check => check(asked, source),
+        Task::Run => run(asked, source, &lent.tape),
+        Task::Menu => menu(asked, source),
+        Task::Mark => mark(asked, source, lent),
+        Task::Join => join(asked, source),
+    }
 }
 
 /// Answers for one lesson.
-fn answer(asked: &Asked, file: &OsString) -> Result<Said, Said> {
-    let tape = asked.tape.as_ref().map_or(Ok(Vec::new()), |t| opened(t, u64::MAX))?;
-    let expected = asked.expected.as_ref().map_or(Ok(Vec::new()), |e| opened(e, u64::MAX))?;
-    let lesson = opened(file, LESSON_BYTES)?;
-    let shown = show::name(file);
-    Ok(match asked.task {
-        Task::Check => check(asked, &shown, &lesson),
-        Task::Run => run(asked, &shown, &lesson, &tape),
-        Task::Menu => menu(asked, &shown, &lesson),
-        Task::Mark => mark(asked, &shown, &lesson, &tape, &expected),
-    })
+fn answer(asked: &Asked, file: &OsString, lent: &Lent) -> Result<Said, Said> {
+    let lesson = text_of(file)?;
+    let source = match &lent.library {
+        Some(library) => Source::joined(&lesson, library).map_err(|finding| refused(asked, &finding))?,
+        None => Source::alone(&lesson),
+    };
+    answer_source(asked, &source, lent).map_err(|refusal| refused(asked, &source.finding(&refusal)))
 }
 
 /// Writes what is said. A reader that has gone away, as `head` does, is no fault.
 fn write(said: &Said) -> i32 {
-    let written = io::stdout().write_all(said.output.as_bytes()).and_then(|_| io::stdout().flush());
+    let written = io::stdout().write_all(&said.output).and_then(|_| io::stdout().flush());
     match written {
         Err(e) if e.kind() != io::ErrorKind::BrokenPipe => {
             let _ = writeln!(io::stderr(), "lesson: standard output: {}", e);
@@ -220,9 +242,10 @@ fn main() {
         Request::Wrong(message) => exit(write(&wrong(&format!("{}; 'lesson --help' says what can be asked", message)))),
         Request::Do(asked) => asked,
     };
+    let lent = lent(&asked).unwrap_or_else(|said| exit(write(&said)));
     let mut status = GOOD;
     for file in &asked.files {
-        let said = answer(&asked, file).unwrap_or_else(|said| said);
+        let said = answer(&asked, file, &lent).unwrap_or_else(|said| said);
         status = status.max(write(&said));
     }
     exit(status);

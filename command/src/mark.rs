@@ -9,6 +9,12 @@ pub struct Ending {
     pub words: usize,
 }
 
+impl Ending {
+    pub fn words(&self) -> String {
+        format!("= {} {} {} {}", self.number, self.position, self.steps, self.words)
+    }
+}
+
 pub struct Expected {
     pub numbers: Vec<i32>,
     /// None where nothing is said of it: then the run must finish.

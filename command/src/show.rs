@@ -1,7 +1,7 @@
 //! An answer as people read it.
 
 use crate::place::place;
-use lesson_engine::Refusal;
+use crate::source::Finding;
 use std::env;
 use std::os::raw::c_int;
 
@@ -12,7 +12,7 @@ extern "C" {
 }
 
 /// Whether standard error takes colour: where it is a terminal, and the user has not said otherwise (no-color.org).
-pub fn is_coloured() -> bool {
+fn is_coloured() -> bool {
     let is_wanted = env::var_os("NO_COLOR").map_or(true, |v| v.is_empty()) && env::var_os("TERM").map_or(false, |t| t != "dumb");
     is_wanted && unsafe { isatty(STANDARD_ERROR) } == 1
 }
@@ -27,20 +27,20 @@ const COLOURED: Style = Style { strong: "\x1b[1;31m", mark: "\x1b[1;32m", plain:
 const UNCOLOURED: Style = Style { strong: "", mark: "", plain: "" };
 
 /// `FILE:LINE:COLUMN: NUMBER NAME: SENTENCE`, the line, and a mark under the place.
-pub fn diagnostic(file: &str, lesson: &[u8], refusal: &Refusal, is_coloured: bool) -> String {
-    let style = if is_coloured { COLOURED } else { UNCOLOURED };
-    let place = place(lesson, refusal.position);
+pub fn diagnostic(finding: &Finding) -> String {
+    let style = if is_coloured() { COLOURED } else { UNCOLOURED };
+    let place = place(&finding.file.text, finding.position);
     let (line, columns) = place.shown();
     format!(
         "{}:{}:{}: {}{} {}{}: {}\n    {}\n    {}{}^{}\n",
-        file,
+        finding.file.name,
         place.line,
         place.column,
         style.strong,
-        refusal.kind.number(),
-        refusal.kind.name(),
+        finding.kind.number(),
+        finding.kind.name(),
         style.plain,
-        refusal.kind.sentence(),
+        finding.words(),
         line,
         " ".repeat(columns),
         style.mark,

@@ -12,10 +12,13 @@ lesson: checks, runs and marks MiniJava lessons
   lesson mark FILE EXPECTED [LIMITS]
                                  runs a lesson and says whether it prints the numbers of the file EXPECTED,
                                  and if not which is the first that differs
+  lesson join FILE LIBRARY       the lesson, and behind it each class of the library whose name no class of
+                                 the lesson has
 
   FILE is a file, or - for standard input.
   EXPECTED has numbers, separated by blanks or line feeds. Where its last line is one that bayrun prints,
   '= NUMBER POSITION STEPS WORDS', the run must end so; else it must finish.
+  LIBRARY has class declarations only.
 
 LIMITS:
   --budget N     steps, 0 to 4294967295 (100000)
@@ -24,6 +27,7 @@ LIMITS:
   --output N     printed numbers (256)
   --tape FILE    the samples that come in over the cable, a byte each (none)
 
+  --library FILE the library is joined to each lesson first; what stands in one of its classes is shown there
   --json         one object a lesson, on a line of its own, on standard output
   --help         this text
 
@@ -41,6 +45,37 @@ pub enum Task {
     Run,
     Menu,
     Mark,
+    Join,
+}
+
+impl Task {
+    fn named(word: &str) -> Option<Task> {
+        match word {
+            "check" => Some(Task::Check),
+            "run" => Some(Task::Run),
+            "menu" => Some(Task::Menu),
+            "mark" => Some(Task::Mark),
+            "join" => Some(Task::Join),
+            _ => None,
+        }
+    }
+
+    /// What stands after the lesson, where something does.
+    fn second(self) -> Option<&'static str> {
+        match self {
+            Task::Mark => Some("what is expected"),
+            Task::Join => Some("a library"),
+            _ => None,
+        }
+    }
+
+    fn takes_many(self) -> bool {
+        self == Task::Check
+    }
+
+    fn is_run(self) -> bool {
+        matches!(self, Task::Run | Task::Mark)
+    }
 }
 
 pub struct Asked {
@@ -49,6 +84,7 @@ pub struct Asked {
     pub expected: Option<OsString>,
     pub limits: Limits,
     pub tape: Option<OsString>,
+    pub library: Option<OsString>,
     pub is_json: bool,
 }
 
@@ -56,6 +92,19 @@ pub enum Request {
     Help,
     Do(Asked),
     Wrong(String),
+}
+
+/// The words of a command line: those that are no options, and what the options say.
+#[derive(Default)]
+struct Words {
+    plain: Vec<OsString>,
+    limits: Limits,
+    tape: Option<OsString>,
+    library: Option<OsString>,
+    is_json: bool,
+    is_help: bool,
+    /// An option that a run takes.
+    of_run: Option<String>,
 }
 
 /// The value of an option, which stands after `=` or is the next word.
@@ -72,70 +121,83 @@ fn number<T: std::str::FromStr>(name: &str, text: OsString) -> Result<T, String>
     shown.parse().ok().filter(|_| is_decimal).ok_or_else(|| format!("{} takes a number in its range, not '{}'", name, shown))
 }
 
-fn task(word: &str) -> Option<Task> {
-    match word {
-        "check" => Some(Task::Check),
-        "run" => Some(Task::Run),
-        "menu" => Some(Task::Menu),
-        "mark" => Some(Task::Mark),
-        _ => None,
-    }
-}
-
-fn parse(words: Vec<OsString>) -> Result<Request, String> {
-    let mut rest = words.into_iter();
-    let mut plain = Vec::new();
-    let mut limits = Limits::default();
-    let mut tape = None;
-    let mut limit_given = None;
-    let mut is_json = false;
-    while let Some(word) = rest.next() {
-        let text = word.to_string_lossy().into_owned();
-        if text == "--" {
-            plain.extend(rest.by_ref());
-            break;
-        }
-        if text == "-" || !text.starts_with('-') {
-            plain.push(word);
-            continue;
-        }
-        let (name, inline) = match text.split_once('=') {
-            Some((name, value)) => (name, Some(value)),
-            None => (text.as_str(), None),
-        };
+impl Words {
+    /// Takes an option, and the next words where its value is one.
+    fn take(&mut self, name: &str, inline: Option<&str>, rest: &mut dyn Iterator<Item = OsString>) -> Result<(), String> {
         match name {
-            "--help" | "-h" => return Ok(Request::Help),
-            "--json" => is_json = true,
-            "--budget" => limits.budget = number(name, value(name, inline, &mut rest)?)?,
-            "--calls" => limits.calls = number(name, value(name, inline, &mut rest)?)?,
-            "--heap" => limits.heap = number(name, value(name, inline, &mut rest)?)?,
-            "--output" => limits.output = number(name, value(name, inline, &mut rest)?)?,
-            "--tape" => tape = Some(value(name, inline, &mut rest)?),
+            "--help" | "-h" => self.is_help = true,
+            "--json" => self.is_json = true,
+            "--library" => self.library = Some(value(name, inline, rest)?),
+            "--budget" => self.limits.budget = number(name, value(name, inline, rest)?)?,
+            "--calls" => self.limits.calls = number(name, value(name, inline, rest)?)?,
+            "--heap" => self.limits.heap = number(name, value(name, inline, rest)?)?,
+            "--output" => self.limits.output = number(name, value(name, inline, rest)?)?,
+            "--tape" => self.tape = Some(value(name, inline, rest)?),
             _ => return Err(format!("there is no option {}", name)),
         }
-        if name != "--json" {
-            limit_given = Some(name.to_owned());
+        if matches!(name, "--budget" | "--calls" | "--heap" | "--output" | "--tape") {
+            self.of_run = Some(name.to_owned());
         }
+        Ok(())
     }
-    let mut files = plain.into_iter();
-    let first = files.next().ok_or("no command is given")?;
-    let task = first.to_str().and_then(task).ok_or_else(|| format!("there is no command '{}'", first.to_string_lossy()))?;
-    let mut files: Vec<OsString> = files.collect();
-    let wanted = if task == Task::Mark { 2 } else { 1 };
-    if files.len() < wanted || (task != Task::Check && files.len() > wanted) {
-        return Err(format!("'lesson {}' takes {}", first.to_string_lossy(), if task == Task::Mark { "a lesson and what is expected" } else { "a lesson" }));
+
+    fn of(words: Vec<OsString>) -> Result<Words, String> {
+        let mut made = Words::default();
+        let mut rest = words.into_iter();
+        while let Some(word) = rest.next() {
+            let text = word.to_string_lossy().into_owned();
+            if text == "--" {
+                made.plain.extend(rest.by_ref());
+            } else if text == "-" || !text.starts_with('-') {
+                made.plain.push(word);
+            } else {
+                let (name, inline) = text.split_once('=').map_or((text.as_str(), None), |(name, value)| (name, Some(value)));
+                made.take(name, inline, &mut rest)?;
+            }
+            if made.is_help {
+                break;
+            }
+        }
+        Ok(made)
     }
-    if let (Some(name), Task::Check | Task::Menu) = (limit_given, task) {
-        return Err(format!("'lesson {}' runs nothing, so it takes no {}", first.to_string_lossy(), name));
+
+    /// Refuses options that a task does not take.
+    fn fit(&self, task: Task, name: &str) -> Result<(), String> {
+        let message = match &self.of_run {
+            Some(option) if !task.is_run() => format!("'lesson {}' runs nothing, so it takes no {}", name, option),
+            _ if task == Task::Join && self.library.is_some() => "'lesson join' takes its library as the second file".to_owned(),
+            _ => return Ok(()),
+        };
+        Err(message)
     }
-    let expected = if task == Task::Mark { files.pop() } else { None };
-    let inputs = files.iter().chain(&expected).chain(&tape).filter(|f| *f == "-").count();
-    if inputs > 1 {
-        return Err("standard input can be read once only".to_owned());
+
+    fn asked(mut self) -> Result<Asked, String> {
+        if self.plain.is_empty() {
+            return Err("no command is given".to_owned());
+        }
+        let name = self.plain.remove(0).to_string_lossy().into_owned();
+        let task = Task::named(&name).ok_or_else(|| format!("there is no command '{}'", name))?;
+        self.fit(task, &name)?;
+        let mut files = self.plain;
+        let wanted = 1 + task.second().iter().count();
+        if files.len() < wanted || (files.len() > wanted && !task.takes_many()) {
+            let second = task.second().map_or(String::new(), |s| format!(" and {}", s));
+            return Err(format!("'lesson {}' takes a lesson{}", name, second));
+        }
+        let second = task.second().and_then(|_| files.pop());
+        let (expected, library) = if task == Task::Join { (None, second) } else { (second, self.library) };
+        let inputs = files.iter().chain(&expected).chain(&library).chain(&self.tape).filter(|f| *f == "-").count();
+        if inputs > 1 {
+            return Err("standard input can be read once only".to_owned());
+        }
+        Ok(Asked { task, files, expected, limits: self.limits, tape: self.tape, library, is_json: self.is_json })
     }
-    Ok(Request::Do(Asked { task, files, expected, limits, tape, is_json }))
 }
 
 pub fn request(words: Vec<OsString>) -> Request {
-    parse(words).unwrap_or_else(Request::Wrong)
+    match Words::of(words) {
+        Ok(words) if words.is_help => Request::Help,
+        Ok(words) => words.asked().map_or_else(Request::Wrong, Request::Do),
+        Err(message) => Request::Wrong(message),
+    }
 }

@@ -7,6 +7,8 @@ pub enum Cause {
     Call,
     /// The lesson is refused and does not run.
     Lesson,
+    /// The library is refused, so it cannot be joined to a lesson.
+    Library,
     /// The run ended by a fault of the lesson.
     Fault,
     /// A limit stopped the run.
@@ -93,11 +95,15 @@ pub enum Kind {
     ValueOutOfRange,
     /// 65: A number with a point has other than three digits behind it.
     NotThreeDigits,
+    /// 66: The library has something other than class declarations, or Read's rules and bounds do not hold for it.
+    LibraryRefused,
+    /// 67: The strip is too short for the lesson and the classes of the library.
+    JoinedTooLong,
 }
 
 impl Kind {
     /// All of them, by their numbers.
-    pub const ALL: [Kind; 38] = [
+    pub const ALL: [Kind; 40] = [
         Kind::TableTooShort,
         Kind::CallLimitOutOfRange,
         Kind::HeapTooLong,
@@ -136,6 +142,8 @@ impl Kind {
         Kind::RegisterOutOfRange,
         Kind::ValueOutOfRange,
         Kind::NotThreeDigits,
+        Kind::LibraryRefused,
+        Kind::JoinedTooLong,
     ];
 
     /// The number that documents 01 and 02 give it.
@@ -179,6 +187,8 @@ impl Kind {
             Kind::RegisterOutOfRange => 63,
             Kind::ValueOutOfRange => 64,
             Kind::NotThreeDigits => 65,
+            Kind::LibraryRefused => 66,
+            Kind::JoinedTooLong => 67,
         }
     }
 
@@ -223,6 +233,8 @@ impl Kind {
             63 => Some(Kind::RegisterOutOfRange),
             64 => Some(Kind::ValueOutOfRange),
             65 => Some(Kind::NotThreeDigits),
+            66 => Some(Kind::LibraryRefused),
+            67 => Some(Kind::JoinedTooLong),
             _ => None,
         }
     }
@@ -268,6 +280,8 @@ impl Kind {
             Kind::RegisterOutOfRange => "register out of range",
             Kind::ValueOutOfRange => "value out of range",
             Kind::NotThreeDigits => "not three digits",
+            Kind::LibraryRefused => "library refused",
+            Kind::JoinedTooLong => "joined too long",
         }
     }
 
@@ -312,6 +326,8 @@ impl Kind {
             Kind::RegisterOutOfRange => "The cable has registers 0 to 15 only.",
             Kind::ValueOutOfRange => "A register takes 0 to 255 only.",
             Kind::NotThreeDigits => "A number with a point has other than three digits behind it.",
+            Kind::LibraryRefused => "The library has something other than class declarations, or Read's rules and bounds do not hold for it.",
+            Kind::JoinedTooLong => "The strip is too short for the lesson and the classes of the library.",
         }
     }
 
@@ -356,6 +372,8 @@ impl Kind {
             Kind::RegisterOutOfRange => Cause::Fault,
             Kind::ValueOutOfRange => Cause::Fault,
             Kind::NotThreeDigits => Cause::Lesson,
+            Kind::LibraryRefused => Cause::Library,
+            Kind::JoinedTooLong => Cause::Call,
         }
     }
 }

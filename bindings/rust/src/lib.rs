@@ -21,6 +21,7 @@
 //! A call needs up to [`sys::STACK_BYTES`] of stack beside the caller's own: threads of Rust's standard size have it. Any number of threads may call at once.
 
 mod kind;
+mod library;
 pub mod strips;
 pub mod sys;
 
@@ -28,11 +29,11 @@ pub use kind::{Cause, Kind};
 use std::error::Error;
 use std::fmt;
 
-/// Why a lesson is refused, or how its run ended otherwise than by itself, and where.
+/// Why a lesson or a library is refused, or how a run ended otherwise than by itself, and where.
 #[derive(Clone, Copy, Debug, PartialEq, Eq, Hash)]
 pub struct Refusal {
     pub kind: Kind,
-    /// In bytes of the lesson, from 0.
+    /// In bytes of the lesson, from 0; of [`Kind::LibraryRefused`] and of what [`read_library`] refuses in bytes of the library.
     pub position: usize,
 }
 
@@ -166,6 +167,43 @@ pub fn run(lesson: &[u8], limits: &Limits, tape: &[u8]) -> Result<Run, Refusal> 
     }
     output.truncate(a.printed);
     Ok(Run { end, steps: a.steps, climbs: a.climbs, words: a.words, printed: output, registers })
+}
+
+/// What a strip begins with after an answer, or the refusal.
+fn written(a: sys::WriteAnswer, mut strip: Vec<u8>) -> Result<Vec<u8>, Refusal> {
+    strip.truncate(a.count);
+    refusal(a.number, a.position).map_or(Ok(strip), Err)
+}
+
+/// Puts a library, which is zero or more class declarations, under a lesson: the lesson, a line feed, and each class of the library whose name no class of the lesson has.
+/// All other functions take that text. What is wrong with a library that is refused [`read_library`] says.
+///
+/// ```
+/// let lesson = b"class M{public static void main(String[] a){System.out.println(new B().b());}} class A{}";
+/// let library = b"class A{int a;} class B{public int b(){return 7;}}";
+/// let joined = lesson_engine::join(lesson, library)?;
+/// assert_eq!(joined, [&lesson[..], b"\nclass B{public int b(){return 7;}}\n"].concat());
+/// assert_eq!(lesson_engine::run(&joined, &Default::default(), &[])?.printed, [7]);
+/// # Ok::<(), lesson_engine::Refusal>(())
+/// ```
+pub fn join(lesson: &[u8], library: &[u8]) -> Result<Vec<u8>, Refusal> {
+    let mut strip = vec![0; sys::JOIN_MOST];
+    let a = strips::join(lesson, &mut table(), library, &mut strip);
+    written(a, strip)
+}
+
+/// Is a library in the grammar, and within the bounds? Refuses with the number that Read gives a lesson for the same fault.
+///
+/// ```
+/// use lesson_engine::{join, read_library, Kind};
+/// let library = b"class A{} main";
+/// let lesson = b"class M{public static void main(String[] a){{}}}";
+/// let (joined, fault) = (join(lesson, library).unwrap_err(), read_library(library).unwrap_err());
+/// assert_eq!((joined.kind, joined.position), (Kind::LibraryRefused, 10));
+/// assert_eq!((fault.kind, fault.position), (Kind::NotInGrammar, 10));
+/// ```
+pub fn read_library(library: &[u8]) -> Result<(), Refusal> {
+    library::read(library)
 }
 
 #[cfg(test)]

@@ -1,6 +1,6 @@
 //! The operations over strips of any length that the caller lends: Rust's slices are just what the header asks for.
 
-use crate::sys::{self, CheckAnswer, Limits, ReadAnswer, RunAnswer};
+use crate::sys::{self, CheckAnswer, Limits, ReadAnswer, RunAnswer, WriteAnswer};
 
 /// Read, over a table that is lent.
 pub fn read(source: &[u8], table: &mut [u32]) -> ReadAnswer {
@@ -43,6 +43,22 @@ pub fn run(source: &[u8], table: &mut [u32], limits: Limits, lent: Lent) -> RunA
             lent.registers.len(),
             lent.tape.as_ptr(),
             lent.tape.len(),
+        )
+    }
+}
+
+/// Join, over a table and a strip that are lent.
+pub fn join(source: &[u8], table: &mut [u32], library: &[u8], strip: &mut [u8]) -> WriteAnswer {
+    unsafe {
+        sys::engine_join(
+            source.as_ptr(),
+            source.len(),
+            table.as_mut_ptr(),
+            table.len(),
+            library.as_ptr(),
+            library.len(),
+            strip.as_mut_ptr(),
+            strip.len(),
         )
     }
 }

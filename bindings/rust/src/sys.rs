@@ -2,7 +2,7 @@
 
 // [words/write operations: what words/operations.txt says
 /// The version of these declarations; it goes up when one of them or its meaning changes.
-pub const VERSION: u32 = 2;
+pub const VERSION: u32 = 3;
 /// The work table has at least so many words.
 pub const TABLE_WORDS: usize = 16384;
 /// A lesson has at most so many bytes; a longer one is refused, and never read past its end.
@@ -15,6 +15,8 @@ pub const CALLS_MOST: usize = 64;
 pub const REGISTERS: usize = 16;
 /// No lesson has more classes: a strip of so many words is long enough for Menu.
 pub const CLASSES_MOST: usize = 2048;
+/// No joined text has more bytes: a strip of so many is long enough for Join.
+pub const JOIN_MOST: usize = 33281;
 /// A call takes at most so many bytes of stack.
 pub const STACK_BYTES: usize = 1048576;
 
@@ -37,6 +39,16 @@ pub struct CheckAnswer {
     pub position: usize,
     /// Beside main's; 0 after a refusal.
     pub classes: usize,
+}
+
+/// The answer of Join.
+#[repr(C)]
+#[derive(Clone, Copy, Debug, PartialEq, Eq)]
+pub struct WriteAnswer {
+    pub number: u32,
+    pub position: usize,
+    /// How many bytes lead the strip; 0 after a refusal.
+    pub count: usize,
 }
 
 /// The limits of a run. Two more are the lengths of the heap strip and of the output strip.
@@ -100,5 +112,19 @@ extern "C" {
         tape: *const u8,
         tape_length: usize,
     ) -> RunAnswer;
+    /// Puts a library under the lesson. A library is zero or more class declarations, which Read's rules and bounds hold for. After success
+    /// `strip` begins with the lesson, a line feed, then each class of the library whose name no class of the lesson has, main's included,
+    /// from its `class` to its closing brace, a line feed after each; its rest is unchanged, and so is all of it after a refusal. All other
+    /// operations take that text. Refuses as Read does; with 66, whose position counts the bytes of the library; and last with 67.
+    pub fn engine_join(
+        source: *const u8,
+        source_length: usize,
+        table: *mut u32,
+        table_length: usize,
+        library: *const u8,
+        library_length: usize,
+        strip: *mut u8,
+        strip_length: usize,
+    ) -> WriteAnswer;
 }
 // words/write]
