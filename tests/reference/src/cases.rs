@@ -38,6 +38,14 @@ impl Answerer {
         }
     }
 
+    /// None of the binding, which has no such function.
+    fn join(self, source: &[u8], table: usize, library: &[u8], strip: usize) -> Option<Result<Vec<u8>, Refusal>> {
+        match self {
+            Answerer::Reference => Some(operations::join(source, table, library, strip)),
+            Answerer::Binding => None,
+        }
+    }
+
     fn run(self, source: &[u8], table: usize, limits: Limits, registers: usize, tape: &[u8]) -> Result<Report, Refusal> {
         if let Answerer::Reference = self {
             return operations::run(source, table, limits, registers, tape);
@@ -80,10 +88,22 @@ fn refused(r: Refusal, counts: &str) -> String {
     format!("{} {}{}", r.number, r.at, counts)
 }
 
+fn digits(bytes: &[u8]) -> String {
+    let mut digits = String::new();
+    bytes.iter().for_each(|b| write!(digits, "{:02x}", b).expect("a string takes all"));
+    digits
+}
+
 fn ran(r: Report) -> String {
-    let mut registers = String::new();
-    r.registers.iter().for_each(|b| write!(registers, "{:02x}", b).expect("a string takes all"));
-    listed(format!("{} {} {} {} {} {}", r.number, r.at, r.steps, r.climbs, r.words, registers), &r.printed)
+    listed(format!("{} {} {} {} {} {}", r.number, r.at, r.steps, r.climbs, r.words, digits(&r.registers)), &r.printed)
+}
+
+/// The answer of an operation that writes a text.
+fn wrote(answer: Result<Vec<u8>, Refusal>) -> String {
+    match answer {
+        Ok(text) => format!("0 0 {} : {}", text.len(), digits(&text)),
+        Err(r) => refused(r, " 0"),
+    }
 }
 
 /// The answer to a line that is a case, or none.
@@ -110,6 +130,7 @@ pub fn answer(who: Answerer, line: &str) -> Option<String> {
                 Err(r) => refused(r, " 0 0 0 -"),
             })
         }
+        ("join", 5) => Some(wrote(who.join(&bytes(words[3])?, number(1)?, &bytes(words[4])?, number(2)?)?)),
         _ => None,
     }
 }

@@ -1,4 +1,4 @@
-//! The four operations: what each answers, by the lengths of what is lent. What the strips hold afterwards follows from the answer.
+//! The operations: what each answers, by the lengths of what is lent. What the strips hold afterwards follows from the answer.
 
 use crate::checker::{check as judge, menu as order};
 use crate::device::REGISTERS;
@@ -6,7 +6,7 @@ use crate::lexer::tokens;
 use crate::machine::{run as perform, Limits, Report};
 use crate::parser;
 use crate::refusal::{refuse, Refusal};
-use crate::tree::{Measure, Program};
+use crate::tree::{Class, Measure, Program};
 
 const TABLE_LEAST: usize = 16384;
 const HEAP_MOST: usize = 16384;
@@ -30,11 +30,41 @@ pub fn read(source: &[u8], table: usize) -> Result<Reading, Refusal> {
     wide_enough(table)?;
     let tokens = tokens(source)?;
     let program = parser::program(&tokens, source.len())?;
-    let measure = Measure::of(&program);
-    match measure.deep {
-        Some(at) => refuse(17, at),
-        None => Ok(Reading { tokens: tokens.len(), nodes: measure.nodes, program }),
+    let nodes = shallow(Measure::of(&program))?;
+    Ok(Reading { tokens: tokens.len(), nodes, program })
+}
+
+/// The number of nodes, none of which is too deep.
+fn shallow(measure: Measure) -> Result<usize, Refusal> {
+    measure.deep.map_or(Ok(measure.nodes), |at| refuse(17, at))
+}
+
+/// The classes of a library, by the rules and within the bounds by which a lesson is read.
+fn read_library(source: &[u8]) -> Result<Vec<Class>, Refusal> {
+    let classes = parser::library(&tokens(source)?, source.len())?;
+    shallow(Measure::of_classes(&classes))?;
+    Ok(classes)
+}
+
+/// The classes of a library whose names no class of the lesson has, main included.
+fn kept(lesson: &Program, library: Vec<Class>) -> Vec<Class> {
+    let is_taken = |name: &str| lesson.main.name == name || lesson.classes.iter().any(|c| c.id.name == name);
+    library.into_iter().filter(|c| !is_taken(&c.id.name)).collect()
+}
+
+/// Request (x): the lesson, a line feed, then each class of the library that is kept, a line feed after each.
+pub fn join(source: &[u8], table: usize, library: &[u8], strip: usize) -> Result<Vec<u8>, Refusal> {
+    let lesson = read(source, table)?.program;
+    let classes = read_library(library).or_else(|fault| refuse(66, fault.at))?;
+    let mut text = [source, b"\n"].concat();
+    for class in kept(&lesson, classes) {
+        text.extend(&library[class.at..class.end]);
+        text.push(b'\n');
     }
+    if strip < text.len() {
+        return refuse(67, 0);
+    }
+    Ok(text)
 }
 
 pub fn check(source: &[u8], table: usize) -> Result<Program, Refusal> {

@@ -1,4 +1,5 @@
 //! Tokens to tree: refusal 16. A token is taken only where some program begins with the tokens up to it, so the first that is not taken is the place.
+//! A library is a list of class declarations; its tokens are taken by the same rule.
 
 use crate::lexer::{Kind, Token};
 use crate::refusal::{refuse, Refusal};
@@ -91,14 +92,21 @@ impl Parser<'_> {
         self.expect(&[")", "{"])?;
         let statement = self.stmt()?;
         self.expect(&["}", "}"])?;
+        let classes = self.classes()?;
+        Ok(Program { main, statement, classes })
+    }
+
+    /// Class declarations up to the end.
+    fn classes(&mut self) -> Result<Vec<Class>, Refusal> {
         let mut classes = Vec::new();
         while self.next < self.tokens.len() {
             classes.push(self.class()?);
         }
-        Ok(Program { main, statement, classes })
+        Ok(classes)
     }
 
     fn class(&mut self) -> Result<Class, Refusal> {
+        let at = self.at();
         self.expect(&["class"])?;
         let id = self.id()?;
         let parent = if self.take("extends") { Some(self.id()?) } else { None };
@@ -112,8 +120,9 @@ impl Parser<'_> {
         while self.is("public") {
             methods.push(self.method()?);
         }
+        let end = self.at() + "}".len();
         self.expect(&["}"])?;
-        Ok(Class { id, parent, fields, methods })
+        Ok(Class { at, end, id, parent, fields, methods })
     }
 
     fn is_type_word(&self) -> bool {
@@ -365,4 +374,8 @@ impl Parser<'_> {
 
 pub fn program(tokens: &[Token], end: usize) -> Result<Program, Refusal> {
     Parser { tokens, next: 0, end }.program()
+}
+
+pub fn library(tokens: &[Token], end: usize) -> Result<Vec<Class>, Refusal> {
+    Parser { tokens, next: 0, end }.classes()
 }

@@ -93,8 +93,11 @@ pub struct Method {
     pub value: Expr,
 }
 
+/// Its text begins at `at`, with `class`, and stops before `end`, behind its closing brace.
 #[derive(Clone, Debug)]
 pub struct Class {
+    pub at: usize,
+    pub end: usize,
     pub id: Id,
     pub parent: Option<Id>,
     pub fields: Vec<Variable>,
@@ -121,11 +124,21 @@ impl Measure {
     pub fn of(program: &Program) -> Measure {
         let mut m = Measure::default();
         m.stmt(&program.statement, 1);
-        for method in program.classes.iter().flat_map(|c| &c.methods) {
-            method.body.iter().for_each(|s| m.stmt(s, 1));
-            m.expr(&method.value, 1);
-        }
+        m.classes(&program.classes);
         m
+    }
+
+    pub fn of_classes(classes: &[Class]) -> Measure {
+        let mut m = Measure::default();
+        m.classes(classes);
+        m
+    }
+
+    fn classes(&mut self, classes: &[Class]) {
+        for method in classes.iter().flat_map(|c| &c.methods) {
+            method.body.iter().for_each(|s| self.stmt(s, 1));
+            self.expr(&method.value, 1);
+        }
     }
 
     fn node(&mut self, at: usize, depth: usize) {
