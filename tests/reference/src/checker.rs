@@ -219,9 +219,9 @@ impl Body<'_> {
             ExprKind::Truth(_) => Ok(BOOLEAN),
             ExprKind::Name(name) => self.variable(name, e.at),
             ExprKind::This => self.class.map_or(refuse(34, e.at), |c| Ok(class_type(&c.id.name))),
-            ExprKind::NewArray { element, element_at, size } => {
-                let ty = Type { element: element.clone(), is_array: true };
-                known(self.table, &ty, *element_at)?;
+            ExprKind::NewArray { elements, size } => {
+                let ty = Type { element: elements.ty.clone(), is_array: true };
+                known(self.table, &ty, elements.at)?;
                 self.part(size, &INT)?;
                 Ok(ty)
             }

@@ -352,8 +352,8 @@ impl Parser<'_> {
     }
 
     fn creation(&mut self, at: usize) -> Result<Parsed, Refusal> {
-        let element_at = self.at();
-        let element = if self.take("int") {
+        let type_at = self.at();
+        let ty = if self.take("int") {
             Element::Int
         } else if self.take("boolean") {
             Element::Boolean
@@ -368,7 +368,8 @@ impl Parser<'_> {
         self.expect(&["["])?;
         let size = Box::new(self.expr()?);
         self.expect(&["]"])?;
-        Ok(Parsed { is_new_array: true, ..plain(at, ExprKind::NewArray { element, element_at, size }) })
+        let elements = Elements { ty, at: type_at };
+        Ok(Parsed { is_new_array: true, ..plain(at, ExprKind::NewArray { elements, size }) })
     }
 }
 

@@ -1,6 +1,25 @@
-//! The tree of a lesson. Positions are bytes.
+//! The tree of a lesson. Positions are bytes, and no part of what a tree says: trees that differ in nothing else are equal.
 
 pub type Name = String;
+
+/// Two are equal where these fields are; the others are positions.
+macro_rules! equal_by {
+    ($kind:ty: $($field:ident),+) => {
+        impl PartialEq for $kind {
+            fn eq(&self, other: &$kind) -> bool {
+                $(self.$field == other.$field)&&+
+            }
+        }
+    };
+}
+
+equal_by!(Elements: ty);
+equal_by!(Id: name);
+equal_by!(Variable: ty, id);
+equal_by!(Expr: kind);
+equal_by!(Stmt: kind);
+equal_by!(Method: result, id, parameters, locals, body, value);
+equal_by!(Class: id, parent, fields, methods);
 
 #[derive(Clone, Debug, PartialEq, Eq)]
 pub enum Element {
@@ -15,6 +34,13 @@ pub enum Element {
 pub struct Type {
     pub element: Element,
     pub is_array: bool,
+}
+
+/// The type of a new array's elements, and where it stands.
+#[derive(Clone, Debug)]
+pub struct Elements {
+    pub ty: Element,
+    pub at: usize,
 }
 
 /// A name that is declared or used, and where it stands.
@@ -47,7 +73,7 @@ pub struct Expr {
     pub kind: ExprKind,
 }
 
-#[derive(Clone, Debug)]
+#[derive(Clone, Debug, PartialEq)]
 pub enum ExprKind {
     Literal(i32),
     /// A count of thousandths.
@@ -55,7 +81,7 @@ pub enum ExprKind {
     Truth(bool),
     Name(Name),
     This,
-    NewArray { element: Element, element_at: usize, size: Box<Expr> },
+    NewArray { elements: Elements, size: Box<Expr> },
     NewObject(Id),
     Not(Box<Expr>),
     Binary(Operator, Box<Expr>, Box<Expr>),
@@ -71,7 +97,7 @@ pub struct Stmt {
     pub kind: StmtKind,
 }
 
-#[derive(Clone, Debug)]
+#[derive(Clone, Debug, PartialEq)]
 pub enum StmtKind {
     Block(Vec<Stmt>),
     If(Expr, Box<Stmt>, Box<Stmt>),
@@ -104,7 +130,7 @@ pub struct Class {
     pub methods: Vec<Method>,
 }
 
-#[derive(Clone, Debug)]
+#[derive(Clone, Debug, PartialEq)]
 pub struct Program {
     pub main: Id,
     pub statement: Stmt,
