@@ -1,8 +1,9 @@
 """The independent cases, which stand outside the repository, with the answers that are due of them.
 
 The cases of document 01 stand in vectors/. Those of document 02 stand in vectors-requests/stage-K/, for a repository in which requests 1 to K hold; stage-K/old/ has what is then due
-of document 01's cases. A stage whose request changes no result has no folder. From stage 7 on an answer of run has the climbs after the steps; from stage 8 on a case of run has the length of
-its register strip and its tape before the source, and the answer the registers after the heap words. Earlier cases are read with a strip of 16 bytes and an empty tape.
+of document 01's cases. A stage whose request changes no result has no folder; the cases of an operation that a request adds stand beside the stages. From stage 7 on an answer of run has
+the climbs after the steps; from stage 8 on a case of run has the length of its register strip and its tape before the source, and the answer the registers after the heap words. Earlier cases
+are read with a strip of 16 bytes and an empty tape.
 """
 import collections
 import pathlib
@@ -68,12 +69,14 @@ def group_of_document_01(shared, latest, operation):
 
 
 def groups(shared, operation):
-    """The groups of an operation's cases: document 01's, with the answers of the latest stage, and those of each request."""
-    stages = [k for k in range(1, STAGE + 1) if (shared / "vectors-requests" / ("stage-%d" % k)).is_dir()]
-    folders = [shared / "vectors-requests" / ("stage-%d" % k) for k in stages]
+    """The groups of an operation's cases: document 01's, with the answers of the latest stage, those of each request, and those of an operation that a request adds."""
+    requests = shared / "vectors-requests"
+    stages = [k for k in range(1, STAGE + 1) if (requests / ("stage-%d" % k)).is_dir()]
+    folders = [requests / ("stage-%d" % k) for k in stages]
     latest = folders[-1] / "old" if folders else shared / "vectors"
     found = [group_of_document_01(shared, latest, operation)]
     found += [group_of_request(k, folder, operation) for k, folder in zip(stages, folders)]
+    found.append(group(operation, requests / (operation + ".cases"), requests / (operation + ".answers")))
     return [g for g in found if g.rows]
 
 
