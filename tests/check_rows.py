@@ -864,7 +864,6 @@ def errors():
         ("check 20001 -", "table too large"),
         ("check 16384 2", "odd number of hexadecimal digits"),
         ("check 16384 2G", "bad hexadecimal digit"),
-        ("check 16384 " + "20" * 20001, "source too long"),
         ("menu", "word missing"),
         ("menu 16384", "word missing"),
         ("menu 16384 -", "word missing"),
@@ -885,7 +884,6 @@ def errors():
         ("menu 16384 4294967295 2", "strip too large"),
         ("menu 16384 0 2", "odd number of hexadecimal digits"),
         ("menu 16384 0 2x", "bad hexadecimal digit"),
-        ("menu 16384 0 " + "20" * 20001, "source too long"),
         ("menu 16384 0 " + "20" * 21094, "line too long"),
     ]
 

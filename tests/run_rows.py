@@ -646,10 +646,8 @@ def errors():
         ("run 16384 1 1 1 1 16 2 2G", "odd number of hexadecimal digits"),
         ("run 16384 1 1 1 1 16 2G 2", "bad hexadecimal digit"),
         ("run 16384 1 1 1 1 16 -- -", "bad hexadecimal digit"),
-        ("run 16384 1 1 1 1 16 " + "00" * 1025 + " 2", "tape too long"),
         ("run 16384 1 1 1 1 16 - 2", "odd number of hexadecimal digits"),
         ("run 16384 1 1 1 1 16 - 2G", "bad hexadecimal digit"),
-        ("run 16384 1 1 1 1 16 - " + "20" * 20001, "source too long"),
     ]
 
 

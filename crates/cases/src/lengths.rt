@@ -3,8 +3,6 @@ use crate::fields;
 use crate::fields::Number;
 use crate::output;
 use crate::output::Wrong;
-use crate::source;
-use crate::source::Size;
 
 // No length: it is longer than anything that is lent.
 const NONE: usize = 4294967296;
@@ -29,15 +27,6 @@ pub fn length_at(line: &[u8], k: usize, most: usize, over: Wrong) -> usize {
     match n {
         Number::Is(length) => at_most(most, length, over),
         Number::Malformed => refused(Wrong::Number),
-    }
-}
-
-// How many bytes word `k` spells, at most `most`.
-pub fn size_at(line: &[u8], k: usize, most: usize, over: Wrong) -> usize {
-    let s = source::size_at(line, k);
-    match s {
-        Size::Bytes(n) => at_most(most, n, over),
-        Size::Refused(wrong) => refused(wrong),
     }
 }
 

@@ -1,5 +1,6 @@
 // Answers cases from standard input, a line each: the first word of a line names an operation, the others are what it is given.
 // A line that is no case is answered by what is wrong with it, an empty line is passed over.
+mod bytes;
 mod fields;
 mod lengths;
 mod lent;
@@ -8,7 +9,6 @@ mod numbers;
 mod operation;
 mod output;
 mod page;
-mod registers;
 mod run_case;
 mod run_lent;
 mod source;
@@ -19,19 +19,13 @@ use crate::operation::Name;
 use crate::output::Wrong;
 use libc::STDIN_FILENO;
 
-// Room for a line, and a byte by which a longer one shows: the longest source takes 40,000 digits, the longest tape 2,048, the other words less than 150
-// bytes.
+// Room for a line, and a byte by which a longer one shows. Document 01 takes sources of up to 16,384 bytes, which two digits each spell;
+// what is longer it refuses, which is a case too.
 const LINE_MOST: usize = 42200;
 
-// The longest source. Document 01 takes up to 16,384 bytes; what is longer it refuses, which is a case too.
-const SOURCE_MOST: usize = 20000;
-
 // The longest table. Document 01 asks for 16,384 words; what is longer must be wiped as well.
+// The line, the table and the strips of an operation take less than a quarter of a stack of 1 MiB.
 const TABLE_MOST: usize = 20000;
-
-// The longest strip: a word for each token, which is more than there can be classes, so the rest of it can be looked at too.
-// The line, the source, the table and all strips take less than a quarter of a stack of 1 MiB.
-const STRIP_MOST: usize = 2048;
 
 // What came of one read of the input: how many bytes of a line wait for the rest of it; or the input is over.
 enum Taken {
@@ -40,23 +34,22 @@ enum Taken {
 }
 
 // Answers a line.
-fn answer(line: &[u8], source: &mut [u8], table: &mut [u32], strip: &mut [u32]) {
+fn answer(line: &mut [u8], table: &mut [u32]) {
     if line.len() == 0 {
         return;
     }
     let n = operation::named(line);
     match n {
-        Name::Of(o) => lent::answer(o, line, source, table, strip),
-        Name::Run => run_lent::answer(line, source, table),
+        Name::Of(o) => lent::answer(o, line, table),
         Name::Help => output::usage(),
         Name::Unknown => output::refuse(Wrong::Operation),
     }
 }
 
 // Answers the line whose bytes are the first `n` of `line`. Where the buffer is full, the rest of the line may be lost.
-fn answer_first(line: &[u8], n: usize, source: &mut [u8], table: &mut [u32], strip: &mut [u32]) {
+fn answer_first(line: &mut [u8], n: usize, table: &mut [u32]) {
     if n < line.len() {
-        answer(&line[..n], source, table, strip);
+        answer(&mut line[..n], table);
         return;
     }
     output::refuse(Wrong::LineLength);
@@ -72,34 +65,20 @@ fn push(line: &mut [u8], n: usize, b: u8) -> usize {
 }
 
 // Takes one byte of the input: it belongs to the line, or ends it. Answers how many bytes of a line wait then.
-fn take(
-    b: u8,
-    line: &mut [u8],
-    n: usize,
-    source: &mut [u8],
-    table: &mut [u32],
-    strip: &mut [u32],
-) -> usize {
+fn take(b: u8, line: &mut [u8], n: usize, table: &mut [u32]) -> usize {
     if b == b'\n' {
-        answer_first(line, n, source, table, strip);
+        answer_first(line, n, table);
         return 0;
     }
     push(line, n, b)
 }
 
 // Takes all bytes of `chunk`.
-fn take_all(
-    chunk: &[u8],
-    line: &mut [u8],
-    n: usize,
-    source: &mut [u8],
-    table: &mut [u32],
-    strip: &mut [u32],
-) -> usize {
+fn take_all(chunk: &[u8], line: &mut [u8], n: usize, table: &mut [u32]) -> usize {
     let mut waiting = n;
     let mut i: usize = 0;
     while i < chunk.len() {
-        waiting = take(chunk[i], line, waiting, source, table, strip);
+        waiting = take(chunk[i], line, waiting, table);
         i += 1;
     }
     waiting
@@ -107,13 +86,7 @@ fn take_all(
 
 // Reads once, and takes what came. At the end of the input the last line may lack its line feed; where the input fails, a line that has
 // only begun is no case.
-fn take_some(
-    line: &mut [u8],
-    n: usize,
-    source: &mut [u8],
-    table: &mut [u32],
-    strip: &mut [u32],
-) -> Taken {
+fn take_some(line: &mut [u8], n: usize, table: &mut [u32]) -> Taken {
     let mut chunk = io::buffer();
     let got = libc::read(STDIN_FILENO, &mut chunk);
     if got < 0 {
@@ -121,22 +94,22 @@ fn take_some(
         return Taken::End;
     }
     if got == 0 {
-        answer_first(line, n, source, table, strip);
+        answer_first(line, n, table);
         return Taken::End;
     }
     let count = io::count(got, &chunk);
-    Taken::Some(take_all(&chunk[..count], line, n, source, table, strip))
+    Taken::Some(take_all(&chunk[..count], line, n, table))
 }
 
 // Answers every line of the input; one that is empty from the begin is given the usage. Nothing says that the input ends, so the loop
 // counts its turns down, from a number that no run uses up.
-fn serve(line: &mut [u8], source: &mut [u8], table: &mut [u32], strip: &mut [u32]) {
+fn serve(line: &mut [u8], table: &mut [u32]) {
     let mut waiting: usize = 0;
     let mut turns = u64::MAX;
     let mut given = false;
     while turns > 0 {
         turns -= 1;
-        let t = take_some(line, waiting, source, table, strip);
+        let t = take_some(line, waiting, table);
         match t {
             Taken::Some(n) => {
                 waiting = n;
@@ -152,11 +125,9 @@ fn serve(line: &mut [u8], source: &mut [u8], table: &mut [u32], strip: &mut [u32
     }
 }
 
-// All that is lent stands here, once.
+// What every case is lent stands here, once.
 fn main() {
     let mut line = [0u8; LINE_MOST];
-    let mut source = [0u8; SOURCE_MOST];
     let mut table = [0u32; TABLE_MOST];
-    let mut strip = [0u32; STRIP_MOST];
-    serve(&mut line, &mut source, &mut table, &mut strip);
+    serve(&mut line, &mut table);
 }

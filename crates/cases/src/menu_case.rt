@@ -1,8 +1,20 @@
 // The operation menu: `menu TABLE STRIP HEX` is answered by `NUMBER POSITION CLASSES`, and where there are classes by ` :` and the
 // positions of their names, in the order in which they stand in the strip.
+use crate::fields;
+use crate::lengths;
 use crate::output;
+use crate::output::Wrong;
+use crate::source;
 use crate::strip;
 use menu::menu::menu;
+
+// The longest strip: a word for each token, which is more than there can be classes, so the rest of it can be looked at too.
+const STRIP_MOST: usize = 2048;
+
+// Which words are the length of the strip and the source.
+const STRIP_WORD: usize = 2;
+
+const SOURCE_WORD: usize = 3;
 
 // How many words of the strip an end writes: a refusal none.
 fn written(number: u32, classes: usize) -> usize {
@@ -40,7 +52,7 @@ fn write_strip(words: &[u32], n: usize) -> bool {
 }
 
 // Lists the classes of the source with a table and a strip, and writes the answer.
-pub fn answer(text: &[u8], table: &mut [u32], words: &mut [u32]) {
+fn list(text: &[u8], table: &mut [u32], words: &mut [u32]) {
     strip::fill(table, strip::MARK);
     strip::fill(words, strip::MARK);
     let a = menu(text, table, words);
@@ -51,4 +63,24 @@ pub fn answer(text: &[u8], table: &mut [u32], words: &mut [u32]) {
     output::next_number(classes as u64);
     let is_strip_right = write_strip(words, written(number, classes));
     output::end(is_strip_right && strip::is_table_right(table, number));
+}
+
+// Answers a case with its strip.
+fn with_strip(line: &mut [u8], table: &mut [u32], words: &mut [u32]) {
+    let word = fields::word(line, SOURCE_WORD);
+    let n = source::decoded(line, word, 0);
+    if line.len() < n {
+        return;
+    }
+    list(&line[..n], table, words);
+}
+
+// Answers a case with its table. The strip stands here, once.
+pub fn answer(line: &mut [u8], table: &mut [u32]) {
+    let mut words = [0u32; STRIP_MOST];
+    let n = lengths::length_at(line, STRIP_WORD, STRIP_MOST, Wrong::StripLength);
+    if STRIP_MOST < n {
+        return;
+    }
+    with_strip(line, table, &mut words[..n]);
 }

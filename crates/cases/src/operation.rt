@@ -1,20 +1,18 @@
-// The operations that a case can name, and the words of a case of each but run: name, TABLE, for menu STRIP, last HEX.
+// The operations that a case can name, and how many words a case of each has.
 use crate::fields;
-use crate::lengths;
-use crate::output::Wrong;
 ghost use Prim.Native.Nat.{_≤_};
 
-// What a case asks for, where it lends words only.
+// What a case asks for.
 pub enum Operation {
     Read,
     Check,
     Menu,
+    Run,
 }
 
 // What the first word of a line stands for.
 pub enum Name {
     Of(Operation),
-    Run,
     Help,
     Unknown,
 }
@@ -31,7 +29,7 @@ pub fn named(line: &[u8]) -> Name {
         return Name::Of(Operation::Menu);
     }
     if fields::is_first(line, b"run") {
-        return Name::Run;
+        return Name::Of(Operation::Run);
     }
     if fields::is_first(line, b"help") {
         return Name::Help;
@@ -39,22 +37,14 @@ pub fn named(line: &[u8]) -> Name {
     Name::Unknown
 }
 
-// Which word is the source: the last one, so this says also how many words a case has.
-pub fn source_word(o: Operation) -> usize
-    ensures { λ r. ⌜ r ≤ 3 ⌝ }
+// Which word is the last, the source: this says also how many words a case has.
+pub fn last_word(o: Operation) -> usize
+    ensures { λ r. ⌜ r ≤ 8 ⌝ }
 {
     match o {
         Operation::Read => 2,
         Operation::Check => 2,
         Operation::Menu => 3,
-    }
-}
-
-// How many words of a strip a case lends, at most `most`: none where its operation takes no strip.
-pub fn strip_length(o: Operation, line: &[u8], most: usize) -> usize {
-    match o {
-        Operation::Read => 0,
-        Operation::Check => 0,
-        Operation::Menu => lengths::length_at(line, 2, most, Wrong::StripLength),
+        Operation::Run => 8,
     }
 }

@@ -14,10 +14,8 @@ pub enum Wrong {
     HeapLength,
     OutputLength,
     RegistersLength,
-    TapeLength,
     Odd,
     Digit,
-    SourceLength,
 }
 
 // Writes bytes.
@@ -80,9 +78,7 @@ pub fn refuse(wrong: Wrong) {
         Wrong::HeapLength => text(b"error: heap strip too large\n"),
         Wrong::OutputLength => text(b"error: output strip too large\n"),
         Wrong::RegistersLength => text(b"error: register strip too large\n"),
-        Wrong::TapeLength => text(b"error: tape too long\n"),
         Wrong::Odd => text(b"error: odd number of hexadecimal digits\n"),
         Wrong::Digit => text(b"error: bad hexadecimal digit\n"),
-        Wrong::SourceLength => text(b"error: source too long\n"),
     }
 }

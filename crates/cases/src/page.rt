@@ -1,4 +1,4 @@
-// A page of bytes, in which printed numbers are gathered: few calls of the system then write many numbers.
+// A page of bytes, in which numbers and digits are gathered: few calls of the system then write many of them.
 use crate::output;
 use base::word::unsigned;
 ghost use Prim.Native.Nat.{_+_, _≤_, _<_};
@@ -68,6 +68,40 @@ pub fn write_signed(page: &mut [u8], numbers: &[i32])
     while i < numbers.len() {
         used = with_room(page, used);
         used = put_signed(page, used, numbers[i]);
+        i += 1;
+    }
+    output::text(&page[..used]);
+}
+
+// A hexadecimal digit.
+fn hexadecimal(n: u8) -> u8
+    requires { ⌜ n < 16 ⌝ }
+{
+    if n < 10 {
+        return b'0' + n;
+    }
+    b'a' + (n - 10)
+}
+
+// Puts the two hexadecimal digits of a byte at a place of the page, and answers the place behind them.
+fn put_byte(page: &mut [u8], at: usize, byte: u8) -> usize
+    requires { ⌜ at + 22 ≤ length (now page) ⌝ }
+    ensures { λ r. ⌜ r ≤ at + 22 ⌝ }
+{
+    put(page, at, hexadecimal(byte / 16));
+    put(page, at + 1, hexadecimal(byte % 16));
+    at + 2
+}
+
+// Writes bytes in hexadecimal digits, by way of a page.
+pub fn write_bytes(page: &mut [u8], bytes: &[u8])
+    requires { ⌜ 22 ≤ length (now page) ⌝ }
+{
+    let mut used: usize = 0;
+    let mut i: usize = 0;
+    while i < bytes.len() {
+        used = with_room(page, used);
+        used = put_byte(page, used, bytes[i]);
         i += 1;
     }
     output::text(&page[..used]);

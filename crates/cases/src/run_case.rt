@@ -1,9 +1,9 @@
 // The operation run: `run TABLE BUDGET CALLS HEAP OUT REGS TAPE HEX` is answered by `NUMBER POSITION STEPS CLIMBS WORDS REGISTERS`, and
 // where numbers were printed by ` :` and these.
+use crate::bytes;
 use crate::numbers;
 use crate::output;
 use crate::page;
-use crate::registers;
 use crate::strip;
 use base::codes;
 use runner::run::RunAnswer;
@@ -60,19 +60,30 @@ fn write_printed(numbers: &[i32], n: usize) -> bool {
     numbers::is_marked(numbers, n)
 }
 
+// Writes the registers that a run leaves, or `-` where the call was refused; and answers whether a refusal left the strip as it was.
+fn write_registers(registers: &[u8], is_run: bool) -> bool {
+    output::text(b" ");
+    if is_run {
+        bytes::write(registers);
+        return true;
+    }
+    output::text(b"-");
+    bytes::is_marked(registers, 0)
+}
+
 // Fills all that is lent to a run.
 fn fill(table: &mut [u32], heap: &mut [i32], printed: &mut [i32], registers: &mut [u8]) {
     strip::fill(table, strip::MARK);
     numbers::fill(heap);
     numbers::fill(printed);
-    registers::fill(registers);
+    bytes::fill(registers);
 }
 
 // Writes the answer of a run, and looks at all that was lent to it.
 fn write(a: RunAnswer, table: &[u32], heap: &[i32], printed: &[i32], registers: &[u8]) {
     write_end(a);
     let number = a.number;
-    let are_registers_right = registers::write(registers, is_run(number));
+    let are_registers_right = write_registers(registers, is_run(number));
     let is_output_right = write_printed(printed, a.printed);
     let is_heap_right = numbers::is_heap_right(heap, number);
     let are_strips_right = are_registers_right && is_output_right && is_heap_right;

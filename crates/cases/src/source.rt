@@ -1,10 +1,16 @@
-// The bytes of a case, its source and its tape: two lower-case hexadecimal digits a byte, or `-` for no bytes.
+// The bytes of a case, its source and its tape: two lower-case hexadecimal digits a byte, or `-` for no bytes. They are decoded into the
+// line itself, from its start on, where all words before them are used up; each word is to be looked for before one is decoded.
 use crate::fields;
+use crate::fields::Span;
+use crate::output;
 use crate::output::Wrong;
 ghost use Prim.Native.Nat.{_≤_};
 
+// No place: it lies behind the end of every line.
+const NOWHERE: usize = 4294967296;
+
 // How many bytes a word spells, or what is wrong with its length.
-pub enum Size {
+enum Size {
     Bytes(usize),
     Refused(Wrong),
 }
@@ -39,34 +45,8 @@ fn pair_of(high: u8, low: u8) -> Pair {
     Pair::Byte(h * 16 + l)
 }
 
-// Fills `out` with the bytes that the digits from `start` on spell, and answers whether there were as many digits.
-fn decode_from(line: &[u8], start: usize, out: &mut [u8]) -> bool {
-    let mut at = start;
-    let mut i: usize = 0;
-    while i < out.len() {
-        if line.len() <= at {
-            return false;
-        }
-        let p = pair_of(line[at], fields::byte_at(line, at + 1));
-        match p {
-            Pair::Byte(b) => {
-                out[i] = b;
-            }
-            Pair::Bad => {
-                return false;
-            }
-        }
-        at += 2;
-        i += 1;
-    }
-    true
-}
-
-// How many bytes word `k` spells.
-pub fn size_at(line: &[u8], k: usize) -> Size {
-    let at = fields::word(line, k);
-    let start = at.start;
-    let end = at.end;
+// How many bytes the word from `start` up to `end` spells.
+fn size_of(line: &[u8], start: usize, end: usize) -> Size {
     if end <= start {
         return Size::Refused(Wrong::Missing);
     }
@@ -80,9 +60,55 @@ pub fn size_at(line: &[u8], k: usize) -> Size {
     Size::Bytes(digits / 2)
 }
 
-// Fills `out` with the bytes that word `k` spells, as many as `size_at` says, and answers whether all of its bytes were digits.
-pub fn decode(line: &[u8], k: usize, out: &mut [u8]) -> bool {
-    let at = fields::word(line, k);
-    let start = at.start;
-    decode_from(line, start, out)
+// Puts the `n` bytes that the digits from `start` on spell at `to`, and answers where they end; nowhere where a byte is no digit.
+fn decode(line: &mut [u8], start: usize, n: usize, to: usize) -> usize {
+    let mut from = start;
+    let mut at = to;
+    let mut left = n;
+    while left > 0 {
+        if line.len() <= from {
+            return NOWHERE;
+        }
+        if from < at {
+            return NOWHERE;
+        }
+        let p = pair_of(line[from], fields::byte_at(line, from + 1));
+        match p {
+            Pair::Byte(b) => {
+                line[at] = b;
+            }
+            Pair::Bad => {
+                return NOWHERE;
+            }
+        }
+        from += 2;
+        at += 1;
+        left -= 1;
+    }
+    at
+}
+
+// What is wrong with a word is written.
+fn refused(wrong: Wrong) -> usize {
+    output::refuse(wrong);
+    NOWHERE
+}
+
+// The end of `n` bytes from `to` on, decoded from the digits at `start`. Where one of these is none, that is written.
+fn with_size(line: &mut [u8], start: usize, n: usize, to: usize) -> usize {
+    let end = decode(line, start, n, to);
+    if line.len() < end {
+        return refused(Wrong::Digit);
+    }
+    end
+}
+
+// Decodes a word to `to`, and answers where its bytes end: nowhere where something is wrong with it, which is written.
+pub fn decoded(line: &mut [u8], word: Span, to: usize) -> usize {
+    let start = word.start;
+    let s = size_of(line, start, word.end);
+    match s {
+        Size::Bytes(n) => with_size(line, start, n, to),
+        Size::Refused(wrong) => refused(wrong),
+    }
 }

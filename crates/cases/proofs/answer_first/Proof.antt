@@ -8,5 +8,5 @@ use Rattle.cases.proofs.answer_first.Tie as tie
 
 pub answer-first-spec : {M : Type 1} → statement M
 answer-first-spec =
-    tie.close (tie.spec (λ c. sym (length-take-le _ _ (omega arith))) (λ c κs. search needs) (λ c. search needs) (λ c. search needs)
+    tie.close (tie.spec (λ c. search needs) (λ c. sym (length-take-le _ _ (omega arith))) (λ c κs. search needs) (λ c. search needs)
     (λ c. search needs) (λ c. search needs) (λ c κs. search needs) (λ c. search needs))

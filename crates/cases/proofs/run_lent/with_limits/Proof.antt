@@ -8,8 +8,8 @@ use Rattle.cases.proofs.run_lent.with_limits.Tie as tie
 
 pub with-limits-spec : {M : Type 1} → statement M
 with-limits-spec =
-    tie.close (tie.spec (λ c κs. search needs) (λ c. search needs) (λ c κs. search needs) (λ c. search needs) (λ c κs. search needs)
-    (λ c. search needs) (λ c κs. search needs) (λ c. search needs) (λ c. search needs) (λ c. sym (length-take-le _ _ (omega arith)))
-    (λ c. search needs) (λ c. sym (length-take-le _ _ (omega arith))) (λ c. search needs) (λ c. sym (length-take-le _ _ (omega arith)))
+    tie.close (tie.spec (λ c κs. search needs) (λ c. search needs) (λ c. search needs) (λ c κs. search needs) (λ c. search needs)
+    (λ c. search needs) (λ c κs. search needs) (λ c. search needs) (λ c. search needs) (λ c. search needs)
+    (λ c. sym (length-take-le _ _ (omega arith))) (λ c. search needs) (λ c. sym (length-take-le _ _ (omega arith)))
     (λ c. search needs) (λ c. sym (length-take-le _ _ (omega arith))) (λ c κs. search needs) (λ c. search needs) (λ c. search needs)
     (λ c. search needs))

@@ -1,15 +1,15 @@
--- `cases::registers::is_marked` is safe and ends. The measure is what is left of the length.
+-- `cases::bytes::is_marked` is safe and ends. The measure is what is left of the length.
 use Prim.Native.Nat.{_-_}
-use borrow.Author.Needs.{needs}
 use lib.ListN.{length}
-use Rattle.cases.proofs.registers.is_marked.Statement.{statement}
-use Rattle.cases.proofs.registers.is_marked.Tie as tie
+use borrow.Author.Needs.{needs}
+use Rattle.cases.proofs.bytes.is_marked.Statement.{statement}
+use Rattle.cases.proofs.bytes.is_marked.Tie as tie
 
 abbrev Inv-loop : tie.InvT-loop
-Inv-loop registers i₀ i = Unit {0}
+Inv-loop bytes from i₀ i = Unit {0}
 
 abbrev μ-loop : tie.MeasureT-loop
-μ-loop registers i₀ i = length registers - i
+μ-loop bytes from i₀ i = length bytes - i
 
 pub is-marked-spec : {M : Type 1} → statement M
 is-marked-spec =
