@@ -884,7 +884,7 @@ def errors():
         ("menu 16384 4294967295 2", "strip too large"),
         ("menu 16384 0 2", "odd number of hexadecimal digits"),
         ("menu 16384 0 2x", "bad hexadecimal digit"),
-        ("menu 16384 0 " + "20" * 21094, "line too long"),
+        ("menu 16384 0 " + "20" * 33994, "line too long"),
     ]
 
 

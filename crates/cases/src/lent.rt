@@ -1,5 +1,6 @@
 // What every case lends to its operation: a work table, as long as the case says.
 // The words of the case are looked at from the left, and the first that is wrong is the answer.
+use crate::join_case;
 use crate::lengths;
 use crate::menu_case;
 use crate::operation;
@@ -15,6 +16,7 @@ fn with_table(o: Operation, line: &mut [u8], table: &mut [u32]) {
         Operation::Check => table_only::answer_check(line, table),
         Operation::Menu => menu_case::answer(line, table),
         Operation::Run => run_lent::answer(line, table),
+        Operation::Join => join_case::answer(line, table),
     }
 }
 

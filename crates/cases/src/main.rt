@@ -2,6 +2,7 @@
 // A line that is no case is answered by what is wrong with it, an empty line is passed over.
 mod bytes;
 mod fields;
+mod join_case;
 mod lengths;
 mod lent;
 mod menu_case;
@@ -14,14 +15,15 @@ mod run_lent;
 mod source;
 mod strip;
 mod table_only;
+mod text;
 
 use crate::operation::Name;
 use crate::output::Wrong;
 use libc::STDIN_FILENO;
 
-// Room for a line, and a byte by which a longer one shows. Document 01 takes sources of up to 16,384 bytes, which two digits each spell;
-// what is longer it refuses, which is a case too.
-const LINE_MOST: usize = 42200;
+// Room for a line, and a byte by which a longer one shows. A lesson and a library of 16,384 bytes each take 65,536 digits; what is longer
+// is refused, which is a case too.
+const LINE_MOST: usize = 68000;
 
 // The longest table. Document 01 asks for 16,384 words; what is longer must be wiped as well.
 // The line, the table and the strips of an operation take less than a quarter of a stack of 1 MiB.

@@ -8,6 +8,7 @@ pub enum Operation {
     Check,
     Menu,
     Run,
+    Join,
 }
 
 // What the first word of a line stands for.
@@ -31,13 +32,16 @@ pub fn named(line: &[u8]) -> Name {
     if fields::is_first(line, b"run") {
         return Name::Of(Operation::Run);
     }
+    if fields::is_first(line, b"join") {
+        return Name::Of(Operation::Join);
+    }
     if fields::is_first(line, b"help") {
         return Name::Help;
     }
     Name::Unknown
 }
 
-// Which word is the last, the source: this says also how many words a case has.
+// Which word is the last: this says also how many words a case has.
 pub fn last_word(o: Operation) -> usize
     ensures { λ r. ⌜ r ≤ 8 ⌝ }
 {
@@ -46,5 +50,6 @@ pub fn last_word(o: Operation) -> usize
         Operation::Check => 2,
         Operation::Menu => 3,
         Operation::Run => 8,
+        Operation::Join => 4,
     }
 }

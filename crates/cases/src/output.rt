@@ -49,8 +49,9 @@ pub fn usage() {
         b"Answers cases, one on each line of the input. SOURCE is a lesson's bytes in hexadecimal digits, - for none, TAPE\n",
     );
     text(
-        b"the samples in the same form; TABLE, STRIP, HEAP and OUTPUT say how many words are lent, REGISTERS how many bytes.\n",
+        b"the samples and LIBRARY a library in the same form; TABLE, STRIP, HEAP and OUTPUT say how many words are lent,\n",
     );
+    text(b"REGISTERS and TEXT how many bytes.\n");
     text(b"  read TABLE SOURCE: number, position, tokens, nodes\n");
     text(b"  check TABLE SOURCE: number, position, classes\n");
     text(b"  menu TABLE STRIP SOURCE: number, position, classes, then what is written\n");
@@ -58,6 +59,7 @@ pub fn usage() {
         b"  run TABLE BUDGET CALLS HEAP OUTPUT REGISTERS TAPE SOURCE: number, position, steps, climbs, heap words,\n",
     );
     text(b"    registers, then what is printed\n");
+    text(b"  join TABLE TEXT SOURCE LIBRARY: number, position, bytes, then what is written\n");
     text(
         b"A line that is no case is answered by what is wrong with it. STRIP after an answer says that something lent\n",
     );
