@@ -38,11 +38,10 @@ impl Answerer {
         }
     }
 
-    /// None of the binding, which has no such function.
-    fn join(self, source: &[u8], table: usize, library: &[u8], strip: usize) -> Option<Result<Vec<u8>, Refusal>> {
+    fn join(self, source: &[u8], table: usize, library: &[u8], strip: usize) -> Result<Vec<u8>, Refusal> {
         match self {
-            Answerer::Reference => Some(operations::join(source, table, library, strip)),
-            Answerer::Binding => None,
+            Answerer::Reference => operations::join(source, table, library, strip),
+            Answerer::Binding => lesson_engine::join(source, library).map_err(of_binding),
         }
     }
 
@@ -130,7 +129,7 @@ pub fn answer(who: Answerer, line: &str) -> Option<String> {
                 Err(r) => refused(r, " 0 0 0 -"),
             })
         }
-        ("join", 5) => Some(wrote(who.join(&bytes(words[3])?, number(1)?, &bytes(words[4])?, number(2)?)?)),
+        ("join", 5) => Some(wrote(who.join(&bytes(words[3])?, number(1)?, &bytes(words[4])?, number(2)?))),
         _ => None,
     }
 }

@@ -1,10 +1,11 @@
 //! The library beside the independent implementation, on lessons from a seed: answers, and what every strip holds afterwards.
 
 use crate::damage::damaged;
-use crate::generator::{lesson, Size};
+use crate::generator::{self, lesson, Size};
 use crate::lent::Strip;
 use crate::machine::Limits;
 use crate::operations;
+use crate::properties;
 use crate::random::Random;
 use crate::refusal::Refusal;
 use lesson_engine::{strips, sys, Kind};
@@ -89,6 +90,22 @@ fn is_run_right(source: &[u8], table: usize, limits: Limits, registers: usize, t
     answer == due && are_strips_right && is_cleared(&words, due.number) && is_cleared(&heap, due.number)
 }
 
+/// Whether an operation that writes a text answers what is due, and leaves table and strip as they must be.
+fn is_text_right(due: Result<Vec<u8>, Refusal>, answer: sys::WriteAnswer, words: &Strip<u32>, written: &Strip<u8>, met: &mut Met) -> bool {
+    let (number, position) = refused(&due);
+    let text = due.unwrap_or_default();
+    *met.entry(number).or_default() += 1;
+    let is_answer_right = answer == sys::WriteAnswer { number, position, count: text.len() };
+    is_answer_right && is_cleared(words, number) && written.begins(text.into_iter())
+}
+
+fn is_join_right(source: &[u8], table: usize, library: &[u8], strip: usize, met: &mut Met) -> bool {
+    let mut words = Strip::new(table);
+    let mut written = Strip::new(strip);
+    let answer = strips::join(source, words.lent(), library, written.lent());
+    is_text_right(operations::join(source, table, library, strip), answer, &words, &written, met)
+}
+
 fn size(random: &mut Random) -> Size {
     match random.below(6) {
         0 => Size { classes: 1, members: 2, statements: 2, depth: 2 },
@@ -103,6 +120,22 @@ fn mostly(random: &mut Random, allowed: &[usize], others: &[usize]) -> usize {
     if random.once_in(20) { random.pick(others) } else { random.pick(allowed) }
 }
 
+/// How long a strip is lent for a text: too short by one, just long enough, long. Any length where no text is due.
+fn strip_for(random: &mut Random, due: &Result<Vec<u8>, Refusal>) -> usize {
+    let length = due.as_ref().map_or(1, Vec::len);
+    random.pick(&[0, length - 1, length, length, length + 1, length + 2048])
+}
+
+/// A library, as it is or damaged: classes of which some have names that the lesson has, main's among them.
+fn library(random: &mut Random) -> Vec<u8> {
+    let wanted = size(random);
+    let mut sound = generator::library(random, wanted);
+    if random.once_in(4) {
+        sound = format!("class {}{{}}// before all others\n{}", generator::MAIN, sound);
+    }
+    if random.once_in(2) { sound.into_bytes() } else { damaged(random, sound.as_bytes()) }
+}
+
 fn limits(random: &mut Random) -> Limits {
     Limits {
         budget: random.pick(&[0, 1, 2, 5, 20, 99, 100, 101, 300, 1000, 5000, 20000, 20000, 20000]),
@@ -112,9 +145,26 @@ fn limits(random: &mut Random) -> Limits {
     }
 }
 
+fn tape(random: &mut Random) -> Vec<u8> {
+    (0..random.pick(&[0, 1, 5, 60])).map(|_| random.below(256) as u8).collect()
+}
+
 fn print_lesson(name: &str, seed: u64, source: &[u8]) {
     let hex: String = source.iter().map(|b| format!("{:02x}", b)).collect();
     println!("reference: {} of the lesson of seed {} differs: {}", name, seed, if hex.is_empty() { "-" } else { &hex });
+}
+
+/// The lesson joined with a library, and what the requests say of that text.
+fn join_results(random: &mut Random, source: &[u8], table: usize, met: &mut Met) -> Vec<(&'static str, bool)> {
+    let library = library(random);
+    let due = operations::join(source, table, &library, usize::MAX);
+    let strip = strip_for(random, &due);
+    let mut results = vec![("join", is_join_right(source, table, &library, strip, met))];
+    if let Ok(text) = due {
+        results.push(("joined tree", properties::is_joined_right(source, &library, &text)));
+        results.push(("joined run", properties::is_run_kept(source, &text, limits(random), &tape(random))));
+    }
+    results
 }
 
 /// Compares all operations on the lesson of one seed; how many differ.
@@ -132,10 +182,11 @@ fn lesson_differences(seed: u64, met: &mut Met) -> usize {
     ];
     for _ in 0..RUNS {
         let registers = mostly(&mut random, &[16], &[0, 15, 17]);
-        let tape: Vec<u8> = (0..random.pick(&[0, 1, 5, 60])).map(|_| random.below(256) as u8).collect();
+        let tape = tape(&mut random);
         let chosen = limits(&mut random);
         results.push(("run", is_run_right(&source, table, chosen, registers, &tape, met)));
     }
+    results.extend(join_results(&mut random, &source, table, met));
     let wrong: Vec<&str> = results.iter().filter(|(_, is_right)| !is_right).map(|(name, _)| *name).collect();
     wrong.iter().for_each(|name| print_lesson(name, seed, &source));
     wrong.len()

@@ -65,6 +65,9 @@ const NAMES: [&str; 8] = ["a", "b", "out", "get", "x1", "length_", "println", "p
 const LITERALS: [&str; 14] = ["0", "1", "2", "3", "7", "15", "16", "99", "255", "256", "46341", "65536", "2147483647", "1000000007"];
 const FIXED_LITERALS: [&str; 12] = ["0.000", "0.001", "0.002", "0.500", "0.999", "1.000", "1.001", "1.500", "12.600", "46.341", "1465.000", "2147483.647"];
 
+/// The name of every main class.
+pub const MAIN: &str = "Main";
+
 impl Generator<'_> {
     fn ty(&mut self) -> Type {
         if self.random.once_in(6) { FIXED } else { self.storable() }
@@ -374,11 +377,21 @@ impl Generator<'_> {
         let mut scope = Scope { variables: Vec::new(), class: None, counters: 0 };
         let count = 1 + self.random.below(self.size.statements + 1);
         let main: String = (0..count).map(|_| self.statement(&mut scope, 3)).collect();
-        let classes: String = (0..self.shapes.len()).map(|k| self.class(k)).collect();
-        format!("class Main{{public static void main(String[] a){{{{{}}}}}}}{}", main, classes)
+        format!("class {}{{public static void main(String[] a){{{{{}}}}}}}{}", MAIN, main, self.classes())
+    }
+
+    fn classes(&mut self) -> String {
+        (0..self.shapes.len()).map(|k| self.class(k)).collect()
     }
 }
 
 pub fn lesson(random: &mut Random, size: Size) -> String {
     Generator { random, shapes: Vec::new(), size }.program()
+}
+
+/// The classes of such a lesson alone; some have names that lessons have.
+pub fn library(random: &mut Random, size: Size) -> String {
+    let mut generator = Generator { random, shapes: Vec::new(), size };
+    generator.declare();
+    generator.classes()
 }

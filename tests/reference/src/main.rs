@@ -14,6 +14,7 @@ mod lexer;
 mod machine;
 mod operations;
 mod parser;
+mod properties;
 mod random;
 mod refusal;
 mod tree;

@@ -8,7 +8,7 @@ use crate::parser;
 use crate::refusal::{refuse, Refusal};
 use crate::tree::{Class, Measure, Program};
 
-const TABLE_LEAST: usize = 16384;
+pub const TABLE_LEAST: usize = 16384;
 const HEAP_MOST: usize = 16384;
 const CALLS_MOST: usize = 64;
 
@@ -47,17 +47,17 @@ fn read_library(source: &[u8]) -> Result<Vec<Class>, Refusal> {
 }
 
 /// The classes of a library whose names no class of the lesson has, main included.
-fn kept(lesson: &Program, library: Vec<Class>) -> Vec<Class> {
+pub fn kept(lesson: &Program, library: &[u8]) -> Result<Vec<Class>, Refusal> {
     let is_taken = |name: &str| lesson.main.name == name || lesson.classes.iter().any(|c| c.id.name == name);
-    library.into_iter().filter(|c| !is_taken(&c.id.name)).collect()
+    Ok(read_library(library)?.into_iter().filter(|c| !is_taken(&c.id.name)).collect())
 }
 
 /// Request (x): the lesson, a line feed, then each class of the library that is kept, a line feed after each.
 pub fn join(source: &[u8], table: usize, library: &[u8], strip: usize) -> Result<Vec<u8>, Refusal> {
     let lesson = read(source, table)?.program;
-    let classes = read_library(library).or_else(|fault| refuse(66, fault.at))?;
+    let classes = kept(&lesson, library).or_else(|fault| refuse(66, fault.at))?;
     let mut text = [source, b"\n"].concat();
-    for class in kept(&lesson, classes) {
+    for class in classes {
         text.extend(&library[class.at..class.end]);
         text.push(b'\n');
     }
