@@ -13,6 +13,9 @@ pub const STRIP_TOO_SHORT: u32 = 4;
 
 pub const REGISTERS_NOT_SIXTEEN: u32 = 62;
 
+// Print.
+pub const TEXT_TOO_LONG: u32 = 61;
+
 // Join.
 pub const LIBRARY_REFUSED: u32 = 66;
 

@@ -1,6 +1,7 @@
 // The operations for programs in other languages: include/engine.h declares them to C. Each promises what its operation promises.
 use joiner::join::join;
 use menu::menu::menu;
+use printer::print::print;
 use reader::read::read;
 use runner::run::run;
 use typecheck::check::check;
@@ -11,9 +12,10 @@ ghost use Rattle.menu.specs.Menu.{Menus};
 ghost use Rattle.semantics.specs.Run.{Runs};
 ghost use Rattle.runner.specs.contracts.RunPost.{strips};
 ghost use Rattle.joining.specs.Join.{Joins};
+ghost use Rattle.printing.specs.Print.{Prints};
 
 // Which header belongs to this library: ENGINE_VERSION there.
-const VERSION: u32 = 3;
+const VERSION: u32 = 4;
 
 // What Read answers, laid out as C lays it out.
 #[repr(C)]
@@ -32,7 +34,7 @@ pub struct CheckAnswer {
     pub classes: usize,
 }
 
-// What Join answers.
+// What Join and Print answer.
 #[repr(C)]
 pub struct WriteAnswer {
     pub number: u32,
@@ -61,7 +63,7 @@ pub struct RunAnswer {
 // The version of the header that belongs to this library.
 #[no_mangle]
 pub extern "C" fn engine_version() -> u32
-    ensures { λ r. ⌜ r ≡ 3 ⌝ }
+    ensures { λ r. ⌜ r ≡ 4 ⌝ }
 {
     VERSION
 }
@@ -157,6 +159,20 @@ pub extern "C" fn engine_join(
         (record { number = r .number; position = r .position; count = r .count }) (now (table .exit)) (now (strip .exit)) ⌝ }
 {
     let a = join(source, table, library, strip);
+    WriteAnswer {
+        number: a.number,
+        position: a.position,
+        count: a.count,
+    }
+}
+
+// The operation Print.
+#[no_mangle]
+pub extern "C" fn engine_print(source: &[u8], table: &mut [u32], strip: &mut [u8]) -> WriteAnswer
+    ensures { λ r. ⌜ Prints (now (source .entry)) (now (table .entry)) (now (strip .entry))
+        (record { number = r .number; position = r .position; count = r .count }) (now (table .exit)) (now (strip .exit)) ⌝ }
+{
+    let a = print(source, table, strip);
     WriteAnswer {
         number: a.number,
         position: a.position,

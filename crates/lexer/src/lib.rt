@@ -21,7 +21,7 @@ pub mod bytes;
 pub mod kinds;
 mod limits;
 mod names;
-mod scan;
+pub mod scan;
 mod words;
 
 // The number of tokens; or a refusal and its position.

@@ -70,7 +70,7 @@ longer ds (e ∷ es) p q l =
     positive : Digits (e ∷ es) → e ≢ bZero → 0 < 0 * 10 + (e - bZero)
     positive (all-cons d ds) n = omega (arith, digit-range e d)
 
-equal-value : (ds es : List ℕ) → Literal ds → Literal es → decimal 0 ds ≡ decimal 0 es → ds ≡ es
+pub equal-value : (ds es : List ℕ) → Literal ds → Literal es → decimal 0 ds ≡ decimal 0 es → ds ≡ es
 equal-value ds es p q v =
     elim (decLt (length ds) (length es)) [
       | yes l ↦ absurd (omega (arith, longer ds es p q l))
@@ -86,7 +86,7 @@ whole-of : {t : List ℕ} → FixedText t → Literal (wholeDigits t)
 whole-of f = record { digits = f .pointed .whole; nonempty = f .pointed .some-whole; no-zero = f .no-zero }
 
 -- three digits each behind the point: as many, so these are equal and those before the point have equal values
-equal-count : (t u : List ℕ) → FixedText t → FixedText u → thousandthsOf t ≡ thousandthsOf u → t ≡ u
+pub equal-count : (t u : List ℕ) → FixedText t → FixedText u → thousandthsOf t ≡ thousandthsOf u → t ≡ u
 unfolding thousandthsOf
 equal-count t u f g v =
     let r =
@@ -97,7 +97,7 @@ equal-count t u f g v =
 
 -- ---- of sources
 
-literal-of : {s : List ℕ} {t : Token} → TokenOf s t → t .kind ≡ kLiteral → Literal (t .text)
+pub literal-of : {s : List ℕ} {t : Token} → TokenOf s t → t .kind ≡ kLiteral → Literal (t .text)
 literal-of o k = record { digits = o .digits k; nonempty = o .nonempty; no-zero = o .no-zero k }
 
 -- two literals, of one accepted source or of two
