@@ -26,7 +26,7 @@ extern "C" {
 #endif
 
 /* [words/write constants: what words/operations.txt says */
-#define ENGINE_VERSION 3 /* the version of these declarations; it goes up when one of them or its meaning changes */
+#define ENGINE_VERSION 4 /* the version of these declarations; it goes up when one of them or its meaning changes */
 #define ENGINE_TABLE_WORDS 16384 /* the work table has at least so many words */
 #define ENGINE_SOURCE_MOST 16384 /* a lesson has at most so many bytes; a longer one is refused, and never read past its end */
 #define ENGINE_HEAP_MOST 16384 /* the heap strip has at most so many words */
@@ -34,6 +34,7 @@ extern "C" {
 #define ENGINE_REGISTERS 16 /* the register strip has exactly so many bytes */
 #define ENGINE_CLASSES_MOST 2048 /* no lesson has more classes: a strip of so many words is long enough for Menu */
 #define ENGINE_JOIN_MOST 33281 /* no joined text has more bytes: a strip of so many is long enough for Join */
+#define ENGINE_PRINT_MOST 18432 /* no printed text has more bytes, nor more than the lesson and 2,048: a strip of so many is long enough for Print */
 #define ENGINE_STACK_BYTES 1048576 /* a call takes at most so many bytes of stack */
 /* words/write] */
 
@@ -74,6 +75,7 @@ enum engine_number {
     ENGINE_CALLS_FULL = 52, /* As many calls are open as the call limit allows. */
     ENGINE_OUTPUT_FULL = 53, /* The output strip has no room for another number. */
     ENGINE_LEADING_ZERO = 60, /* A number begins with 0 and another digit, which means another number in Java. */
+    ENGINE_TEXT_TOO_LONG = 61, /* The strip is too short for the printed lesson. */
     ENGINE_REGISTERS_NOT_SIXTEEN = 62, /* The register strip has not exactly 16 bytes. */
     ENGINE_REGISTER_OUT_OF_RANGE = 63, /* The cable has registers 0 to 15 only. */
     ENGINE_VALUE_OUT_OF_RANGE = 64, /* A register takes 0 to 255 only. */
@@ -106,7 +108,7 @@ typedef struct {
     size_t classes; /* beside main's; 0 after a refusal */
 } engine_check_answer;
 
-/* The answer of Join. */
+/* The answer of Join and of Print. */
 typedef struct {
     uint32_t number;
     size_t position;
@@ -158,6 +160,12 @@ engine_run_answer engine_run(const uint8_t *source, size_t source_length, uint32
  * operations take that text. Refuses as Read does; with 66, whose position counts the bytes of the library; and last with 67. */
 engine_write_answer engine_join(const uint8_t *source, size_t source_length, uint32_t *table, size_t table_length, const uint8_t *library,
                                 size_t library_length, uint8_t *strip, size_t strip_length);
+
+/* Writes the lesson in the house layout. After success `strip` begins with its tokens, a line feed after each `;`, `{` and `}` and a space
+ * after every other, without comments and with just the parentheses that its tree needs; its rest is unchanged, and so is all of it after a
+ * refusal. A text of at most 16,384 bytes is accepted again, with the same tree. Refuses as Check does, and last with 61. */
+engine_write_answer engine_print(const uint8_t *source, size_t source_length, uint32_t *table, size_t table_length, uint8_t *strip,
+                                 size_t strip_length);
 /* words/write] */
 
 #ifdef __cplusplus

@@ -250,12 +250,29 @@ static int answer_join(char **word, text *to) {
     return is_right;
 }
 
+static int answer_print(char **word, text *to) {
+    lent source = given(word[3]);
+    lent table = room(word[1], sizeof(uint32_t));
+    lent strip = room(word[2], sizeof(uint8_t));
+    engine_write_answer a = engine_print(source.at, source.length, table.at, table.length, strip.at, strip.length);
+    int is_right = is_cleared(table, a.number) && is_led(strip, a.count);
+    add_number(to, "", (long long)a.number);
+    add_number(to, " ", (long long)a.position);
+    add_number(to, " ", (long long)a.count);
+    add_bytes(to, strip.at, a.count);
+    free(source.at);
+    free(table.at);
+    free(strip.at);
+    return is_right;
+}
+
 static const operation operations[] = {
     {"read", 3, answer_read},
     {"check", 3, answer_check},
     {"menu", 4, answer_menu},
     {"run", 9, answer_run},
     {"join", 5, answer_join},
+    {"print", 4, answer_print},
 };
 /* words/write] */
 

@@ -21,7 +21,7 @@ import re
 import typing
 
 # [words/write constants: what words/operations.txt says
-VERSION = 3  # the version of these declarations; it goes up when one of them or its meaning changes
+VERSION = 4  # the version of these declarations; it goes up when one of them or its meaning changes
 TABLE_WORDS = 16384  # the work table has at least so many words
 SOURCE_MOST = 16384  # a lesson has at most so many bytes; a longer one is refused, and never read past its end
 HEAP_MOST = 16384  # the heap strip has at most so many words
@@ -29,6 +29,7 @@ CALLS_MOST = 64  # the call limit is 1 to this
 REGISTERS = 16  # the register strip has exactly so many bytes
 CLASSES_MOST = 2048  # no lesson has more classes: a strip of so many words is long enough for Menu
 JOIN_MOST = 33281  # no joined text has more bytes: a strip of so many is long enough for Join
+PRINT_MOST = 18432  # no printed text has more bytes, nor more than the lesson and 2,048: a strip of so many is long enough for Print
 STACK_BYTES = 1048576  # a call takes at most so many bytes of stack
 # words/write]
 
@@ -77,6 +78,7 @@ WORDS = {
     52: Words("calls full", "As many calls are open as the call limit allows.", "limit"),
     53: Words("output full", "The output strip has no room for another number.", "limit"),
     60: Words("leading zero", "A number begins with 0 and another digit, which means another number in Java.", "lesson"),
+    61: Words("text too long", "The strip is too short for the printed lesson.", "call"),
     62: Words("registers not sixteen", "The register strip has not exactly 16 bytes.", "call"),
     63: Words("register out of range", "The cable has registers 0 to 15 only.", "fault"),
     64: Words("value out of range", "A register takes 0 to 255 only.", "fault"),
@@ -205,6 +207,8 @@ def load():
     found.engine_run.restype = RunAnswer
     found.engine_join.argtypes = given + lent(ctypes.c_uint32) + given + lent(ctypes.c_uint8)
     found.engine_join.restype = WriteAnswer
+    found.engine_print.argtypes = given + lent(ctypes.c_uint32) + lent(ctypes.c_uint8)
+    found.engine_print.restype = WriteAnswer
     # words/write]
     if found.engine_version() != VERSION:
         raise ImportError("libengine.so has version %d, not %d" % (found.engine_version(), VERSION))
@@ -288,6 +292,22 @@ def join(lesson, library):
     """
     text, length = strip(ctypes.c_uint8, JOIN_MOST)
     answer = accepted(LIBRARY.engine_join(lesson, len(lesson), *table(), library, len(library), text, length))
+    return bytes(text[: answer.count])
+
+
+def tidy(lesson):
+    """Writes a lesson in the house layout: a line feed after each `;`, `{` and `}`, a space after every other token, no comments, and just the parentheses that its tree needs.
+    A text of at most SOURCE_MOST bytes is accepted again, and tidy already.
+
+    >>> print(tidy(b"class M{public static void main(String[] a){/* three */System.out.println((1)+2);}}").decode(), end="")
+    class M {
+    public static void main ( String [ ] a ) {
+    System . out . println ( 1 + 2 ) ;
+    }
+    }
+    """
+    text, length = strip(ctypes.c_uint8, PRINT_MOST)
+    answer = accepted(LIBRARY.engine_print(lesson, len(lesson), *table(), text, length))
     return bytes(text[: answer.count])
 
 

@@ -1,10 +1,11 @@
-//! `lesson`: checks, runs and marks lessons on the command line, over the lesson engine. usage.rs says what it takes.
+//! `lesson`: checks, runs, marks, joins and tidies lessons on the command line, over the lesson engine. usage.rs says what it takes.
 
 mod json;
 mod mark;
 mod place;
 mod show;
 mod source;
+mod tidy;
 mod usage;
 
 use json::Object;
@@ -17,7 +18,7 @@ use std::ffi::{OsStr, OsString};
 use std::fs;
 use std::io::{self, Read, Write};
 use std::process::exit;
-use usage::{Asked, Request, Task};
+use usage::{Asked, Layout, Request, Task};
 
 const GOOD: i32 = 0;
 const REFUSED: i32 = 1;
@@ -50,7 +51,7 @@ fn opened(file: &OsStr, most: u64) -> Result<Vec<u8>, Said> {
 
 /// A lesson or a library.
 fn text_of(file: &OsString) -> Result<File, Said> {
-    Ok(File { name: show::name(file), text: opened(file, LESSON_BYTES)? })
+    Ok(File { path: file.clone(), name: show::name(file), text: opened(file, LESSON_BYTES)? })
 }
 
 /// What is lent to every lesson.
@@ -148,15 +149,43 @@ fn run(asked: &Asked, source: &Source, tape: &[u8]) -> Result<Said, Refusal> {
     Ok(said)
 }
 
-fn join(asked: &Asked, source: &Source) -> Result<Said, Refusal> {
-    let text = source.text();
+/// Of a lesson as another text.
+fn written(asked: &Asked, source: &Source, name: &str, text: &[u8]) -> Said {
     if !asked.is_json {
-        return Ok(Said { output: text.to_owned(), errors: String::new(), status: GOOD });
+        return Said { output: text.to_owned(), errors: String::new(), status: GOOD };
     }
-    let mut object = Object::good(&source.lesson.name, "joined");
+    let mut object = Object::good(&source.lesson.name, name);
     object.number("bytes", text.len());
     object.bytes("text", text);
-    Ok(good(object.line()))
+    good(object.line())
+}
+
+/// Of a lesson's own layout, or of what was done about it.
+fn laid_out(asked: &Asked, source: &Source, name: &str, status: i32) -> Said {
+    let line = if asked.is_json { Object::good(&source.lesson.name, name).line() } else { format!("{}: {}\n", source.lesson.name, name) };
+    Said { status, ..good(line) }
+}
+
+/// Puts the tidy text into the lesson's file, where it is a lesson again: it may have grown too long.
+fn replaced(asked: &Asked, source: &Source, text: &[u8]) -> Said {
+    if lesson_engine::check(text).is_err() {
+        return laid_out(asked, source, "not tidy, and its tidy text is too long for a lesson", REFUSED);
+    }
+    match tidy::replace(&source.lesson.path, text) {
+        Ok(()) => laid_out(asked, source, "made tidy", GOOD),
+        Err(e) => wrong(&format!("{}: {}", source.lesson.name, e)),
+    }
+}
+
+fn tidy(asked: &Asked, source: &Source) -> Result<Said, Refusal> {
+    let text = lesson_engine::tidy(source.text())?;
+    let is_tidy = text == source.text();
+    Ok(match asked.layout {
+        Layout::Show => written(asked, source, "tidy", &text),
+        Layout::Check | Layout::Write if is_tidy => laid_out(asked, source, "tidy", GOOD),
+        Layout::Check => laid_out(asked, source, "not tidy", REFUSED),
+        Layout::Write => replaced(asked, source, &text),
+    })
 }
 
 /// How a run ended, as bayrun says it.
@@ -208,7 +237,8 @@ fn answer_source(asked: &Asked, source: &Source, lent: &Lent) -> Result<Said, Re
         Task::Run => run(asked, source, &lent.tape),
         Task::Menu => menu(asked, source),
         Task::Mark => mark(asked, source, lent),
-        Task::Join => join(asked, source),
+        Task::Join => Ok(written(asked, source, "joined", source.text())),
+        Task::Tidy => tidy(asked, source),
     }
 }
 

@@ -1,10 +1,12 @@
 //! A lesson, alone or with a library under it: the text that the operations take, and where a position of that text stands in the files.
 
 use lesson_engine::{Kind, Refusal};
+use std::ffi::OsString;
 use std::ops::Range;
 
-/// A text, and the file that has it, as it is shown.
+/// A text, and the file that has it; the name is as it is shown.
 pub struct File {
+    pub path: OsString,
     pub name: String,
     pub text: Vec<u8>,
 }

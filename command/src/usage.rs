@@ -4,7 +4,7 @@ use lesson_engine::Limits;
 use std::ffi::OsString;
 
 pub const HELP: &str = "\
-lesson: checks, runs and marks MiniJava lessons
+lesson: checks, runs, marks, joins and tidies MiniJava lessons
 
   lesson check FILE..            is each lesson accepted?
   lesson run FILE [LIMITS]       runs a lesson and prints its numbers, one a line
@@ -14,6 +14,9 @@ lesson: checks, runs and marks MiniJava lessons
                                  and if not which is the first that differs
   lesson join FILE LIBRARY       the lesson, and behind it each class of the library whose name no class of
                                  the lesson has
+  lesson tidy FILE               the lesson in the house layout, without its comments
+  lesson tidy --check FILE..     is each lesson in that layout already?
+  lesson tidy --write FILE..     puts each lesson into that layout, in its file
 
   FILE is a file, or - for standard input.
   EXPECTED has numbers, separated by blanks or line feeds. Where its last line is one that bayrun prints,
@@ -34,8 +37,8 @@ LIMITS:
 A refusal, fault or limit is shown on standard error as FILE:LINE:COLUMN: NUMBER NAME: SENTENCE, with the line and
 a mark under the place. A column counts bytes, from 1. docs/REFUSALS.md has all numbers.
 
-Exit status: 0 accepted, finished or right; 1 refused, a fault, a limit or wrong numbers; 2 wrong use, or a file
-that cannot be read.
+Exit status: 0 accepted, finished, right or tidy; 1 refused, a fault, a limit, wrong numbers or not tidy; 2 wrong
+use, or a file that cannot be read or written.
 ";
 
 /// What to do with the lessons.
@@ -46,6 +49,16 @@ pub enum Task {
     Menu,
     Mark,
     Join,
+    Tidy,
+}
+
+/// What to do with the house layout.
+#[derive(Clone, Copy, Default, PartialEq, Eq)]
+pub enum Layout {
+    #[default]
+    Show,
+    Check,
+    Write,
 }
 
 impl Task {
@@ -56,6 +69,7 @@ impl Task {
             "menu" => Some(Task::Menu),
             "mark" => Some(Task::Mark),
             "join" => Some(Task::Join),
+            "tidy" => Some(Task::Tidy),
             _ => None,
         }
     }
@@ -69,8 +83,8 @@ impl Task {
         }
     }
 
-    fn takes_many(self) -> bool {
-        self == Task::Check
+    fn takes_many(self, layout: Layout) -> bool {
+        self == Task::Check || layout != Layout::Show
     }
 
     fn is_run(self) -> bool {
@@ -85,6 +99,7 @@ pub struct Asked {
     pub limits: Limits,
     pub tape: Option<OsString>,
     pub library: Option<OsString>,
+    pub layout: Layout,
     pub is_json: bool,
 }
 
@@ -101,6 +116,7 @@ struct Words {
     limits: Limits,
     tape: Option<OsString>,
     library: Option<OsString>,
+    layout: Layout,
     is_json: bool,
     is_help: bool,
     /// An option that a run takes.
@@ -127,6 +143,9 @@ impl Words {
         match name {
             "--help" | "-h" => self.is_help = true,
             "--json" => self.is_json = true,
+            "--check" | "--write" if self.layout != Layout::Show => return Err("--check or --write is given, and once".to_owned()),
+            "--check" => self.layout = Layout::Check,
+            "--write" => self.layout = Layout::Write,
             "--library" => self.library = Some(value(name, inline, rest)?),
             "--budget" => self.limits.budget = number(name, value(name, inline, rest)?)?,
             "--calls" => self.limits.calls = number(name, value(name, inline, rest)?)?,
@@ -163,8 +182,12 @@ impl Words {
 
     /// Refuses options that a task does not take.
     fn fit(&self, task: Task, name: &str) -> Result<(), String> {
-        let message = match &self.of_run {
-            Some(option) if !task.is_run() => format!("'lesson {}' runs nothing, so it takes no {}", name, option),
+        let is_input = self.plain.iter().any(|file| file == "-");
+        let message = match (&self.of_run, self.layout) {
+            (Some(option), _) if !task.is_run() => format!("'lesson {}' runs nothing, so it takes no {}", name, option),
+            (_, Layout::Check | Layout::Write) if task != Task::Tidy => format!("'lesson {}' takes neither --check nor --write", name),
+            (_, Layout::Check | Layout::Write) if self.library.is_some() => "--check and --write are about a lesson without a library".to_owned(),
+            (_, Layout::Write) if is_input => "standard input cannot be written to".to_owned(),
             _ if task == Task::Join && self.library.is_some() => "'lesson join' takes its library as the second file".to_owned(),
             _ => return Ok(()),
         };
@@ -180,7 +203,7 @@ impl Words {
         self.fit(task, &name)?;
         let mut files = self.plain;
         let wanted = 1 + task.second().iter().count();
-        if files.len() < wanted || (files.len() > wanted && !task.takes_many()) {
+        if files.len() < wanted || (files.len() > wanted && !task.takes_many(self.layout)) {
             let second = task.second().map_or(String::new(), |s| format!(" and {}", s));
             return Err(format!("'lesson {}' takes a lesson{}", name, second));
         }
@@ -190,7 +213,7 @@ impl Words {
         if inputs > 1 {
             return Err("standard input can be read once only".to_owned());
         }
-        Ok(Asked { task, files, expected, limits: self.limits, tape: self.tape, library, is_json: self.is_json })
+        Ok(Asked { task, files, expected, limits: self.limits, tape: self.tape, library, layout: self.layout, is_json: self.is_json })
     }
 }
 

@@ -87,6 +87,8 @@ pub enum Kind {
     OutputFull,
     /// 60: A number begins with 0 and another digit, which means another number in Java.
     LeadingZero,
+    /// 61: The strip is too short for the printed lesson.
+    TextTooLong,
     /// 62: The register strip has not exactly 16 bytes.
     RegistersNotSixteen,
     /// 63: The cable has registers 0 to 15 only.
@@ -103,7 +105,7 @@ pub enum Kind {
 
 impl Kind {
     /// All of them, by their numbers.
-    pub const ALL: [Kind; 40] = [
+    pub const ALL: [Kind; 41] = [
         Kind::TableTooShort,
         Kind::CallLimitOutOfRange,
         Kind::HeapTooLong,
@@ -138,6 +140,7 @@ impl Kind {
         Kind::CallsFull,
         Kind::OutputFull,
         Kind::LeadingZero,
+        Kind::TextTooLong,
         Kind::RegistersNotSixteen,
         Kind::RegisterOutOfRange,
         Kind::ValueOutOfRange,
@@ -183,6 +186,7 @@ impl Kind {
             Kind::CallsFull => 52,
             Kind::OutputFull => 53,
             Kind::LeadingZero => 60,
+            Kind::TextTooLong => 61,
             Kind::RegistersNotSixteen => 62,
             Kind::RegisterOutOfRange => 63,
             Kind::ValueOutOfRange => 64,
@@ -229,6 +233,7 @@ impl Kind {
             52 => Some(Kind::CallsFull),
             53 => Some(Kind::OutputFull),
             60 => Some(Kind::LeadingZero),
+            61 => Some(Kind::TextTooLong),
             62 => Some(Kind::RegistersNotSixteen),
             63 => Some(Kind::RegisterOutOfRange),
             64 => Some(Kind::ValueOutOfRange),
@@ -276,6 +281,7 @@ impl Kind {
             Kind::CallsFull => "calls full",
             Kind::OutputFull => "output full",
             Kind::LeadingZero => "leading zero",
+            Kind::TextTooLong => "text too long",
             Kind::RegistersNotSixteen => "registers not sixteen",
             Kind::RegisterOutOfRange => "register out of range",
             Kind::ValueOutOfRange => "value out of range",
@@ -322,6 +328,7 @@ impl Kind {
             Kind::CallsFull => "As many calls are open as the call limit allows.",
             Kind::OutputFull => "The output strip has no room for another number.",
             Kind::LeadingZero => "A number begins with 0 and another digit, which means another number in Java.",
+            Kind::TextTooLong => "The strip is too short for the printed lesson.",
             Kind::RegistersNotSixteen => "The register strip has not exactly 16 bytes.",
             Kind::RegisterOutOfRange => "The cable has registers 0 to 15 only.",
             Kind::ValueOutOfRange => "A register takes 0 to 255 only.",
@@ -368,6 +375,7 @@ impl Kind {
             Kind::CallsFull => Cause::Limit,
             Kind::OutputFull => Cause::Limit,
             Kind::LeadingZero => Cause::Lesson,
+            Kind::TextTooLong => Cause::Call,
             Kind::RegistersNotSixteen => Cause::Call,
             Kind::RegisterOutOfRange => Cause::Fault,
             Kind::ValueOutOfRange => Cause::Fault,

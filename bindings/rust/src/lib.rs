@@ -206,6 +206,22 @@ pub fn read_library(library: &[u8]) -> Result<(), Refusal> {
     library::read(library)
 }
 
+/// Writes a lesson in the house layout: a line feed after each `;`, `{` and `}`, a space after every other token, no comments, and just the parentheses that its tree needs.
+/// A text of at most [`sys::SOURCE_MOST`] bytes is accepted again, and tidy already.
+///
+/// ```
+/// let lesson = b"class M{public static void main(String[] a){/* three */System.out.println((1)+2);}}";
+/// let text = lesson_engine::tidy(lesson)?;
+/// assert_eq!(text, b"class M {\npublic static void main ( String [ ] a ) {\nSystem . out . println ( 1 + 2 ) ;\n}\n}\n");
+/// assert_eq!(lesson_engine::tidy(&text)?, text);
+/// # Ok::<(), lesson_engine::Refusal>(())
+/// ```
+pub fn tidy(lesson: &[u8]) -> Result<Vec<u8>, Refusal> {
+    let mut strip = vec![0; sys::PRINT_MOST];
+    let a = strips::print(lesson, &mut table(), &mut strip);
+    written(a, strip)
+}
+
 #[cfg(test)]
 mod tests {
     use super::*;

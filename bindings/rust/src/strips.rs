@@ -62,3 +62,8 @@ pub fn join(source: &[u8], table: &mut [u32], library: &[u8], strip: &mut [u8]) 
         )
     }
 }
+
+/// Print, over a table and a strip that are lent.
+pub fn print(source: &[u8], table: &mut [u32], strip: &mut [u8]) -> WriteAnswer {
+    unsafe { sys::engine_print(source.as_ptr(), source.len(), table.as_mut_ptr(), table.len(), strip.as_mut_ptr(), strip.len()) }
+}

@@ -2,7 +2,7 @@
 
 // [words/write operations: what words/operations.txt says
 /// The version of these declarations; it goes up when one of them or its meaning changes.
-pub const VERSION: u32 = 3;
+pub const VERSION: u32 = 4;
 /// The work table has at least so many words.
 pub const TABLE_WORDS: usize = 16384;
 /// A lesson has at most so many bytes; a longer one is refused, and never read past its end.
@@ -17,6 +17,8 @@ pub const REGISTERS: usize = 16;
 pub const CLASSES_MOST: usize = 2048;
 /// No joined text has more bytes: a strip of so many is long enough for Join.
 pub const JOIN_MOST: usize = 33281;
+/// No printed text has more bytes, nor more than the lesson and 2,048: a strip of so many is long enough for Print.
+pub const PRINT_MOST: usize = 18432;
 /// A call takes at most so many bytes of stack.
 pub const STACK_BYTES: usize = 1048576;
 
@@ -41,7 +43,7 @@ pub struct CheckAnswer {
     pub classes: usize,
 }
 
-/// The answer of Join.
+/// The answer of Join and of Print.
 #[repr(C)]
 #[derive(Clone, Copy, Debug, PartialEq, Eq)]
 pub struct WriteAnswer {
@@ -123,6 +125,17 @@ extern "C" {
         table_length: usize,
         library: *const u8,
         library_length: usize,
+        strip: *mut u8,
+        strip_length: usize,
+    ) -> WriteAnswer;
+    /// Writes the lesson in the house layout. After success `strip` begins with its tokens, a line feed after each `;`, `{` and `}` and a
+    /// space after every other, without comments and with just the parentheses that its tree needs; its rest is unchanged, and so is all of
+    /// it after a refusal. A text of at most 16,384 bytes is accepted again, with the same tree. Refuses as Check does, and last with 61.
+    pub fn engine_print(
+        source: *const u8,
+        source_length: usize,
+        table: *mut u32,
+        table_length: usize,
         strip: *mut u8,
         strip_length: usize,
     ) -> WriteAnswer;
