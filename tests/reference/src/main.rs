@@ -1,4 +1,4 @@
-//! An independent implementation of documents 01 and 02, requests (i) to (x) but (v), written from these papers alone, and its comparison with the library.
+//! An independent implementation of documents 01 and 02, requests (i) to (x), written from these papers alone, and its comparison with the library.
 //!
 //! `reference compare [SEED [COUNT]]` compares the two on lessons from seeds, valid and damaged, long and short: what each operation answers and what every strip holds afterwards.
 //! `reference answer` answers lines on standard input as the program `cases` does, and `reference binding` does so through the safe binding in bindings/rust.
@@ -14,6 +14,7 @@ mod lexer;
 mod machine;
 mod operations;
 mod parser;
+mod printer;
 mod properties;
 mod random;
 mod refusal;

@@ -5,6 +5,7 @@ use crate::device::REGISTERS;
 use crate::lexer::tokens;
 use crate::machine::{run as perform, Limits, Report};
 use crate::parser;
+use crate::printer;
 use crate::refusal::{refuse, Refusal};
 use crate::tree::{Class, Measure, Program};
 
@@ -79,6 +80,15 @@ pub fn menu(source: &[u8], table: usize, strip: usize) -> Result<Vec<usize>, Ref
         return refuse(4, 0);
     }
     Ok(order(&program))
+}
+
+/// Request (v): the lesson in the house layout.
+pub fn print(source: &[u8], table: usize, strip: usize) -> Result<Vec<u8>, Refusal> {
+    let text = printer::text(&check(source, table)?);
+    if strip < text.len() {
+        return refuse(61, 0);
+    }
+    Ok(text.into_bytes())
 }
 
 pub fn run(source: &[u8], table: usize, limits: Limits, registers: usize, tape: &[u8]) -> Result<Report, Refusal> {

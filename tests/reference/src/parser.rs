@@ -88,12 +88,12 @@ impl Parser<'_> {
         self.expect(&["class"])?;
         let main = self.id()?;
         self.expect(&["{", "public", "static", "void", "main", "(", "String", "[", "]"])?;
-        self.id()?;
+        let parameter = self.id()?;
         self.expect(&[")", "{"])?;
         let statement = self.stmt()?;
         self.expect(&["}", "}"])?;
         let classes = self.classes()?;
-        Ok(Program { main, statement, classes })
+        Ok(Program { main, parameter, statement, classes })
     }
 
     /// Class declarations up to the end.

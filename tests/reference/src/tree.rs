@@ -133,6 +133,8 @@ pub struct Class {
 #[derive(Clone, Debug, PartialEq)]
 pub struct Program {
     pub main: Id,
+    /// Main's, which no lesson can use.
+    pub parameter: Id,
     pub statement: Stmt,
     pub classes: Vec<Class>,
 }
