@@ -25,13 +25,18 @@ EMPTY = main_with("{}")  # 18 tokens: the shortest program
 
 
 def tokens(lesson):
-    """How many tokens a lesson without comments has."""
-    return len(re.findall(r"[A-Za-z][A-Za-z0-9_]*|[0-9]+(?:\.[0-9]+)?|&&|\S", lesson))
+    """The tokens of a lesson without comments."""
+    return re.findall(r"[A-Za-z][A-Za-z0-9_]*|[0-9]+(?:\.[0-9]+)?|&&|\S", lesson)
 
 
 def fits(lesson):
     """Whether a lesson keeps within the bounds of bytes and tokens."""
-    return len(lesson) <= BYTES_MOST and tokens(lesson) <= TOKENS_MOST
+    return len(lesson) <= BYTES_MOST and len(tokens(lesson)) <= TOKENS_MOST
+
+
+def tidy(lesson):
+    """A lesson without comments in the layout of document 02, (v): a line feed after `;`, `{` and `}`, a space after every other token. Its parentheses stay as they are."""
+    return "".join(token + ("\n" if token in ";{}" else " ") for token in tokens(lesson))
 
 
 def unmarked(lesson):

@@ -6,6 +6,7 @@ use crate::menu_case;
 use crate::operation;
 use crate::operation::Operation;
 use crate::output::Wrong;
+use crate::print_case;
 use crate::run_lent;
 use crate::table_only;
 
@@ -17,6 +18,7 @@ fn with_table(o: Operation, line: &mut [u8], table: &mut [u32]) {
         Operation::Menu => menu_case::answer(line, table),
         Operation::Run => run_lent::answer(line, table),
         Operation::Join => join_case::answer(line, table),
+        Operation::Print => print_case::answer(line, table),
     }
 }
 

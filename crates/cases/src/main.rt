@@ -10,6 +10,7 @@ mod numbers;
 mod operation;
 mod output;
 mod page;
+mod print_case;
 mod run_case;
 mod run_lent;
 mod source;

@@ -9,6 +9,7 @@ pub enum Operation {
     Menu,
     Run,
     Join,
+    Print,
 }
 
 // What the first word of a line stands for.
@@ -35,6 +36,9 @@ pub fn named(line: &[u8]) -> Name {
     if fields::is_first(line, b"join") {
         return Name::Of(Operation::Join);
     }
+    if fields::is_first(line, b"print") {
+        return Name::Of(Operation::Print);
+    }
     if fields::is_first(line, b"help") {
         return Name::Help;
     }
@@ -51,5 +55,6 @@ pub fn last_word(o: Operation) -> usize
         Operation::Menu => 3,
         Operation::Run => 8,
         Operation::Join => 4,
+        Operation::Print => 3,
     }
 }

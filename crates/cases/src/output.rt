@@ -60,6 +60,7 @@ pub fn usage() {
     );
     text(b"    registers, then what is printed\n");
     text(b"  join TABLE TEXT SOURCE LIBRARY: number, position, bytes, then what is written\n");
+    text(b"  print TABLE TEXT SOURCE: number, position, bytes, then what is written\n");
     text(
         b"A line that is no case is answered by what is wrong with it. STRIP after an answer says that something lent\n",
     );
