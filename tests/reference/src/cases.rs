@@ -38,11 +38,10 @@ impl Answerer {
         }
     }
 
-    /// None of the binding, which has no such function.
-    fn print(self, source: &[u8], table: usize, strip: usize) -> Option<Result<Vec<u8>, Refusal>> {
+    fn print(self, source: &[u8], table: usize, strip: usize) -> Result<Vec<u8>, Refusal> {
         match self {
-            Answerer::Reference => Some(operations::print(source, table, strip)),
-            Answerer::Binding => None,
+            Answerer::Reference => operations::print(source, table, strip),
+            Answerer::Binding => lesson_engine::tidy(source).map_err(of_binding),
         }
     }
 
@@ -137,7 +136,7 @@ pub fn answer(who: Answerer, line: &str) -> Option<String> {
                 Err(r) => refused(r, " 0 0 0 -"),
             })
         }
-        ("print", 4) => Some(wrote(who.print(&bytes(words[3])?, number(1)?, number(2)?)?)),
+        ("print", 4) => Some(wrote(who.print(&bytes(words[3])?, number(1)?, number(2)?))),
         ("join", 5) => Some(wrote(who.join(&bytes(words[3])?, number(1)?, &bytes(words[4])?, number(2)?))),
         _ => None,
     }

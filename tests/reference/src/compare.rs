@@ -106,6 +106,13 @@ fn is_join_right(source: &[u8], table: usize, library: &[u8], strip: usize, met:
     is_text_right(operations::join(source, table, library, strip), answer, &words, &written, met)
 }
 
+fn is_print_right(source: &[u8], table: usize, strip: usize, met: &mut Met) -> bool {
+    let mut words = Strip::new(table);
+    let mut written = Strip::new(strip);
+    let answer = strips::print(source, words.lent(), written.lent());
+    is_text_right(operations::print(source, table, strip), answer, &words, &written, met)
+}
+
 fn size(random: &mut Random) -> Size {
     match random.below(6) {
         0 => Size { classes: 1, members: 2, statements: 2, depth: 2 },
@@ -167,6 +174,17 @@ fn join_results(random: &mut Random, source: &[u8], table: usize, met: &mut Met)
     results
 }
 
+/// The lesson printed, and what the request says of that text.
+fn print_results(random: &mut Random, source: &[u8], table: usize, met: &mut Met) -> Vec<(&'static str, bool)> {
+    let due = operations::print(source, table, usize::MAX);
+    let strip = strip_for(random, &due);
+    let mut results = vec![("print", is_print_right(source, table, strip, met))];
+    if let Ok(text) = due {
+        results.push(("printed text", properties::is_printed_right(random, source, &text)));
+    }
+    results
+}
+
 /// Compares all operations on the lesson of one seed; how many differ.
 fn lesson_differences(seed: u64, met: &mut Met) -> usize {
     let mut random = Random::new(seed);
@@ -187,6 +205,7 @@ fn lesson_differences(seed: u64, met: &mut Met) -> usize {
         results.push(("run", is_run_right(&source, table, chosen, registers, &tape, met)));
     }
     results.extend(join_results(&mut random, &source, table, met));
+    results.extend(print_results(&mut random, &source, table, met));
     let wrong: Vec<&str> = results.iter().filter(|(_, is_right)| !is_right).map(|(name, _)| *name).collect();
     wrong.iter().for_each(|name| print_lesson(name, seed, &source));
     wrong.len()

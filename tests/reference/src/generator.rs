@@ -267,8 +267,9 @@ impl Generator<'_> {
             return ["true", "false"][self.random.below(2)].to_owned();
         }
         match self.random.below(4) {
-            0 => format!("!{}", self.expr(scope, BOOLEAN, 0)),
-            1 => format!("({})&&{}", self.expr(scope, BOOLEAN, depth - 1), self.expr(scope, BOOLEAN, 0)),
+            0 if self.random.once_in(2) => format!("!{}", self.expr(scope, BOOLEAN, 0)),
+            0 => format!("!({})", self.expr(scope, BOOLEAN, depth - 1)),
+            1 => format!("({})&&({})", self.expr(scope, BOOLEAN, depth - 1), self.expr(scope, BOOLEAN, depth - 1)),
             _ => {
                 let ty = self.number_type();
                 let left = self.expr(scope, ty, depth - 1);

@@ -2,7 +2,7 @@
 
 use crate::refusal::{refuse, Refusal};
 
-const SOURCE_MOST: usize = 16384;
+pub const SOURCE_MOST: usize = 16384;
 const TOKENS_MOST: usize = 2048;
 const NAME_MOST: usize = 255;
 /// The largest int, and the largest count of thousandths.
