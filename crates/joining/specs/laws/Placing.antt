@@ -130,14 +130,14 @@ module _ {lib : List ℕ} {ls : List Token} (h : HasTokens 0 lib ls) where
 
   module _ (taken : List (List ℕ)) where
     -- the kept classes
-    has-tokens-at : {i : ℕ} {ks : List Class} → DerivesClasses ls i (length ls) ks → (d : ℕ)
+    kept-placed : {i : ℕ} {ks : List Class} → DerivesClasses ls i (length ls) ks → (d : ℕ)
         → Placed ls (keptClasses taken ks) (keptText taken lib ls ks) d
-    has-tokens-at no-class d = record {
+    kept-placed no-class d = record {
       stream = [];
       lexed = no-byte;
       derives = λ ws. ([], again refl refl (sym (add-zero (length ws))) no-class, all2-nil);
     }
-    has-tokens-at (more-classes {i = i} {m = m} {c = k} {cs = ks} D Ds) d = go (occurs (k .name .text) taken) (λ e. has-tokens-at Ds e)
+    kept-placed (more-classes {i = i} {m = m} {c = k} {cs = ks} D Ds) d = go (occurs (k .name .text) taken) (λ e. kept-placed Ds e)
       where
         go : (b : Bool) → ((e : ℕ) → Placed ls (keptClasses taken ks) (keptText taken lib ls ks) e)
             → Placed ls (if b then (λ _. keptClasses taken ks) else λ _. k ∷ keptClasses taken ks)
@@ -185,7 +185,7 @@ kept-shallow taken (k ∷ ks) e =
 module _ {s : List ℕ} {ts : List Token} {p : Program} {lib : List ℕ} {ls : List Token} {ks : List Class}
     (R : Readable s ts p) (L : ReadableLibrary lib ls ks) where
   behind : Placed ls (keptClasses (namesOf p) ks) (keptText (namesOf p) lib ls ks) (length s + 1)
-  behind = has-tokens-at (has-tokens lib ls (L .lexed)) (namesOf p) (L .derived) (length s + 1)
+  behind = kept-placed (has-tokens lib ls (L .lexed)) (namesOf p) (L .derived) (length s + 1)
 
   -- the tokens of the joined text
   pub joinedStream : List Token
