@@ -33,7 +33,7 @@ extern "C" {
 #define ENGINE_CALLS_MOST 64 /* the call limit is 1 to this */
 #define ENGINE_REGISTERS 16 /* the register strip has exactly so many bytes */
 #define ENGINE_CLASSES_MOST 2048 /* no lesson has more classes: a strip of so many words is long enough for Menu */
-#define ENGINE_JOIN_MOST 33281 /* no joined text has more bytes: a strip of so many is long enough for Join */
+#define ENGINE_JOIN_MOST 33281 /* no joined text has more bytes: a strip of so many is long enough for Join, and so is one of the lengths of lesson and library and 513 more */
 #define ENGINE_PRINT_MOST 18432 /* no printed text has more bytes, nor more than the lesson and 2,048: a strip of so many is long enough for Print */
 #define ENGINE_STACK_BYTES 1048576 /* a call takes at most so many bytes of stack */
 /* words/write] */

@@ -15,7 +15,8 @@ pub const CALLS_MOST: usize = 64;
 pub const REGISTERS: usize = 16;
 /// No lesson has more classes: a strip of so many words is long enough for Menu.
 pub const CLASSES_MOST: usize = 2048;
-/// No joined text has more bytes: a strip of so many is long enough for Join.
+/// No joined text has more bytes: a strip of so many is long enough for Join, and so is one of the lengths of lesson and library and 513
+/// more.
 pub const JOIN_MOST: usize = 33281;
 /// No printed text has more bytes, nor more than the lesson and 2,048: a strip of so many is long enough for Print.
 pub const PRINT_MOST: usize = 18432;
