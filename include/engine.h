@@ -11,7 +11,7 @@
  *
  * Stack. A call takes at most ENGINE_STACK_BYTES of stack, whatever the lesson is. It allocates nothing, and calls nothing but memset.
  *
- * Time. All but Run end within milliseconds. Run takes a time proportional to the steps, which the budget bounds: a few nanoseconds each.
+ * Time. All but Run end within milliseconds (Join within thirty, of which hundreds of classes with alike names take most). Run takes a time proportional to the steps, which the budget bounds: a few nanoseconds each.
  *
  * Positions count the bytes of the lesson from 0, and that of 66 those of the library. Every answer has a number and a position: 0 at position 0 for success, else one of the numbers below.
  */
