@@ -1,5 +1,5 @@
-// The bytes of a case, its source and its tape: two lower-case hexadecimal digits a byte, or `-` for no bytes. They are decoded into the
-// line itself, from its start on, where all words before them are used up; each word is to be looked for before one is decoded.
+// The bytes of a case, its source, tape or library: two lower-case hexadecimal digits a byte, or `-` for no bytes. They are decoded into
+// the line itself, from its start on, where all words before them are used up; each word is to be looked for before one is decoded.
 use crate::fields;
 use crate::fields::Span;
 use crate::output;
@@ -60,7 +60,8 @@ fn size_of(line: &[u8], start: usize, end: usize) -> Size {
     Size::Bytes(digits / 2)
 }
 
-// Puts the `n` bytes that the digits from `start` on spell at `to`, and answers where they end; nowhere where a byte is no digit.
+// Puts the `n` bytes that the digits from `start` on spell at `to`, which lies before them, and answers where they end; nowhere where a
+// byte is no digit.
 fn decode(line: &mut [u8], start: usize, n: usize, to: usize) -> usize {
     let mut from = start;
     let mut at = to;

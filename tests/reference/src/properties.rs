@@ -12,7 +12,8 @@ fn tree(source: &[u8]) -> Result<Program, Refusal> {
     operations::read(source, TABLE_LEAST).map(|r| r.program)
 }
 
-/// Request (x): a joined text has the lesson's classes and then those that are kept; joined again it gets a line feed more. Or it is too long to be read.
+/// Request (x): a joined text has the lesson's classes and then those that are kept, and joined again it gets a line feed more; or it is too
+/// long to be read.
 pub fn is_joined_right(source: &[u8], library: &[u8], text: &[u8]) -> bool {
     let mut due = tree(source).expect("what is joined is read");
     due.classes.extend(operations::kept(&due, library).expect("what is joined is read"));
@@ -58,8 +59,8 @@ fn without_a_pair(random: &mut Random, text: &[u8]) -> Vec<u8> {
     made
 }
 
-/// Request (v): a printed text has the lesson's tree, is printed as it is, and has no pair of parentheses too many: without any one pair it is refused or has another tree.
-/// Of a text that is too long to be read nothing is said.
+/// Request (v): a printed text has the lesson's tree, is printed as it is, and has no pair of parentheses too many: without any one pair it
+/// is refused or has another tree. Of a text that is too long to be read nothing is said.
 pub fn is_printed_right(random: &mut Random, source: &[u8], text: &[u8]) -> bool {
     if text.len() > lexer::SOURCE_MOST {
         return true;
