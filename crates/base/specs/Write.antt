@@ -1,4 +1,4 @@
--- What the operations of document 02 that write a text into a lent byte strip, (v) and (x), answer, and what the strip holds afterwards.
+-- What the operations of document 02 that write a text into a lent byte strip, (v), (x) and (xii), answer, and what the strip holds afterwards.
 use Prim.Native.Nat.{ℕ}
 use mathlib.Core.List.{List, _++_}
 use lib.ListN.{length, drop}

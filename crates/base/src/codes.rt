@@ -21,6 +21,17 @@ pub const LIBRARY_REFUSED: u32 = 66;
 
 pub const JOINED_TOO_LONG: u32 = 67;
 
+// Frames.
+pub const FRAMES_TOO_SHORT: u32 = 68;
+
+pub const OTHER_FORM: u32 = 69;
+
+pub const FRAME_FAULT: u32 = 70;
+
+pub const RECORD_UNFIT: u32 = 71;
+
+pub const PRICE_UNFIT: u32 = 72;
+
 // Read.
 pub const SOURCE_TOO_LONG: u32 = 10;
 

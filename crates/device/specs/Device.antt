@@ -2,7 +2,7 @@
 use Prim.Native.Nat.{ℕ, zero, suc, _+_, _/_, _%_, _^_, _<_}
 use mathlib.Core.Bool.{Bool, true, false, _&&_, _||_, not}
 use mathlib.Core.List.{List, [], _∷_}
-use lib.ListN.{getD, set, replicate}
+use lib.ListN.{getD, set, replicate, drop}
 use lib.Dec.{eqb}
 use Rattle.base.specs.Choice.{if_then_else_}
 use Rattle.base.specs.Codes.{byteValues}
@@ -84,3 +84,15 @@ afterPut (suc zero) v d =
 afterPut (suc (suc zero)) v d = d
 afterPut (suc (suc (suc n))) v d =
     record { arrived = d .arrived; lost = d .lost; mask = d .mask; reading = d .reading; others = set (d .others) n v; tape = d .tape }
+
+-- the device that a strip of registers shows, of whose register 0 only the flags count, with so many samples taken from a tape
+abbrev pub deviceIn : (tape strip : List ℕ) → (taken : ℕ) → Device
+deviceIn t r n =
+    record {
+      arrived = bit 0 (getD r 0 0);
+      lost = bit 1 (getD r 0 0);
+      mask = getD r 1 0;
+      reading = getD r 2 0;
+      others = drop 3 r;
+      tape = drop n t;
+    }

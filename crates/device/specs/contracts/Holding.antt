@@ -3,8 +3,7 @@ use Prim.Native.Nat.{ℕ, _-_, _≤_}
 use mathlib.Core.List.{List, []}
 use mathlib.Core.Path.{_≡_}
 use mathlib.Core.Logic.{_⊎_}
-use lib.ListN.{getD, drop}
-use Rattle.device.specs.Device.{Device, reset, bit, registers}
+use Rattle.device.specs.Device.{Device, reset, registers, deviceIn}
 use Rattle.device.specs.laws.Samples.{samples}
 
 -- the register strip, of whose register 0 only the flags count, and how many samples were due so far
@@ -17,15 +16,7 @@ heldIn s n = record { strip = s; taken = n }
 
 -- the device that the code holds: the samples that were due so far are taken from the tape
 abbrev pub deviceOf : (tape : List ℕ) → Held → Device
-deviceOf t h =
-    record {
-      arrived = bit 0 (getD (h .strip) 0 0);
-      lost = bit 1 (getD (h .strip) 0 0);
-      mask = getD (h .strip) 1 0;
-      reading = getD (h .strip) 2 0;
-      others = drop 3 (h .strip);
-      tape = drop (h .taken) t;
-    }
+deviceOf t h = deviceIn t (h .strip) (h .taken)
 
 -- its registers, whatever is on the tape
 abbrev pub registersOf : Held → List ℕ
