@@ -2,9 +2,13 @@
 import textwrap
 
 WIDTH = 140
-C = {"word": "uint32_t", "size": "size_t", "long": "uint64_t", "bytes": "uint8_t", "words": "uint32_t", "numbers": "int32_t"}
-RUST = {"word": "u32", "size": "usize", "long": "u64", "bytes": "u8", "words": "u32", "numbers": "i32"}
-PYTHON = {"word": "c_uint32", "size": "c_size_t", "long": "c_uint64", "bytes": "c_uint8", "words": "c_uint32", "numbers": "c_int32"}
+C = {"word": "uint32_t", "size": "size_t", "long": "uint64_t", "bytes": "uint8_t", "text": "uint8_t", "words": "uint32_t", "numbers": "int32_t",
+     "entries": "uint64_t"}
+RUST = {"word": "u32", "size": "usize", "long": "u64", "bytes": "u8", "text": "u8", "words": "u32", "numbers": "i32", "entries": "u64"}
+PYTHON = {"word": "c_uint32", "size": "c_size_t", "long": "c_uint64", "bytes": "c_uint8", "text": "c_uint8", "words": "c_uint32",
+          "numbers": "c_int32", "entries": "c_uint64"}
+# The module has limits of its own, which are these and the lengths of the strips.
+PYTHON_NAMES = {"limits": "RunLimits", "frame_limits": "PartLimits"}
 
 
 def camel(name):
@@ -37,13 +41,17 @@ def c_comment(text, listed=()):
     return lines[:-1] + [lines[-1] + " */"]
 
 
+def c_type(kind):
+    return C.get(kind) or "engine_" + kind
+
+
 def c_field(field):
-    return "    %s %s;%s" % (C[field.type], field.name, " /* %s */" % field.words if field.words else "")
+    return "    %s %s;%s" % (c_type(field.type), field.name, " /* %s */" % field.words if field.words else "")
 
 
 def c_arguments(a):
     if not a.is_strip:
-        return ["engine_%s %s" % (a.kind, a.name)]
+        return ["%s %s" % (c_type(a.kind), a.name)]
     return ["%s%s *%s" % ("" if a.after else "const ", C[a.kind], a.name), "size_t %s_length" % a.name]
 
 
@@ -69,13 +77,17 @@ def rust_comment(text, indent=""):
     return wrapped(text, indent + "/// ", indent + "/// ")
 
 
+def rust_type(kind):
+    return RUST.get(kind) or camel(kind)
+
+
 def rust_field(field):
-    return (rust_comment(sentence(field.words), "    ") if field.words else []) + ["    pub %s: %s," % (field.name, RUST[field.type])]
+    return (rust_comment(sentence(field.words), "    ") if field.words else []) + ["    pub %s: %s," % (field.name, rust_type(field.type))]
 
 
 def rust_arguments(a):
     if not a.is_strip:
-        return ["%s: %s" % (a.name, camel(a.kind))]
+        return ["%s: %s" % (a.name, rust_type(a.kind))]
     return ["%s: *%s %s" % (a.name, "mut" if a.after else "const", RUST[a.kind]), "%s_length: usize" % a.name]
 
 
@@ -92,7 +104,7 @@ def rust_operations(surface):
     for c in surface.constants:
         lines += rust_comment(sentence(c.words)) + ["pub const %s: %s = %s;" % (c.name, RUST[c.type], c.value)]
     for r in surface.records:
-        lines += ["", *rust_comment(r.says), "#[repr(C)]", "#[derive(Clone, Copy, Debug, PartialEq, Eq)]", "pub struct %s {" % camel(r.name)]
+        lines += ["", *rust_comment(r.says), "#[repr(C)]", "#[derive(Clone, Copy, Debug, Default, PartialEq, Eq)]", "pub struct %s {" % camel(r.name)]
         lines += [line for field in r.fields for line in rust_field(field)] + ["}"]
     lines += ["", 'extern "C" {', "    /// The version that belongs to the library: [`VERSION`] of these declarations.", "    pub fn engine_version() -> u32;"]
     for o in surface.operations:
@@ -104,8 +116,11 @@ def rust_operations(surface):
 
 
 def python_name(record):
-    """The module has limits of its own, which are those of a run and the lengths of its strips."""
-    return "RunLimits" if record == "limits" else camel(record)
+    return PYTHON_NAMES.get(record) or camel(record)
+
+
+def python_type(kind):
+    return "ctypes." + PYTHON[kind] if kind in PYTHON else python_name(kind)
 
 
 def python_constants(surface):
@@ -115,7 +130,7 @@ def python_constants(surface):
 def python_records(surface):
     lines = []
     for r in surface.records:
-        fields = ['        ("%s", ctypes.%s),' % (field.name, PYTHON[field.type]) for field in r.fields]
+        fields = ['        ("%s", %s),' % (field.name, python_type(field.type)) for field in r.fields]
         lines += ["class %s(ctypes.Structure):" % python_name(r.name), "    _fields_ = [", *fields, "    ]", "", ""]
     return lines[:-2]
 
@@ -124,7 +139,7 @@ def python_argument(a):
     """Of `load`: a pointer and a length; or a record."""
     if not a.is_strip:
         return "[%s]" % python_name(a.kind)
-    return "lent(ctypes.%s)" % PYTHON[a.kind] if a.after else "given"
+    return "lent(%s)" % python_type(a.kind) if a.after else "given"
 
 
 def python_functions(surface):
@@ -179,9 +194,12 @@ def answer_function(o, surface):
 
 
 def answer_functions(surface):
-    lines = [line for o in surface.operations for line in answer_function(o, surface)]
+    """What answers the cases of each operation; those that are answered by hand have as many words as they need, so 0 is said of them."""
+    lines = [line for o in surface.operations if not o.by_hand for line in answer_function(o, surface)]
     lines += ["static const operation operations[] = {"]
-    lines += ['    {"%s", %d, answer_%s},' % (o.name, len(o.case) + 1, o.name) for o in surface.operations]
+    for o in surface.operations:
+        name, words = (o.by_hand, 0) if o.by_hand else (o.name, len(o.case) + 1)
+        lines.append('    {"%s", %d, answer_%s},' % (name, words, name))
     return lines + ["};"]
 
 
@@ -190,13 +208,13 @@ def answer_functions(surface):
 
 def rattle_argument(a):
     if not a.is_strip:
-        return "%s: %s" % (a.name, camel(a.kind))
+        return "%s: %s" % (a.name, rust_type(a.kind))
     return "%s: &%s[%s]" % (a.name, "mut " if a.after else "", RUST[a.kind])
 
 
 def rattle(surface):
     """Each declaration on one line, without blanks and commas that mean nothing."""
-    records = ["pub struct %s {%s}" % (camel(r.name), ", ".join("pub %s: %s" % (f.name, RUST[f.type]) for f in r.fields)) for r in surface.records]
+    records = ["pub struct %s {%s}" % (camel(r.name), ", ".join("pub %s: %s" % (f.name, rust_type(f.type)) for f in r.fields)) for r in surface.records]
     functions = ["fn engine_%s(%s) -> %s" % (o.name, ", ".join(map(rattle_argument, o.arguments)), camel(o.answer)) for o in surface.operations]
     version = next(c.value for c in surface.constants if c.name == "VERSION")
     return set(records + functions + ["const VERSION: u32 = %s;" % version, "fn engine_version() -> u32"])

@@ -3,7 +3,7 @@ import dataclasses
 import pathlib
 
 FILE = pathlib.Path(__file__).resolve().parent / "operations.txt"
-STRIPS = {"bytes", "words", "numbers"}
+STRIPS = {"bytes", "text", "words", "numbers", "entries"}
 
 
 @dataclasses.dataclass
@@ -41,6 +41,7 @@ class Operation:
     says: str
     arguments: list
     answer: str  # the name of a record
+    by_hand: str  # the word that begins its cases where they have parts, or "": then what follows says their form
     case: list
     answered: list
     leading: str  # the strip whose first elements end an answer, or ""
@@ -72,8 +73,10 @@ def record(name, lines):
 def operation(name, lines):
     arguments = [Argument(*split(line[len("takes: ") :], 3)) for line in lines if line.startswith("takes: ")]
     rest = dict(line.split(": ", 1) for line in lines if not line.startswith("takes: "))
+    if "by hand" in rest:
+        return Operation(name, rest["says"], arguments, rest["answers"], rest["by hand"], [], [], "")
     answered, _, leading = rest["answered"].partition(" : ")
-    return Operation(name, rest["says"], arguments, rest["answers"], rest["case"].split(" "), answered.split(" "), leading)
+    return Operation(name, rest["says"], arguments, rest["answers"], "", rest["case"].split(" "), answered.split(" "), leading)
 
 
 @dataclasses.dataclass

@@ -1,15 +1,18 @@
-//! `lesson`: checks, runs, marks, joins and tidies lessons on the command line, over the lesson engine. usage.rs says what it takes.
+//! `lesson`: checks, runs, marks, joins and tidies lessons and writes and runs frames on the command line, over the lesson engine. usage.rs says what it takes.
 
+mod frames;
 mod json;
+mod listing;
 mod mark;
 mod place;
+mod replace;
 mod show;
 mod source;
-mod tidy;
 mod usage;
 
+use frames::Saved;
 use json::Object;
-use lesson_engine::{Cause, Refusal, Run};
+use lesson_engine::{Cause, Paused, Refusal, Run};
 use mark::Ending;
 use place::place;
 use source::{File, Finding, Source};
@@ -23,6 +26,7 @@ use usage::{Asked, Layout, Request, Task};
 const GOOD: i32 = 0;
 const REFUSED: i32 = 1;
 const WRONG_USE: i32 = 2;
+const PAUSED: i32 = 3;
 
 /// A byte more than a lesson or a library may have, so that the engine refuses a longer one; the rest of it need not be read.
 const LESSON_BYTES: u64 = lesson_engine::sys::SOURCE_MOST as u64 + 1;
@@ -49,9 +53,9 @@ fn opened(file: &OsStr, most: u64) -> Result<Vec<u8>, Said> {
     content(file, most).map_err(|e| wrong(&format!("{}: {}", show::name(file), e)))
 }
 
-/// A lesson or a library.
-fn text_of(file: &OsString) -> Result<File, Said> {
-    Ok(File { path: file.clone(), name: show::name(file), text: opened(file, LESSON_BYTES)? })
+/// A lesson, a library or frames.
+fn text_of(file: &OsString, most: u64) -> Result<File, Said> {
+    Ok(File { path: file.clone(), name: show::name(file), text: opened(file, most)? })
 }
 
 /// What is lent to every lesson.
@@ -59,11 +63,20 @@ struct Lent {
     library: Option<File>,
     tape: Vec<u8>,
     expected: Vec<u8>,
+    saved: Option<Saved>,
+}
+
+fn saved(file: &OsString) -> Result<Saved, Said> {
+    let name = show::name(file);
+    let paused = Paused::from_bytes(&opened(file, u64::MAX)?).map_err(|e| wrong(&format!("{}: {}", name, e)))?;
+    Ok(Saved { name, paused })
 }
 
 fn lent(asked: &Asked) -> Result<Lent, Said> {
     let bytes = |file: &Option<OsString>| file.as_ref().map_or(Ok(Vec::new()), |f| opened(f, u64::MAX));
-    Ok(Lent { library: asked.library.as_ref().map(text_of).transpose()?, tape: bytes(&asked.tape)?, expected: bytes(&asked.expected)? })
+    let library = asked.library.as_ref().map(|file| text_of(file, LESSON_BYTES)).transpose()?;
+    let resume = asked.frames.as_ref().and_then(|of| of.resume.as_ref());
+    Ok(Lent { library, tape: bytes(&asked.tape)?, expected: bytes(&asked.expected)?, saved: resume.map(saved).transpose()? })
 }
 
 fn wrong(message: &str) -> Said {
@@ -141,11 +154,15 @@ fn run_object(source: &Source, run: &Run) -> Object {
     object
 }
 
+/// Numbers, a line each.
+fn numbers(printed: &[i32]) -> String {
+    printed.iter().map(|n| format!("{}\n", n)).collect()
+}
+
 fn run(asked: &Asked, source: &Source, tape: &[u8]) -> Result<Said, Refusal> {
     let run = lesson_engine::run(source.text(), &asked.limits, tape)?;
     let mut said = run.end.map_or_else(|| good(String::new()), |r| refused(asked, &source.finding(&r)));
-    let printed = || run.printed.iter().map(|n| format!("{}\n", n)).collect();
-    said.output = if asked.is_json { run_object(source, &run).line() } else { printed() }.into_bytes();
+    said.output = if asked.is_json { run_object(source, &run).line() } else { numbers(&run.printed) }.into_bytes();
     Ok(said)
 }
 
@@ -171,7 +188,7 @@ fn replaced(asked: &Asked, source: &Source, text: &[u8]) -> Said {
     if lesson_engine::check(text).is_err() {
         return laid_out(asked, source, "not tidy, and its tidy text is too long for a lesson", REFUSED);
     }
-    match tidy::replace(&source.lesson.path, text) {
+    match replace::replace(&source.lesson.path, text) {
         Ok(()) => laid_out(asked, source, "made tidy", GOOD),
         Err(e) => wrong(&format!("{}: {}", source.lesson.name, e)),
     }
@@ -232,19 +249,21 @@ fn mark(asked: &Asked, source: &Source, lent: &Lent) -> Result<Said, Refusal> {
 
 /// Answers for a text that the operations take.
 fn answer_source(asked: &Asked, source: &Source, lent: &Lent) -> Result<Said, Refusal> {
-    match asked.task {
-        Task::Check => check(asked, source),
-        Task::Run => run(asked, source, &lent.tape),
-        Task::Menu => menu(asked, source),
-        Task::Mark => mark(asked, source, lent),
-        Task::Join => Ok(written(asked, source, "joined", source.text())),
-        Task::Tidy => tidy(asked, source),
+    match (asked.task, &asked.frames) {
+        (Task::Check, _) => check(asked, source),
+        (Task::Run, None) => run(asked, source, &lent.tape),
+        (Task::Run, Some(of)) => Ok(frames::run(asked, of, source, lent.saved.as_ref(), &lent.tape).unwrap_or_else(|said| said)),
+        (Task::Menu, _) => menu(asked, source),
+        (Task::Mark, _) => mark(asked, source, lent),
+        (Task::Join, _) => Ok(written(asked, source, "joined", source.text())),
+        (Task::Tidy, _) => tidy(asked, source),
+        (Task::Frames, _) => frames::show(asked, source),
     }
 }
 
-/// Answers for one lesson.
+/// Answers for one lesson, or for one text of frames.
 fn answer(asked: &Asked, file: &OsString, lent: &Lent) -> Result<Said, Said> {
-    let lesson = text_of(file)?;
+    let lesson = text_of(file, if asked.frames.is_some() { u64::MAX } else { LESSON_BYTES })?;
     let source = match &lent.library {
         Some(library) => Source::joined(&lesson, library).map_err(|finding| refused(asked, &finding))?,
         None => Source::alone(&lesson),

@@ -1,10 +1,10 @@
 //! What is asked for: the words of the command line.
 
-use lesson_engine::Limits;
+use lesson_engine::{FrameLimits, Limits};
 use std::ffi::OsString;
 
 pub const HELP: &str = "\
-lesson: checks, runs, marks, joins and tidies MiniJava lessons
+lesson: checks, runs, marks, joins and tidies MiniJava lessons, and writes and runs frames
 
   lesson check FILE..            is each lesson accepted?
   lesson run FILE [LIMITS]       runs a lesson and prints its numbers, one a line
@@ -18,17 +18,30 @@ lesson: checks, runs, marks, joins and tidies MiniJava lessons
   lesson tidy --check FILE..     is each lesson in that layout already?
   lesson tidy --write FILE..     puts each lesson into that layout, in its file
 
+  lesson frames FILE             the lesson as frames, stack code for a reader: docs/FRAMES.md has the code table
+  lesson frames --list FILE      the same for people: each line with its number, its name and its operand in words;
+                                 a position is shown as LINE:COLUMN of the lesson
+  lesson run --frames FILE [LIMITS] [PAUSE]
+                                 runs frames and prints their numbers, one a line
+
   FILE is a file, or - for standard input.
   EXPECTED has numbers, separated by blanks or line feeds. Where its last line is one that bayrun prints,
   '= NUMBER POSITION STEPS WORDS', the run must end so; else it must finish.
   LIBRARY has class declarations only.
 
 LIMITS:
-  --budget N     steps, 0 to 4294967295 (100000)
+  --budget N     steps, 0 to 4294967295 (100000); of a run of frames what these may cost (400001)
   --calls N      open calls, 1 to 64 (64)
   --heap N       words of objects and arrays, 0 to 16384 (4096)
   --output N     printed numbers (256)
   --tape FILE    the samples that come in over the cable, a byte each (none)
+  --price N      of a run of frames what a call costs, 1 or 10 (1); every other frame costs 1
+
+PAUSE:
+  --pause-after N --save SAVE
+                 the budget of this part, in the place of --budget; where it is spent, the run is saved in a file
+  --resume SAVE  goes on with the run that is saved there, with the same frames, tape and limits but for the budget
+                 and the price, and prints the numbers that come
 
   --library FILE the library is joined to each lesson first; what stands in one of its classes is shown there
   --json         one object a lesson, on a line of its own, on standard output
@@ -38,7 +51,7 @@ A refusal, fault or limit is shown on standard error as FILE:LINE:COLUMN: NUMBER
 a mark under the place. A column counts bytes, from 1. docs/REFUSALS.md has all numbers.
 
 Exit status: 0 accepted, finished, right or tidy; 1 refused, a fault, a limit, wrong numbers or not tidy; 2 wrong
-use, or a file that cannot be read or written.
+use, or a file that cannot be read or written; 3 paused and saved.
 ";
 
 /// What to do with the lessons.
@@ -50,6 +63,7 @@ pub enum Task {
     Mark,
     Join,
     Tidy,
+    Frames,
 }
 
 /// What to do with the house layout.
@@ -70,6 +84,7 @@ impl Task {
             "mark" => Some(Task::Mark),
             "join" => Some(Task::Join),
             "tidy" => Some(Task::Tidy),
+            "frames" => Some(Task::Frames),
             _ => None,
         }
     }
@@ -92,6 +107,19 @@ impl Task {
     }
 }
 
+/// Where a run of frames is to pause.
+pub struct Pause {
+    pub after: u32,
+    pub save: OsString,
+}
+
+/// How frames are run.
+pub struct OfFrames {
+    pub price: u32,
+    pub pause: Option<Pause>,
+    pub resume: Option<OsString>,
+}
+
 pub struct Asked {
     pub task: Task,
     pub files: Vec<OsString>,
@@ -100,6 +128,9 @@ pub struct Asked {
     pub tape: Option<OsString>,
     pub library: Option<OsString>,
     pub layout: Layout,
+    /// There where the file has frames.
+    pub frames: Option<OfFrames>,
+    pub is_list: bool,
     pub is_json: bool,
 }
 
@@ -114,13 +145,22 @@ pub enum Request {
 struct Words {
     plain: Vec<OsString>,
     limits: Limits,
+    budget: Option<u32>,
     tape: Option<OsString>,
     library: Option<OsString>,
     layout: Layout,
+    price: Option<u32>,
+    pause_after: Option<u32>,
+    save: Option<OsString>,
+    resume: Option<OsString>,
+    is_frames: bool,
+    is_list: bool,
     is_json: bool,
     is_help: bool,
-    /// An option that a run takes.
+    /// An option that a run takes, one that a run keeps over a pause, and one that a run of frames takes.
     of_run: Option<String>,
+    of_whole: Option<String>,
+    of_frames: Option<String>,
 }
 
 /// The value of an option, which stands after `=` or is the next word.
@@ -147,15 +187,25 @@ impl Words {
             "--check" => self.layout = Layout::Check,
             "--write" => self.layout = Layout::Write,
             "--library" => self.library = Some(value(name, inline, rest)?),
-            "--budget" => self.limits.budget = number(name, value(name, inline, rest)?)?,
+            "--list" => self.is_list = true,
+            "--frames" => self.is_frames = true,
+            "--price" => self.price = Some(number(name, value(name, inline, rest)?)?),
+            "--pause-after" => self.pause_after = Some(number(name, value(name, inline, rest)?)?),
+            "--save" => self.save = Some(value(name, inline, rest)?),
+            "--resume" => self.resume = Some(value(name, inline, rest)?),
+            "--budget" => self.budget = Some(number(name, value(name, inline, rest)?)?),
             "--calls" => self.limits.calls = number(name, value(name, inline, rest)?)?,
             "--heap" => self.limits.heap = number(name, value(name, inline, rest)?)?,
             "--output" => self.limits.output = number(name, value(name, inline, rest)?)?,
             "--tape" => self.tape = Some(value(name, inline, rest)?),
             _ => return Err(format!("there is no option {}", name)),
         }
-        if matches!(name, "--budget" | "--calls" | "--heap" | "--output" | "--tape") {
-            self.of_run = Some(name.to_owned());
+        let given = || Some(name.to_owned());
+        match name {
+            "--budget" | "--tape" => self.of_run = given(),
+            "--calls" | "--heap" | "--output" => (self.of_run, self.of_whole) = (given(), given()),
+            "--frames" | "--price" | "--pause-after" | "--save" | "--resume" => self.of_frames = given(),
+            _ => {}
         }
         Ok(())
     }
@@ -194,6 +244,33 @@ impl Words {
         Err(message)
     }
 
+    /// Refuses options of frames that do not go together.
+    fn fit_frames(&self, task: Task, name: &str) -> Result<(), String> {
+        let message = match (&self.of_frames, &self.of_whole) {
+            (Some(option), _) if task != Task::Run => format!("'lesson {}' runs no frames, so it takes no {}", name, option),
+            (Some(option), _) if !self.is_frames => format!("{} is about a run of frames: --frames is given with it", option),
+            (Some(_), _) if self.library.is_some() => "frames take no library".to_owned(),
+            _ if self.pause_after.is_some() != self.save.is_some() => "--pause-after and --save are given together".to_owned(),
+            _ if self.pause_after.is_some() && self.budget.is_some() => "--pause-after is a budget, so --budget is not given".to_owned(),
+            _ if self.save.as_ref().map_or(false, |file| file == "-") => "a run is saved in a file".to_owned(),
+            (_, Some(option)) if self.resume.is_some() => format!("a run keeps its limits over a pause, so --resume takes no {}", option),
+            _ if self.is_list && task != Task::Frames => format!("'lesson {}' takes no --list", name),
+            _ => return Ok(()),
+        };
+        Err(message)
+    }
+
+    fn frames(&mut self) -> Option<OfFrames> {
+        let pause = self.pause_after.zip(self.save.take()).map(|(after, save)| Pause { after, save });
+        let price = self.price.unwrap_or(FrameLimits::default().price);
+        Some(OfFrames { price, pause, resume: self.resume.take() }).filter(|_| self.is_frames)
+    }
+
+    fn limits(&self) -> Limits {
+        let usual = if self.is_frames { FrameLimits::default().budget } else { Limits::default().budget };
+        Limits { budget: self.budget.unwrap_or(usual), ..self.limits }
+    }
+
     fn asked(mut self) -> Result<Asked, String> {
         if self.plain.is_empty() {
             return Err("no command is given".to_owned());
@@ -201,19 +278,24 @@ impl Words {
         let name = self.plain.remove(0).to_string_lossy().into_owned();
         let task = Task::named(&name).ok_or_else(|| format!("there is no command '{}'", name))?;
         self.fit(task, &name)?;
+        self.fit_frames(task, &name)?;
+        let (limits, frames) = (self.limits(), self.frames());
         let mut files = self.plain;
         let wanted = 1 + task.second().iter().count();
         if files.len() < wanted || (files.len() > wanted && !task.takes_many(self.layout)) {
             let second = task.second().map_or(String::new(), |s| format!(" and {}", s));
-            return Err(format!("'lesson {}' takes a lesson{}", name, second));
+            let first = if frames.is_some() { "a file of frames" } else { "a lesson" };
+            return Err(format!("'lesson {}' takes {}{}", name, first, second));
         }
         let second = task.second().and_then(|_| files.pop());
         let (expected, library) = if task == Task::Join { (None, second) } else { (second, self.library) };
-        let inputs = files.iter().chain(&expected).chain(&library).chain(&self.tape).filter(|f| *f == "-").count();
+        let resume = frames.as_ref().and_then(|of| of.resume.as_ref());
+        let inputs = files.iter().chain(&expected).chain(&library).chain(&self.tape).chain(resume).filter(|f| *f == "-").count();
         if inputs > 1 {
             return Err("standard input can be read once only".to_owned());
         }
-        Ok(Asked { task, files, expected, limits: self.limits, tape: self.tape, library, layout: self.layout, is_json: self.is_json })
+        let Words { tape, layout, is_list, is_json, .. } = self;
+        Ok(Asked { task, files, expected, limits, tape, library, layout, frames, is_list, is_json })
     }
 }
 

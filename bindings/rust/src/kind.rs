@@ -9,14 +9,16 @@ pub enum Cause {
     Lesson,
     /// The library is refused, so it cannot be joined to a lesson.
     Library,
-    /// The run ended by a fault of the lesson.
+    /// The frames are refused and do not run.
+    Frames,
+    /// The run ended by a fault of the lesson or of the frames.
     Fault,
     /// A limit stopped the run.
     Limit,
 }
 
 // [words/write numbers
-/// Why a lesson is refused, or how its run ended otherwise than by itself.
+/// Why a lesson or a text of frames is refused, or how a run ended otherwise than by itself.
 #[derive(Clone, Copy, Debug, PartialEq, Eq, Hash)]
 pub enum Kind {
     /// 1: The work table has fewer than 16,384 words.
@@ -77,7 +79,7 @@ pub enum Kind {
     IndexOutOfRange,
     /// 42: An array cannot have a negative length.
     NegativeSize,
-    /// 50: The budget of steps is spent, and another part is about to begin.
+    /// 50: The budget of steps or frames is spent, and another is due.
     BudgetSpent,
     /// 51: The heap strip has no room for this object or array.
     HeapFull,
@@ -101,11 +103,21 @@ pub enum Kind {
     LibraryRefused,
     /// 67: The strip is too short for the lesson and the classes of the library.
     JoinedTooLong,
+    /// 68: The strip is too short for the frames of the lesson, or the stack strip has fewer than 140,000 entries.
+    FramesTooShort,
+    /// 69: The line is something other than ten lower-case hexadecimal digits and a line feed.
+    OtherForm,
+    /// 70: The code table does not allow this frame, by its code, its operand or a value that it takes; or the stack strip is full, or the line is past the last.
+    FrameFault,
+    /// 71: The record does not fit the frames, the limits or the strips, or its counts and the new budget are together above 4294967295.
+    RecordUnfit,
+    /// 72: The price of a call is neither 1 nor 10.
+    PriceUnfit,
 }
 
 impl Kind {
     /// All of them, by their numbers.
-    pub const ALL: [Kind; 41] = [
+    pub const ALL: [Kind; 46] = [
         Kind::TableTooShort,
         Kind::CallLimitOutOfRange,
         Kind::HeapTooLong,
@@ -147,6 +159,11 @@ impl Kind {
         Kind::NotThreeDigits,
         Kind::LibraryRefused,
         Kind::JoinedTooLong,
+        Kind::FramesTooShort,
+        Kind::OtherForm,
+        Kind::FrameFault,
+        Kind::RecordUnfit,
+        Kind::PriceUnfit,
     ];
 
     /// The number that documents 01 and 02 give it.
@@ -193,6 +210,11 @@ impl Kind {
             Kind::NotThreeDigits => 65,
             Kind::LibraryRefused => 66,
             Kind::JoinedTooLong => 67,
+            Kind::FramesTooShort => 68,
+            Kind::OtherForm => 69,
+            Kind::FrameFault => 70,
+            Kind::RecordUnfit => 71,
+            Kind::PriceUnfit => 72,
         }
     }
 
@@ -240,6 +262,11 @@ impl Kind {
             65 => Some(Kind::NotThreeDigits),
             66 => Some(Kind::LibraryRefused),
             67 => Some(Kind::JoinedTooLong),
+            68 => Some(Kind::FramesTooShort),
+            69 => Some(Kind::OtherForm),
+            70 => Some(Kind::FrameFault),
+            71 => Some(Kind::RecordUnfit),
+            72 => Some(Kind::PriceUnfit),
             _ => None,
         }
     }
@@ -288,6 +315,11 @@ impl Kind {
             Kind::NotThreeDigits => "not three digits",
             Kind::LibraryRefused => "library refused",
             Kind::JoinedTooLong => "joined too long",
+            Kind::FramesTooShort => "frames too short",
+            Kind::OtherForm => "other form",
+            Kind::FrameFault => "frame fault",
+            Kind::RecordUnfit => "record unfit",
+            Kind::PriceUnfit => "price unfit",
         }
     }
 
@@ -323,7 +355,7 @@ impl Kind {
             Kind::NullReference => "There is no object or array here: the reference is null.",
             Kind::IndexOutOfRange => "The index is negative, or not below the array's length.",
             Kind::NegativeSize => "An array cannot have a negative length.",
-            Kind::BudgetSpent => "The budget of steps is spent, and another part is about to begin.",
+            Kind::BudgetSpent => "The budget of steps or frames is spent, and another is due.",
             Kind::HeapFull => "The heap strip has no room for this object or array.",
             Kind::CallsFull => "As many calls are open as the call limit allows.",
             Kind::OutputFull => "The output strip has no room for another number.",
@@ -335,6 +367,11 @@ impl Kind {
             Kind::NotThreeDigits => "A number with a point has other than three digits behind it.",
             Kind::LibraryRefused => "The library has something other than class declarations, or Read's rules and bounds do not hold for it.",
             Kind::JoinedTooLong => "The strip is too short for the lesson and the classes of the library.",
+            Kind::FramesTooShort => "The strip is too short for the frames of the lesson, or the stack strip has fewer than 140,000 entries.",
+            Kind::OtherForm => "The line is something other than ten lower-case hexadecimal digits and a line feed.",
+            Kind::FrameFault => "The code table does not allow this frame, by its code, its operand or a value that it takes; or the stack strip is full, or the line is past the last.",
+            Kind::RecordUnfit => "The record does not fit the frames, the limits or the strips, or its counts and the new budget are together above 4294967295.",
+            Kind::PriceUnfit => "The price of a call is neither 1 nor 10.",
         }
     }
 
@@ -382,6 +419,11 @@ impl Kind {
             Kind::NotThreeDigits => Cause::Lesson,
             Kind::LibraryRefused => Cause::Library,
             Kind::JoinedTooLong => Cause::Call,
+            Kind::FramesTooShort => Cause::Call,
+            Kind::OtherForm => Cause::Frames,
+            Kind::FrameFault => Cause::Fault,
+            Kind::RecordUnfit => Cause::Call,
+            Kind::PriceUnfit => Cause::Call,
         }
     }
 }

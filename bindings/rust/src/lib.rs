@@ -18,22 +18,29 @@
 //! assert_eq!(refusal.to_string(), "30 name unknown, at byte 44: No local, parameter or field of this name can be seen here; main sees none at all.");
 //! ```
 //!
+//! A lesson can also be written as [`frames`], stack code for readers, whose runs go on in [`parts`] and can be stored between them ([`Paused`]).
+//!
 //! A call needs up to [`sys::STACK_BYTES`] of stack beside the caller's own: threads of Rust's standard size have it. Any number of threads may call at once.
 
+mod frames;
 mod kind;
 mod library;
+mod paused;
 pub mod strips;
 pub mod sys;
 
+pub use frames::{parts, run_frames, FrameLimits, FrameRun, Part, Parts};
 pub use kind::{Cause, Kind};
+pub use paused::{PauseError, Paused};
 use std::error::Error;
 use std::fmt;
 
-/// Why a lesson or a library is refused, or how a run ended otherwise than by itself, and where.
+/// Why a lesson, a library or a text of frames is refused, or how a run ended otherwise than by itself, and where.
 #[derive(Clone, Copy, Debug, PartialEq, Eq, Hash)]
 pub struct Refusal {
     pub kind: Kind,
-    /// In bytes of the lesson, from 0; of [`Kind::LibraryRefused`] and of what [`read_library`] refuses in bytes of the library.
+    /// In bytes of the lesson, from 0; of [`Kind::LibraryRefused`] and of what [`read_library`] refuses in bytes of the library; of a run of
+    /// frames in bytes of the frames, and of [`Kind::FrameFault`] perhaps past them.
     pub position: usize,
 }
 
@@ -105,6 +112,14 @@ fn refusal(number: u32, position: usize) -> Option<Refusal> {
     Some(Refusal { kind, position })
 }
 
+/// How a run ended; an `Err` where it never began.
+fn ending(number: u32, position: usize) -> Result<Option<Refusal>, Refusal> {
+    match refusal(number, position) {
+        Some(r) if !matches!(r.kind.cause(), Cause::Fault | Cause::Limit) => Err(r),
+        end => Ok(end),
+    }
+}
+
 /// A work table.
 fn table() -> Vec<u32> {
     vec![0; sys::TABLE_WORDS]
@@ -160,11 +175,7 @@ pub fn run(lesson: &[u8], limits: &Limits, tape: &[u8]) -> Result<Run, Refusal> 
     let bounds = sys::Limits { budget: limits.budget, calls: limits.calls };
     let lent = strips::Lent { heap: &mut heap, output: &mut output, registers: &mut registers, tape };
     let a = strips::run(lesson, &mut table(), bounds, lent);
-    let end = refusal(a.number, a.position);
-    match end {
-        Some(r) if matches!(r.kind.cause(), Cause::Call | Cause::Lesson) => return Err(r),
-        _ => {}
-    }
+    let end = ending(a.number, a.position)?;
     output.truncate(a.printed);
     Ok(Run { end, steps: a.steps, climbs: a.climbs, words: a.words, printed: output, registers })
 }
@@ -219,6 +230,19 @@ pub fn read_library(library: &[u8]) -> Result<(), Refusal> {
 pub fn tidy(lesson: &[u8]) -> Result<Vec<u8>, Refusal> {
     let mut strip = vec![0; sys::PRINT_MOST];
     let a = strips::print(lesson, &mut table(), &mut strip);
+    written(a, strip)
+}
+
+/// Writes a lesson as frames: stack code for a reader, a frame a line (docs/FRAMES.md). [`run_frames`] and [`parts`] run them.
+///
+/// ```
+/// let frames = lesson_engine::frames(b"class M{public static void main(String[] a){System.out.println(7);}}")?;
+/// assert_eq!(frames, b"000000002c\n000000003f\n0100000007\n0f0000002c\n0700000000\n");
+/// # Ok::<(), lesson_engine::Refusal>(())
+/// ```
+pub fn frames(lesson: &[u8]) -> Result<Vec<u8>, Refusal> {
+    let mut strip = vec![0; sys::FRAMES_MOST];
+    let a = strips::encode(lesson, &mut table(), &mut strip);
     written(a, strip)
 }
 
