@@ -1,7 +1,8 @@
 """The independent cases, which stand outside the repository, with the answers that are due of them.
 
 The cases of document 01 stand in vectors/. Those of document 02 stand in vectors-requests/stage-K/, for a repository in which requests 1 to K hold; stage-K/old/ has what is then due
-of document 01's cases. A stage whose request changes no result has no folder; the cases of an operation that a request adds stand beside the stages. From stage 7 on an answer of run has
+of document 01's cases. A stage whose request changes no result has no folder; the cases of an operation that a request adds stand beside the stages, those of frames (encode, frames and
+continue) in one file. From stage 7 on an answer of run has
 the climbs after the steps; from stage 8 on a case of run has the length of its register strip and its tape before the source, and the answer the registers after the heap words. Earlier cases
 are read with a strip of 16 bytes and an empty tape.
 """
@@ -12,6 +13,7 @@ SHARED = pathlib.Path(__file__).resolve().parent.parent.parent / "shared"
 STAGE = 9  # the answers are those due with requests 1 to STAGE of document 02, of which (v), an operation of its own, changes none; raise it as the next one lands
 CLIMBS = 7  # the stage from which on run's answers have climbs
 REGISTERS = 8  # the stage from which on run's cases have a register strip and a tape, and its answers registers
+FRAMES = ["encode", "frames", "continue"]  # operations whose cases stand in one file
 RUN_ENDS = {"0", "40", "41", "42", "50", "51", "52", "53", "63", "64"}  # all other numbers refuse the call
 
 # A name to print, and pairs of a case and its answer.
@@ -68,9 +70,25 @@ def group_of_document_01(shared, latest, operation):
     return found
 
 
+def is_outside(case):
+    """Whether a case of continue holds something at a place below 0, which no strip has: it is no case then."""
+    words = case.split(" ")
+    heap = 17 + 2 * int(words[16])  # behind the parts
+    stack = heap + 1 + 2 * int(words[heap])
+    return any(place.startswith("-") for place in words[heap + 1 : stack : 2] + words[stack + 1 : -1 : 2])
+
+
+def group_of_frames(requests, operation):
+    found = group(operation, requests / "frames.cases", requests / "frames.answers")
+    rows = [(case, answer) for case, answer in found.rows if case.split(" ")[0] == operation]
+    return Group(operation, [(case, answer) for case, answer in rows if operation != "continue" or not is_outside(case)])
+
+
 def groups(shared, operation):
     """The groups of an operation's cases: document 01's, with the answers of the latest stage, those of each request, and those of an operation that a request adds."""
     requests = shared / "vectors-requests"
+    if operation in FRAMES:
+        return [group_of_frames(requests, operation)]
     stages = [k for k in range(1, STAGE + 1) if (requests / ("stage-%d" % k)).is_dir()]
     folders = [requests / ("stage-%d" % k) for k in stages]
     latest = folders[-1] / "old" if folders else shared / "vectors"

@@ -1,11 +1,12 @@
 //! Lines of cases, as the program `cases` takes them, and their answers: of the independent implementation, or of the safe binding over the library.
 
+use crate::frame_cases;
 use crate::machine::{Limits, Report};
 use crate::operations;
 use crate::refusal::Refusal;
 use std::fmt::Write;
 
-/// Who answers. A table is always long enough for the binding, and a strip: it lends its own.
+/// Who answers. A table is always long enough for the binding, and a strip: it lends its own, but for runs of frames.
 #[derive(Clone, Copy)]
 pub enum Answerer {
     Reference,
@@ -52,6 +53,13 @@ impl Answerer {
         }
     }
 
+    fn encode(self, source: &[u8], table: usize, strip: usize) -> Result<Vec<u8>, Refusal> {
+        match self {
+            Answerer::Reference => operations::encode(source, table, strip),
+            Answerer::Binding => lesson_engine::frames(source).map_err(of_binding),
+        }
+    }
+
     fn run(self, source: &[u8], table: usize, limits: Limits, registers: usize, tape: &[u8]) -> Result<Report, Refusal> {
         if let Answerer::Reference = self {
             return operations::run(source, table, limits, registers, tape);
@@ -71,7 +79,7 @@ impl Answerer {
     }
 }
 
-fn bytes(hex: &str) -> Option<Vec<u8>> {
+pub fn bytes(hex: &str) -> Option<Vec<u8>> {
     if hex == "-" {
         return Some(Vec::new());
     }
@@ -81,7 +89,7 @@ fn bytes(hex: &str) -> Option<Vec<u8>> {
     (0..hex.len()).step_by(2).map(|k| u8::from_str_radix(&hex[k..k + 2], 16).ok()).collect()
 }
 
-fn listed<N: ToString>(answer: String, numbers: &[N]) -> String {
+pub fn listed<N: ToString>(answer: String, numbers: &[N]) -> String {
     if numbers.is_empty() {
         return answer;
     }
@@ -94,7 +102,7 @@ fn refused(r: Refusal, counts: &str) -> String {
     format!("{} {}{}", r.number, r.at, counts)
 }
 
-fn digits(bytes: &[u8]) -> String {
+pub fn digits(bytes: &[u8]) -> String {
     let mut digits = String::new();
     bytes.iter().for_each(|b| write!(digits, "{:02x}", b).expect("a string takes all"));
     digits
@@ -108,6 +116,14 @@ fn ran(r: Report) -> String {
 fn wrote(answer: Result<Vec<u8>, Refusal>) -> String {
     match answer {
         Ok(text) => format!("0 0 {} : {}", text.len(), digits(&text)),
+        Err(r) => refused(r, " 0"),
+    }
+}
+
+/// Frames, with `/` for the line feeds, so that they are one word.
+fn encoded(answer: Result<Vec<u8>, Refusal>) -> String {
+    match answer {
+        Ok(text) => format!("0 0 {} : {}", text.len(), String::from_utf8_lossy(&text).replace('\n', "/")),
         Err(r) => refused(r, " 0"),
     }
 }
@@ -138,6 +154,8 @@ pub fn answer(who: Answerer, line: &str) -> Option<String> {
         }
         ("print", 4) => Some(wrote(who.print(&bytes(words[3])?, number(1)?, number(2)?))),
         ("join", 5) => Some(wrote(who.join(&bytes(words[3])?, number(1)?, &bytes(words[4])?, number(2)?))),
+        ("encode", 4) => Some(encoded(who.encode(&bytes(words[3])?, number(1)?, number(2)?))),
+        ("frames" | "continue", _) => frame_cases::answer(who, line),
         _ => None,
     }
 }

@@ -10,7 +10,7 @@ type Judged<T> = Result<T, Refusal>;
 
 const INT: Type = Type { element: Element::Int, is_array: false };
 const BOOLEAN: Type = Type { element: Element::Boolean, is_array: false };
-const FIXED: Type = Type { element: Element::Fixed, is_array: false };
+pub const FIXED: Type = Type { element: Element::Fixed, is_array: false };
 
 fn class_type(name: &str) -> Type {
     Type { element: Element::Class(name.to_owned()), is_array: false }
@@ -61,8 +61,13 @@ impl<'a> Table<'a> {
         }
     }
 
+    /// The fields that an object of the class holds, the topmost class's first.
+    pub fn fields(&self, class: &'a Class) -> Vec<&'a Variable> {
+        self.chain(class).into_iter().rev().flat_map(|c| &c.fields).collect()
+    }
+
     /// The first method of a name in the nearest class from here upwards that has one.
-    fn method(&self, class: &'a Class, name: &str) -> Option<&'a Method> {
+    pub fn method(&self, class: &'a Class, name: &str) -> Option<&'a Method> {
         self.chain(class).into_iter().find_map(|c| c.methods.iter().find(|m| m.id.name == name))
     }
 }
@@ -169,10 +174,10 @@ fn body(table: &Table, class: &Class, method: &Method) -> Judged<()> {
 }
 
 /// What names mean in a body; main has no class and no method.
-struct Body<'a> {
-    table: &'a Table<'a>,
-    class: Option<&'a Class>,
-    method: Option<&'a Method>,
+pub struct Body<'a> {
+    pub table: &'a Table<'a>,
+    pub class: Option<&'a Class>,
+    pub method: Option<&'a Method>,
 }
 
 impl Body<'_> {
@@ -212,7 +217,8 @@ impl Body<'_> {
         }
     }
 
-    fn expr(&self, e: &Expr) -> Judged<Type> {
+    /// The type of an expression.
+    pub fn expr(&self, e: &Expr) -> Judged<Type> {
         match &e.kind {
             ExprKind::Literal(_) => Ok(INT),
             ExprKind::FixedLiteral(_) => Ok(FIXED),

@@ -1,5 +1,6 @@
 //! The library beside the independent implementation, on lessons from a seed: answers, and what every strip holds afterwards.
 
+use crate::compare_frames;
 use crate::damage::damaged;
 use crate::generator::{self, lesson, Size};
 use crate::lent::Strip;
@@ -91,7 +92,7 @@ fn is_run_right(source: &[u8], table: usize, limits: Limits, registers: usize, t
 }
 
 /// Whether an operation that writes a text answers what is due, and leaves table and strip as they must be.
-fn is_text_right(due: Result<Vec<u8>, Refusal>, answer: sys::WriteAnswer, words: &Strip<u32>, written: &Strip<u8>, met: &mut Met) -> bool {
+pub fn is_text_right(due: Result<Vec<u8>, Refusal>, answer: sys::WriteAnswer, words: &Strip<u32>, written: &Strip<u8>, met: &mut Met) -> bool {
     let (number, position) = refused(&due);
     let text = due.unwrap_or_default();
     *met.entry(number).or_default() += 1;
@@ -123,12 +124,12 @@ fn size(random: &mut Random) -> Size {
 }
 
 /// A length or limit that is mostly one of those that are allowed.
-fn mostly(random: &mut Random, allowed: &[usize], others: &[usize]) -> usize {
+pub fn mostly(random: &mut Random, allowed: &[usize], others: &[usize]) -> usize {
     if random.once_in(20) { random.pick(others) } else { random.pick(allowed) }
 }
 
 /// How long a strip is lent for a text: too short by one, just long enough, long. Any length where no text is due.
-fn strip_for(random: &mut Random, due: &Result<Vec<u8>, Refusal>) -> usize {
+pub fn strip_for(random: &mut Random, due: &Result<Vec<u8>, Refusal>) -> usize {
     let length = due.as_ref().map_or(1, Vec::len);
     random.pick(&[0, length - 1, length, length, length + 1, length + 2048])
 }
@@ -143,7 +144,7 @@ fn library(random: &mut Random) -> Vec<u8> {
     if random.once_in(2) { sound.into_bytes() } else { damaged(random, sound.as_bytes()) }
 }
 
-fn limits(random: &mut Random) -> Limits {
+pub fn limits(random: &mut Random) -> Limits {
     Limits {
         budget: random.pick(&[0, 1, 2, 5, 20, 99, 100, 101, 300, 1000, 5000, 20000, 20000, 20000]),
         calls: mostly(random, &[1, 2, 3, 5, 20, 63, 64, 64, 64, 64, 64], &[0, 65, 1 << 40]),
@@ -152,7 +153,7 @@ fn limits(random: &mut Random) -> Limits {
     }
 }
 
-fn tape(random: &mut Random) -> Vec<u8> {
+pub fn tape(random: &mut Random) -> Vec<u8> {
     (0..random.pick(&[0, 1, 5, 60])).map(|_| random.below(256) as u8).collect()
 }
 
@@ -206,6 +207,7 @@ fn lesson_differences(seed: u64, met: &mut Met) -> usize {
     }
     results.extend(join_results(&mut random, &source, table, met));
     results.extend(print_results(&mut random, &source, table, met));
+    results.extend(compare_frames::results(&mut random, &source, table, met));
     let wrong: Vec<&str> = results.iter().filter(|(_, is_right)| !is_right).map(|(name, _)| *name).collect();
     wrong.iter().for_each(|name| print_lesson(name, seed, &source));
     wrong.len()

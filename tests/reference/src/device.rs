@@ -22,11 +22,28 @@ impl<'a> Device<'a> {
         Device { registers: [0; REGISTERS], tape }
     }
 
+    /// What the register strip holds that a part of a run is given: of the flags, bit 7 follows from the others, and bits 2 to 6 are none.
+    pub fn of_strip(strip: &[u8], tape: &'a [u8]) -> Device<'a> {
+        let mut device = Device::new(tape);
+        device.registers.copy_from_slice(strip);
+        device.registers[FLAGS] &= FRESH | LOST;
+        device.settle();
+        device
+    }
+
+    pub fn samples_left(&self) -> usize {
+        self.tape.len()
+    }
+
     /// A step was charged, the so-manieth.
     pub fn charged(&mut self, steps: u64) {
-        if steps % STEPS_A_SAMPLE != 0 {
-            return;
+        if steps % STEPS_A_SAMPLE == 0 {
+            self.sample();
         }
+    }
+
+    /// The next sample comes, if there is one.
+    pub fn sample(&mut self) {
         if let Some((&sample, rest)) = self.tape.split_first() {
             self.tape = rest;
             self.registers[SAMPLE] = sample;

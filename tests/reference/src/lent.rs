@@ -23,6 +23,7 @@ macro_rules! filling {
 filling!(u8);
 filling!(u32);
 filling!(i32);
+filling!(u64);
 
 pub struct Strip<T> {
     words: Vec<T>,
@@ -34,6 +35,12 @@ impl<T: Filling> Strip<T> {
         Strip { words: (0..length + 2 * BESIDE).map(T::filling).collect(), length }
     }
 
+    pub fn holding(words: &[T]) -> Strip<T> {
+        let mut strip = Strip::new(words.len());
+        strip.lent().copy_from_slice(words);
+        strip
+    }
+
     pub fn lent(&mut self) -> &mut [T] {
         &mut self.words[BESIDE..BESIDE + self.length]
     }
@@ -43,6 +50,11 @@ impl<T: Filling> Strip<T> {
         let expected = (0..BESIDE).map(T::filling).chain(with).collect::<Vec<T>>();
         let rest = (expected.len()..self.words.len()).map(T::filling);
         self.words[..expected.len()] == expected[..] && self.words[expected.len()..].iter().copied().eq(rest)
+    }
+
+    /// Whether it holds just these.
+    pub fn is_holding(&self, words: &[T]) -> bool {
+        self.begins(words.iter().copied())
     }
 
     pub fn is_unchanged(&self) -> bool {

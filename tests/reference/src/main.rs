@@ -1,4 +1,4 @@
-//! An independent implementation of documents 01 and 02, requests (i) to (x), written from these papers alone, and its comparison with the library.
+//! An independent implementation of documents 01 and 02, and of docs/FRAMES.md, written from these papers alone, and its comparison with the library.
 //!
 //! `reference compare [SEED [COUNT]]` compares the two on lessons from seeds, valid and damaged, long and short: what each operation answers and what every strip holds afterwards.
 //! `reference answer` answers lines on standard input as the program `cases` does, and `reference binding` does so through the safe binding in bindings/rust.
@@ -6,11 +6,19 @@
 mod cases;
 mod checker;
 mod compare;
+mod compare_frames;
 mod damage;
 mod device;
+mod encoder;
+mod frame_cases;
+mod frame_damage;
+mod frame_machine;
+mod frame_properties;
+mod frames;
 mod generator;
 mod lent;
 mod lexer;
+mod library_frames;
 mod machine;
 mod operations;
 mod parser;

@@ -2,6 +2,9 @@
 
 use crate::checker::{check as judge, menu as order};
 use crate::device::REGISTERS;
+use crate::encoder::encoded;
+use crate::frame_machine::{self, FrameLimits, FrameReport, Record, Strips, MARKS_MOST};
+use crate::frames::{self, Frame};
 use crate::lexer::tokens;
 use crate::machine::{run as perform, Limits, Report};
 use crate::parser;
@@ -12,6 +15,8 @@ use crate::tree::{Class, Measure, Program};
 pub const TABLE_LEAST: usize = 16384;
 const HEAP_MOST: usize = 16384;
 const CALLS_MOST: usize = 64;
+pub const STACK_LEAST: usize = 140000;
+const PRICES: [u32; 2] = [1, 10];
 
 /// Tokens, nodes and the tree.
 pub struct Reading {
@@ -91,16 +96,68 @@ pub fn print(source: &[u8], table: usize, strip: usize) -> Result<Vec<u8>, Refus
     Ok(text.into_bytes())
 }
 
-pub fn run(source: &[u8], table: usize, limits: Limits, registers: usize, tape: &[u8]) -> Result<Report, Refusal> {
-    wide_enough(table)?;
-    if limits.calls == 0 || limits.calls > CALLS_MOST {
+/// The bounds of what is lent for a run.
+fn runnable(calls: usize, heap: usize, registers: usize) -> Result<(), Refusal> {
+    if calls == 0 || calls > CALLS_MOST {
         return refuse(2, 0);
     }
-    if limits.heap > HEAP_MOST {
+    if heap > HEAP_MOST {
         return refuse(3, 0);
     }
     if registers != REGISTERS {
         return refuse(62, 0);
     }
+    Ok(())
+}
+
+pub fn run(source: &[u8], table: usize, limits: Limits, registers: usize, tape: &[u8]) -> Result<Report, Refusal> {
+    wide_enough(table)?;
+    runnable(limits.calls, limits.heap, registers)?;
     Ok(perform(&check(source, table)?, limits, tape))
+}
+
+/// Request (xii): the lesson as frames.
+pub fn encode(source: &[u8], table: usize, strip: usize) -> Result<Vec<u8>, Refusal> {
+    let text = frames::text(&encoded(&check(source, table)?));
+    if strip < text.len() {
+        return refuse(68, 0);
+    }
+    Ok(text)
+}
+
+/// The frames of a text that can be run with what is lent.
+fn runnable_frames(text: &[u8], limits: FrameLimits, strips: &Strips) -> Result<Vec<Frame>, Refusal> {
+    runnable(limits.calls, strips.heap.len(), strips.registers.len())?;
+    if !PRICES.contains(&limits.price) {
+        return refuse(72, 0);
+    }
+    if strips.stack.len() < STACK_LEAST {
+        return refuse(68, 0);
+    }
+    frames::frames(text)
+}
+
+/// Request (xii): a run of frames, or its first part. A refusal changes no strip.
+pub fn run_frames(text: &[u8], limits: FrameLimits, strips: &mut Strips, tape: &[u8]) -> Result<FrameReport, Refusal> {
+    let frames = runnable_frames(text, limits, strips)?;
+    strips.clear_work();
+    strips.registers.fill(0);
+    Ok(frame_machine::run(&frames, Record::default(), limits, strips, tape))
+}
+
+/// Whether a record fits what a part is given.
+fn is_fitting(r: &Record, lines: usize, limits: FrameLimits, strips: &Strips, tape: &[u8]) -> bool {
+    let are_places_fitting = r.line < lines && r.height <= strips.room() && r.calls <= limits.calls && r.marks <= MARKS_MOST;
+    let are_counts_fitting = r.words <= strips.heap.len() && r.printed <= strips.output.len() && r.tape <= tape.len();
+    let sum = u128::from(r.frames) + u128::from(r.unspent) + u128::from(limits.budget);
+    are_places_fitting && are_counts_fitting && sum <= u128::from(u32::MAX)
+}
+
+/// Request (xiii): a further part. A refusal changes no strip.
+pub fn continue_frames(text: &[u8], record: Record, limits: FrameLimits, strips: &mut Strips, tape: &[u8]) -> Result<FrameReport, Refusal> {
+    let frames = runnable_frames(text, limits, strips)?;
+    if !is_fitting(&record, frames.len(), limits, strips, tape) {
+        return refuse(71, 0);
+    }
+    Ok(frame_machine::run(&frames, record, limits, strips, tape))
 }
