@@ -25,6 +25,11 @@ pub record BytesPut (before : List ℕ) (i : ℕ) (bs after : List ℕ) (j : ℕ
   pub bytes : after ≡ sets before i bs
   pub end : j ≡ i + length bs
 
+-- the place behind so many bytes that there is room for
+pub record Skips (at n r : ℕ) : Type 0 where
+  pub within : r ≤ textRoom
+  pub end : at + n ≤ textRoom → r ≡ at + n
+
 -- bytes that there is room for are written at `at`, and the answer is the place behind them
 pub record Puts (at : ℕ) (bs before after : List ℕ) (r : ℕ) : Type 0 where
   pub within : r ≤ textRoom

@@ -5,7 +5,7 @@ use mathlib.Core.List.{List, [], _∷_, _++_}
 use native.Mathlib.Omega.{arith}
 use borrow.Author.Tests.{ne-eqb}
 use lib.ListN.{length, set, getD, take, drop, length-append, length-take, length-drop}
-use lib.Seq.{sets, sets-eq, drop-cons, set-out}
+use lib.Seq.{sets, sets-eq, drop-cons, set-out, length-take-le}
 use Rattle.base.specs.Outcome.{accepted}
 use Rattle.base.specs.contracts.Table.{cStart}
 use Rattle.base.specs.laws.Lists.{get-getD, drop-none}
@@ -24,7 +24,7 @@ use Rattle.lookup.specs.laws.HeldLaws.{start-word}
 use Rattle.printing.specs.Printed.{Lexeme, separator, render}
 use Rattle.printing.specs.laws.Appending.{render-append}
 use Rattle.printing.specs.laws.Lexing.{lexeme}
-use Rattle.printer.specs.contracts.Puts.{textRoom, BytesPut, Puts, bytesBetween, TokenPut}
+use Rattle.printer.specs.contracts.Puts.{textRoom, BytesPut, Skips, Puts, bytesBetween, TokenPut}
 
 -- ONE BEHIND THE OTHER
 
@@ -87,13 +87,13 @@ pub tokens-more : {a b c : List ℕ} {i j k : ℕ} (xs ys : List Lexeme) → Put
 tokens-more {a} {c = c} {i = i} {k = k} xs ys p q = subst (λ (l : List ℕ). Puts i l a c k) (sym (render-append xs ys)) (puts-more p q)
 
 -- a text from i up to `end`, and one byte more
-pub copy-none : (text : List ℕ) (i end c : ℕ) {a b : List ℕ} {n j : ℕ} → i ≡ end → Puts n (c ∷ []) a b j
+copy-none : (text : List ℕ) (i end c : ℕ) {a b : List ℕ} {n j : ℕ} → i ≡ end → Puts n (c ∷ []) a b j
     → Puts n (bytesBetween i end text ++ c ∷ []) a b j
 copy-none text i end c {a} {b} {n} {j} e w =
     let z : end - i ≡ 0 = omega arith in
     subst (λ (l : List ℕ). Puts n (l ++ c ∷ []) a b j) (sym (ap (λ (k : ℕ). take k (drop i text)) z ∙ take-none (drop i text))) w
 
-pub copy-next : (text : List ℕ) (i end c : ℕ) {a b d : List ℕ} {n m j : ℕ} → i < end → end ≤ length text
+copy-next : (text : List ℕ) (i end c : ℕ) {a b d : List ℕ} {n m j : ℕ} → i < end → end ≤ length text
     → Puts n (getD text i 0 ∷ []) a b m → Puts m (bytesBetween (i + 1) end text ++ c ∷ []) b d j
     → Puts n (bytesBetween i end text ++ c ∷ []) a d j
 copy-next text i end c {a} {b} {d} {n} {m} {j} l h v w =
@@ -104,6 +104,45 @@ copy-next text i end c {a} {b} {d} {n} {m} {j} l h v w =
     ∙ ap (take (suc (end - (i + 1)))) (drop-cons text i 0 (omega arith))
     ∙ ap (λ (k : ℕ). getD text i 0 ∷ take (end - (i + 1)) (drop k text)) y))
     (puts-more v w)
+
+-- what is left to write of a text from i up to `end` and one byte more, when the place is m and the next byte is that at k
+pub record Left (text : List ℕ) (i end c : ℕ) (before : List ℕ) (n : ℕ) (now : List ℕ) (m k : ℕ) : Type 0 where
+  pub room : m ≤ textRoom
+  pub among : k ≤ end
+  pub rest : {d : List ℕ} {j : ℕ} → Puts m (bytesBetween k end text ++ c ∷ []) now d j
+      → Puts n (bytesBetween i end text ++ c ∷ []) before d j
+
+pub left-all : (text : List ℕ) (i end c : ℕ) (before : List ℕ) (n : ℕ) → n ≤ textRoom → i ≤ end → Left text i end c before n before n i
+left-all text i end c before n w h = record { room = w; among = h; rest = λ p. p }
+
+pub left-less : {text before now after : List ℕ} {i end c n m m′ k : ℕ} → k < end → end ≤ length text
+    → Left text i end c before n now m k → Puts m (getD text k 0 ∷ []) now after m′ → Left text i end c before n after m′ (k + 1)
+left-less {text} {end = end} {c = c} {k = k} l h v p =
+    record { room = p .within; among = omega arith; rest = λ q. v .rest (copy-next text k end c l h p q) }
+
+pub left-none : {text before now after : List ℕ} {i end c n m k j : ℕ} → end ≤ k → Left text i end c before n now m k
+    → Puts m (c ∷ []) now after j → Puts n (bytesBetween i end text ++ c ∷ []) before after j
+left-none {text} {end = end} {c = c} {k = k} l v p = v .rest (copy-none text k end c (omega (arith, v .among)) p)
+
+-- an empty strip stays so
+sets-empty : (i : ℕ) (bs : List ℕ) → sets [] i bs ≡ []
+sets-empty i [] = refl
+sets-empty i (b ∷ bs) = sets-empty (suc i) bs
+
+pub copy-counted : (text : List ℕ) (i end c : ℕ) (before : List ℕ) {n r : ℕ} → length before ≡ 0 → i ≤ end → end ≤ length text
+    → Skips n (end - i + 1) r → Puts n (bytesBetween i end text ++ c ∷ []) before before r
+copy-counted text i end c (x ∷ l) e h w s = absurd (omega arith)
+copy-counted text i end c [] {n} {r} e h w s =
+    let size : length (bytesBetween i end text ++ c ∷ []) ≡ end - i + 1 =
+    length-append (bytesBetween i end text) (c ∷ [])
+    ∙ ap (λ (m : ℕ). m + 1) (length-take-le (end - i) (drop i text) (omega (arith, length-drop i text))) in
+    record {
+      within = s .within;
+      says = λ q. record {
+        bytes = sym (sets-empty n (bytesBetween i end text ++ c ∷ []));
+        end = s .end (omega (arith, size)) ∙ ap (λ (m : ℕ). n + m) (sym size);
+      };
+    }
 
 -- the whole text
 pub spell-all : (text : List ℕ) (c : ℕ) {a b : List ℕ} {n j : ℕ} → Puts n (bytesBetween 0 (length text) text ++ c ∷ []) a b j
