@@ -7,6 +7,7 @@ ghost use Rattle.player.specs.contracts.Reading.{digitOr, numberOr, Line
 // Past every operand: no number.
 pub const NONE: u64 = 4294967296;
 
+// A byte among operands, which have 64 bits.
 fn wide(x: u8) -> u64
     ensures { λ r. ⌜ r ≡ x ⌝ }
 {
