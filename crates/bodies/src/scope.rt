@@ -6,7 +6,7 @@ use lookup::member::variable_type;
 use lookup::types::NOTHING;
 use parser::columns::ABSENT;
 
-#[derive(Drop)]
+#[derive(Clone, Copy)]
 pub struct Scope {
     pub tokens: usize,
     pub classes: usize,

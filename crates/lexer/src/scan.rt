@@ -10,7 +10,7 @@ use super::words::{mark_kind, word_kind};
 use super::{bytes, kinds};
 
 // The bytes of a run: those of a line comment, of a word, of a literal.
-#[derive(Drop)]
+#[derive(Clone, Copy)]
 pub enum Class {
     Line,
     Word,

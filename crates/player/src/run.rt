@@ -26,7 +26,7 @@ const MARKS_MOST: usize = 99;
 const BUDGET_MOST: u64 = 4294967295;
 
 // The budget, the call limit and the price of a part.
-#[derive(Drop)]
+#[derive(Clone, Copy)]
 pub struct Limits {
     pub budget: u32,
     pub calls: usize,
@@ -34,7 +34,7 @@ pub struct Limits {
 }
 
 // Where a run is.
-#[derive(Drop)]
+#[derive(Clone, Copy)]
 pub struct Record {
     pub line: usize,
     pub height: usize,

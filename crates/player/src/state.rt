@@ -23,7 +23,7 @@ pub const UNDER: usize = 2174;
 pub const THIRD: usize = 2173;
 
 // The record's numbers without the counts, and what the last frame came to.
-#[derive(Drop)]
+#[derive(Clone, Copy)]
 pub struct Machine {
     pub number: u32,
     pub line: usize,

@@ -5,7 +5,7 @@ ghost use Rattle.printer.specs.promises.Walks.{PartReached};
 
 use lookup::rows::word;
 
-#[derive(Drop)]
+#[derive(Clone, Copy)]
 pub struct Job {
     pub left: usize,
     pub row: usize,

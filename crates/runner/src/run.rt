@@ -20,7 +20,7 @@ use writer::prepare::prepare;
 
 // What Run answers: a result number and a position, the steps, how many classes the calls climbed through (at most the classes of the
 // lesson for each step, so 64 bits hold it), the heap words and how many numbers were printed.
-#[derive(Drop)]
+#[derive(Clone, Copy)]
 pub struct RunAnswer {
     pub number: u32,
     pub position: usize,

@@ -6,7 +6,7 @@ ghost use Rattle.writer.specs.promises.Jobs.{PartPost};
 
 use lookup::rows::word;
 
-#[derive(Drop)]
+#[derive(Clone, Copy)]
 pub struct Job {
     pub left: usize,
     pub row: usize,
