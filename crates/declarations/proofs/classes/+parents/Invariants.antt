@@ -1,0 +1,6 @@
+-- The measure is what is left. Each return is a law of `ClassLaws`.
+use Prim.Native.Nat.{◌-◌}
+use Rattle.declarations.proofs.classes.+parents.Given as goal
+
+abbrev pub decreases-parents : goal.decreases-parents
+decreases-parents l = l.left

@@ -1,0 +1,6 @@
+-- The measure is what is left. Each return is a law of `HeadLaws`.
+use Prim.Native.Nat.{◌-◌}
+use Rattle.declarations.proofs.heads.+heads.Given as goal
+
+abbrev pub decreases-heads : goal.decreases-heads
+decreases-heads l = l.left

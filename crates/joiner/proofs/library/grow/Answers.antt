@@ -1,0 +1,14 @@
+-- `grow` meets its contract: each return is a law of `Filling`.
+use Rattle.joiner.proofs.Filling.{grow-at, grow-bad}
+use Rattle.joiner.proofs.library.grow.Goals as goal
+
+pub returns-in-At : goal.returns-in-At
+returns-in-At c = grow-at c.classes-a.ensures
+    c.requires.few
+    c.requires.big c.in-At.is
+    c.measure.ensures
+
+pub returns-in-Bad : goal.returns-in-Bad
+returns-in-Bad c = grow-bad c.classes-a.ensures
+    c.requires.few c.in-Bad.is
+    c.place.ensures

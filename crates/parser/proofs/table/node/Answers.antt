@@ -1,0 +1,10 @@
+-- `node` meets its contract: three words are written, none of them the one that was read.
+use native.Mathlib.Omega.{arith}
+use lib.ListN.{length-set}
+use Rattle.parser.proofs.table.node.Goals as goal
+
+pub bounds-table-row-2 : goal.bounds-table-row-2
+bounds-table-row-2 c = simp length-set (omega arith)
+
+pub bounds-table-row-3 : goal.bounds-table-row-3
+bounds-table-row-3 c = simp length-set (omega arith)

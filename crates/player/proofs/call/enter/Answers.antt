@@ -1,0 +1,9 @@
+-- `player::call::enter` meets its contract.
+use Rattle.player.proofs.Calls.{calls-full, enters}
+use Rattle.player.proofs.call.enter.Goals as goal
+
+pub returns-then-limit-m : goal.returns-then-limit-m
+returns-then-limit-m c = search calls-full
+
+pub returns : goal.returns
+returns c = search enters

@@ -1,0 +1,6 @@
+-- `player::lines::decode` meets its contract: a store past the end changes nothing.
+use Rattle.player.proofs.Lining.{past-the-array}
+use Rattle.player.proofs.lines.decode.Goals as goal
+
+pub returns-else-i-lt-DECODED : goal.returns-else-i-lt-DECODED
+returns-else-i-lt-DECODED c = search past-the-array

@@ -1,0 +1,6 @@
+-- `printer::decl::typed` meets its contract: its pieces, one behind another.
+use Rattle.printer.specs.laws.DeclareLaws.{type-plain}
+use Rattle.printer.proofs.decl.typed.Goals as goal
+
+pub returns : goal.returns
+returns c = search (type-plain, c.if-kind-eq-OPEN_BRACKET.false)

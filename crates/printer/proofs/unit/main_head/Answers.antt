@@ -1,0 +1,7 @@
+-- `printer::unit::main_head` meets its contract: its pieces, one behind another.
+use Rattle.printer.specs.laws.UnitLaws.{main-head-put}
+use Rattle.printer.proofs.unit.main_head.Goals as goal
+
+-- src/unit.rt:182:1
+pub returns : goal.returns
+returns c = search main-head-put

@@ -1,0 +1,15 @@
+-- The measure is what is left. Each return is a law of `BodyLaws`.
+use Rattle.typecheck.proofs.BodyLaws.{methods-none, methods-end, methods-next, methods-refused}
+use Rattle.typecheck.proofs.method.+methods.Goals as goal
+
+pub returns-then-row-ge-ABSENT : goal.returns-then-row-ge-ABSENT
+returns-then-row-ge-ABSENT t c = search methods-end
+
+pub returns-then-left-eq0 : goal.returns-then-left-eq0
+returns-then-left-eq0 t c = search methods-none
+
+pub returns-in-Fine : goal.returns-in-Fine
+returns-in-Fine t c = search methods-next
+
+pub returns-in-Refused : goal.returns-in-Refused
+returns-in-Refused t c = search methods-refused

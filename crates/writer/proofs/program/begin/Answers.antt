@@ -1,0 +1,6 @@
+-- The return is a law of `ProgramLaws`.
+use Rattle.writer.proofs.ProgramLaws.{begun}
+use Rattle.writer.proofs.program.begin.Goals as goal
+
+pub returns : goal.returns
+returns c = search begun
