@@ -34,7 +34,8 @@ class Function:
         parts = callee.split("::")
         return typed_params(os.path.join(self.crates, parts[0]), parts[1:])
 
-    def __init__(self, names, params):
+    def __init__(self, names, params, cycle):
+        self.cycle = cycle
         self.n = names
         self.places = {norm(p[0]): i for i, p in enumerate(names["places"])}
         self.params = params
@@ -57,6 +58,11 @@ class Function:
         label, rest = segs[0], segs[1:]
         if norm(label) in ROOTS:
             new = ROOTS[norm(label)]
+            # in a cycle the first part was what is said of the measure
+            if new == "requires" and self.cycle and rest and rest[0] in ("0", "1"):
+                if rest[0] == "0":
+                    return "bad", segs
+                rest = rest[1:]
             if new in ("args", "ranges") and rest:
                 rest = [rest[0].replace("-", "_")] + rest[1:]
             return "path", [new] + rest
@@ -247,7 +253,7 @@ class Turner:
             else:
                 at = m.end()
         for name, helper in self.helpers.items():
-            call = re.compile(r"(?<!" + CH + r")(?<!\.)" + re.escape(name) + r" (" + CH + r"+)((?:\." + CH + r"+)*)")
+            call = re.compile(r"(?<!" + CH + r")(?<!\.)" + re.escape(name) + r"(?: t)? (" + CH + r"+)((?:\." + CH + r"+)*)")
             while True:
                 m = call.search(body)
                 if not m:
@@ -345,7 +351,7 @@ def turn_file(crate, name, folder, names, cycle):
         members = {k.rsplit(".Lts-", 1)[1]: v for k, v in names.items()}
     else:
         members = {None: next(iter(names.values()))}
-    functions = {m: Function(v, params_of(crate, path[:-1] + [m] if cycle else path)) for m, v in members.items()}
+    functions = {m: Function(v, params_of(crate, path[:-1] + [m] if cycle else path), cycle) for m, v in members.items()}
     spec = [d for d in decls if d["name"] and re.search(r"-spec$|_spec$", d["name"]) and "statement" in d["sig"]]
     if len(spec) != 1 or len(spec[0]["clauses"]) != 1:
         left(where, "no one spec")
@@ -383,7 +389,7 @@ def turn_file(crate, name, folder, names, cycle):
             steps.append(d["name"])
             gone.add(d["name"])
     for d in decls:
-        if d["kind"] != "decl" or not d["clauses"] or ".Need-" in d["sig"] or d["name"] in gone:
+        if d["kind"] != "decl" or not d["clauses"] or ".Need-" in d["sig"] or d["name"] in steps:
             continue
         m = place_type.match(d["sig"])
         if m:

@@ -26,7 +26,7 @@ pub returns-then-p-ge-ABSENT : goal.returns-then-p-ge-ABSENT
 returns-then-p-ge-ABSENT t c = search height-top
 
 pub height-q-requires : goal.height-q-requires
-height-q-requires t c = (search rules, (search rules, search rules, search rules, c.requires.1.3))
+height-q-requires t c = (search rules, (search rules, search rules, search rules, c.requires.3))
 
 pub returns-then-q-eq0 : goal.returns-then-q-eq0
 returns-then-q-eq0 t c = search height-endless

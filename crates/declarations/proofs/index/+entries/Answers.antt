@@ -16,4 +16,4 @@ pub returns-then-word-lt-ABSENT : goal.returns-then-word-lt-ABSENT
 returns-then-word-lt-ABSENT t c = search entries_twice
 
 pub returns : goal.returns
-returns t c = entries_next c.requires.1 c.if-left-eq0.false c.if-row-ge-ABSENT.false c.word-x.ensures.0 c.if-x-main.false c.word-2.ensures.0 c.if-word-lt-ABSENT.false c.enter.ensures c.word-3.ensures.0 c.entries.ensures
+returns t c = entries_next c.requires c.if-left-eq0.false c.if-row-ge-ABSENT.false c.word-x.ensures.0 c.if-x-main.false c.word-2.ensures.0 c.if-word-lt-ABSENT.false c.enter.ensures c.word-3.ensures.0 c.entries.ensures

@@ -10,7 +10,7 @@ pub returns-then-same_within : goal.returns-then-same_within
 returns-then-same_within t c = search taken_here
 
 pub taken_within-requires : goal.taken_within-requires
-taken_within-requires t c = (omega (arith, c.requires), (c.requires.1.0, omega (arith, c.requires), c.requires.1.2))
+taken_within-requires t c = (omega (arith, c.requires), (c.requires.0, omega (arith, c.requires), c.requires.2))
 
 pub returns : goal.returns
 returns t c = search taken-there

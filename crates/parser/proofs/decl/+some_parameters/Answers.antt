@@ -16,7 +16,7 @@ overflow_add-result t c = omega (arith, (let it : (c.args.i + 2 ≤ c.in-At.next
 
 pub returns-then-k-eq-CLOSE : goal.returns-then-k-eq-CLOSE
 returns-then-k-eq-CLOSE t c =
-    parameter-last c.requires.1.few
+    parameter-last c.requires.few
     c.variable-a.ensures.0 c.in-At.is c.kind-k.ensures
     c.if-k-eq-CLOSE.true c.link.ensures
 
@@ -37,7 +37,7 @@ linked-requires t c =
 
 pub returns-then-k-eq-COMMA : goal.returns-then-k-eq-COMMA
 returns-then-k-eq-COMMA t c =
-    parameters-more c.requires.1.few
+    parameters-more c.requires.few
     c.variable-a.ensures.0 c.in-At.is
     c.kind-k.ensures
     c.if-k-eq-COMMA.true
@@ -45,10 +45,10 @@ returns-then-k-eq-COMMA t c =
 
 pub returns-else-k-eq-COMMA : goal.returns-else-k-eq-COMMA
 returns-else-k-eq-COMMA t c =
-    parameter-other c.requires.1.few
+    parameter-other c.requires.few
     c.variable-a.ensures.0 c.in-At.is c.kind-k.ensures c.if-k-eq-CLOSE.false
     c.if-k-eq-COMMA.false
 
 pub returns-in-Bad : goal.returns-in-Bad
 returns-in-Bad t c =
-    parameter-bad c.requires.1.few c.variable-a.ensures.0 c.in-Bad.is
+    parameter-bad c.requires.few c.variable-a.ensures.0 c.in-Bad.is

@@ -11,10 +11,12 @@ use lib.Dec.{lit<}
 use Rattle.parser.proofs.Laws.{there, within-ok}
 use Rattle.parser.proofs.Postfix.{call_ok, call-bad, call-open, call-name}
 use Prim.Native.Nat.{◌+◌, ◌≤◌, ◌<◌}
+use Rattle.base.specs.Codes.{tokens_most}
 use Rattle.lexer.specs.Kinds.{k_open_bracket}
 use mathlib.Core.Path.{refl}
 use Rattle.parser.specs.promises.Layout.{node}
 use Rattle.parser.proofs.Laws.{there}
+use Rattle.parser.proofs.Pieces.{follows-ok}
 use Rattle.parser.proofs.Postfix.{element-ok, element-bad}
 use Rattle.parser.proofs.Laws.{within-ok}
 use Rattle.parser.proofs.Expressions.{levels-more, levels-last, levels-bad}
@@ -71,24 +73,36 @@ call-returns t c = search call-name
 pub element-operation-a-requires : goal.element-operation-a-requires
 element-operation-a-requires t c =
     let w = there c.args.table.now c.args.n c.args.i _ k_open_bracket refl
-    c.requires.1.3 (lit< tt) in
+    c.requires.3 (lit< tt) in
     omega arith
 
 pub element-node-requires : goal.element-node-requires
-element-node-requires t c = omega (arith, bounds c.before.before)
+element-node-requires t c = omega (
+  arith,
+  (let it : (c.args.n ≤ tokens_most) × (c.args.first < c.args.n) × (c.args.left < c.args.n)
+      × (c.args.i + 2 < c.in-At.next) × (c.in-At.next ≤ c.args.n) × (c.in-At.row < c.args.n) = let l = follows-ok c.in-At.is c.followed-b.ensures (lit< tt)
+      c.operation-a.ensures.within in
+      (c.requires.0.few, c.requires.1, c.requires.2, omega (arith, l.0), l.1, l.2) in it),
+)
 
 pub element-suffixes-requires : goal.element-suffixes-requires
-element-suffixes-requires t c = omega (arith, bounds c.before.before.before.before.before.before)
+element-suffixes-requires t c = omega (
+  arith,
+  (let it : (c.args.n ≤ tokens_most) × (c.args.first < c.args.n) × (c.args.left < c.args.n)
+      × (c.args.i + 2 < c.in-At.next) × (c.in-At.next ≤ c.args.n) × (c.in-At.row < c.args.n) = let l = follows-ok c.in-At.is c.followed-b.ensures (lit< tt)
+      c.operation-a.ensures.within in
+      (c.requires.0.few, c.requires.1, c.requires.2, omega (arith, l.0), l.1, l.2) in it),
+)
 
 pub element-returns-in-At : goal.element-returns-in-At
 element-returns-in-At t c =
-    element-ok c.requires.1.0.few c.requires.1.3 c.operation-a.ensures
-    c.followed-b.ensures c.requires.1.1 c.in-At.is
+    element-ok c.requires.0.few c.requires.3 c.operation-a.ensures
+    c.followed-b.ensures c.requires.1 c.in-At.is
     c.node.ensures c.suffixes.ensures
 
 pub element-returns-in-Bad : goal.element-returns-in-Bad
 element-returns-in-Bad t c =
-    element-bad c.requires.1.0.few c.requires.1.3 c.operation-a.ensures
+    element-bad c.requires.0.few c.requires.3 c.operation-a.ensures
     c.followed-b.ensures c.in-Bad.is
 
 pub levels-levels-requires : goal.levels-levels-requires
@@ -109,26 +123,36 @@ new_array-operation-a-requires t c =
     omega arith
 
 pub new_array-node-requires : goal.new_array-node-requires
-new_array-node-requires t c = omega (arith, bounds c.before.before)
+new_array-node-requires t c = omega (
+  arith,
+  (let it : (c.args.n ≤ tokens_most) × (c.args.i + 4 < c.in-At.next) × (c.in-At.next ≤ c.args.n) × (c.in-At.row < c.args.n) = let l = follows-ok c.in-At.is c.followed-b.ensures (lit< tt)
+      c.operation-a.ensures.within in
+      (c.requires.0.few, omega (arith, l.0), l.1, l.2) in it),
+)
 
 pub new_array-suffixes-requires : goal.new_array-suffixes-requires
-new_array-suffixes-requires t c = omega (arith, bounds c.before.before.before.before.before.before)
+new_array-suffixes-requires t c = omega (
+  arith,
+  (let it : (c.args.n ≤ tokens_most) × (c.args.i + 4 < c.in-At.next) × (c.in-At.next ≤ c.args.n) × (c.in-At.row < c.args.n) = let l = follows-ok c.in-At.is c.followed-b.ensures (lit< tt)
+      c.operation-a.ensures.within in
+      (c.requires.0.few, omega (arith, l.0), l.1, l.2) in it),
+)
 
 pub new_array-returns-in-At : goal.new_array-returns-in-At
 new_array-returns-in-At t c =
-    array_ok c.args.table.now c.args.n c.args.i c.requires.1.1 c.requires.1.0.few c.kind.ensures c.if-kind-eq-OPEN_BRACKET.true
+    array_ok c.args.table.now c.args.n c.args.i c.requires.1 c.requires.0.few c.kind.ensures c.if-kind-eq-OPEN_BRACKET.true
     c.operation-a.ensures c.followed-b.ensures c.in-At.is
     c.node.ensures c.suffixes.ensures
 
 pub new_array-returns-in-Bad : goal.new_array-returns-in-Bad
 new_array-returns-in-Bad t c =
-    array-bad c.args.table.now c.args.n c.args.i c.requires.1.1 c.requires.1.0.few c.kind.ensures
+    array-bad c.args.table.now c.args.n c.args.i c.requires.1 c.requires.0.few c.kind.ensures
     c.if-kind-eq-OPEN_BRACKET.true
     c.operation-a.ensures c.followed-b.ensures c.in-Bad.is
 
 pub new_array-returns : goal.new_array-returns
 new_array-returns t c =
-    array-open c.args.table.now c.args.n c.args.i c.requires.1.1 c.kind.ensures c.if-kind-eq-OPEN_BRACKET.false
+    array-open c.args.table.now c.args.n c.args.i c.requires.1 c.kind.ensures c.if-kind-eq-OPEN_BRACKET.false
 
 pub operand-returns-then-level-lt3 : goal.operand-returns-then-level-lt3
 operand-returns-then-level-lt3 t c = search operand-next
@@ -165,7 +189,7 @@ pub operations-returns-else-is_operator : goal.operations-returns-else-is_operat
 operations-returns-else-is_operator t c = search operations-none
 
 pub parentheses-operation-a-requires : goal.parentheses-operation-a-requires
-parentheses-operation-a-requires t c = omega (arith, there c.args.table.now c.args.n c.args.i _ k_open refl c.requires.1.1 (lit< tt))
+parentheses-operation-a-requires t c = omega (arith, there c.args.table.now c.args.n c.args.i _ k_open refl c.requires.1 (lit< tt))
 
 pub parentheses-overflow_add-result : goal.parentheses-overflow_add-result
 parentheses-overflow_add-result t c = omega (arith, within-ok c.in-At.is c.operation-a.ensures.within)
@@ -180,29 +204,29 @@ pub parentheses-returns-in-Bad : goal.parentheses-returns-in-Bad
 parentheses-returns-in-Bad t c = search parentheses-bad
 
 pub port_get-member_head-m-requires : goal.port_get-member_head-m-requires
-port_get-member_head-m-requires t c = omega (arith, begun c.before.before, c.requires.1)
+port_get-member_head-m-requires t c = omega (arith, (let it : c.args.i < c.args.n = there c.args.table.now c.args.n c.args.i _ k_port refl c.requires.1 (lit< tt) in it), c.requires)
 
 pub port_get-returns-then-m-lt3 : goal.port_get-returns-then-m-lt3
 port_get-returns-then-m-lt3 t c =
-    get-head c.requires.1.1 c.member_head-m.ensures c.if-m-lt3.true
+    get-head c.requires.1 c.member_head-m.ensures c.if-m-lt3.true
 
 pub port_get-operation-a-requires : goal.port_get-operation-a-requires
 port_get-operation-a-requires t c =
-    let w = head-there c.args.table.now c.args.n c.args.i k_port _ get_head (omega arith) (lit< tt) c.requires.1.1 c.member_head-m.ensures in
-    omega (arith, c.requires.1.0)
+    let w = head-there c.args.table.now c.args.n c.args.i k_port _ get_head (omega arith) (lit< tt) c.requires.1 c.member_head-m.ensures in
+    omega (arith, c.requires.0)
 
 pub port_get-one_part-requires : goal.port_get-one_part-requires
 port_get-one_part-requires t c =
-    let w = begun g in (
+    let w = (let it : c.args.i < c.args.n = there c.args.table.now c.args.n c.args.i _ k_port refl c.requires.1 (lit< tt) in it) in (
       omega arith,
       omega arith,
       follows-fits c.followed-b.ensures
-          (mode-fits c.requires.1.0.few c.operation-a.ensures),
+          (mode-fits c.requires.0.few c.operation-a.ensures),
     )
 
 pub port_get-returns : goal.port_get-returns
 port_get-returns t c =
-    get-ok c.requires.1.1 c.member_head-m.ensures c.requires.1.0.few c.if-m-lt3.false c.operation-a.ensures c.followed-b.ensures
+    get-ok c.requires.1 c.member_head-m.ensures c.requires.0.few c.if-m-lt3.false c.operation-a.ensures c.followed-b.ensures
     c.one_part.ensures
 
 pub postfix-new_array-requires : goal.postfix-new_array-requires
@@ -234,7 +258,7 @@ some_arguments-overflow_add-result t c = omega (arith, (let it : (c.args.i + 1 �
 
 pub some_arguments-returns-then-k-eq-CLOSE : goal.some_arguments-returns-then-k-eq-CLOSE
 some_arguments-returns-then-k-eq-CLOSE t c =
-    argument-last c.requires.1.few
+    argument-last c.requires.few
     c.operation-a.ensures c.in-At.is c.kind-k.ensures
     c.if-k-eq-CLOSE.true c.link.ensures
 
@@ -255,7 +279,7 @@ some_arguments-linked-requires t c =
 
 pub some_arguments-returns-then-k-eq-COMMA : goal.some_arguments-returns-then-k-eq-COMMA
 some_arguments-returns-then-k-eq-COMMA t c =
-    arguments-more c.requires.1.few
+    arguments-more c.requires.few
     c.operation-a.ensures c.in-At.is
     c.kind-k.ensures
     c.if-k-eq-COMMA.true
@@ -263,13 +287,13 @@ some_arguments-returns-then-k-eq-COMMA t c =
 
 pub some_arguments-returns-else-k-eq-COMMA : goal.some_arguments-returns-else-k-eq-COMMA
 some_arguments-returns-else-k-eq-COMMA t c =
-    argument-other c.requires.1.few
+    argument-other c.requires.few
     c.operation-a.ensures c.in-At.is c.kind-k.ensures c.if-k-eq-CLOSE.false
     c.if-k-eq-COMMA.false
 
 pub some_arguments-returns-in-Bad : goal.some_arguments-returns-in-Bad
 some_arguments-returns-in-Bad t c =
-    argument-bad c.requires.1.few c.operation-a.ensures c.in-Bad.is
+    argument-bad c.requires.few c.operation-a.ensures c.in-Bad.is
 
 pub suffixes-returns-then-indexable : goal.suffixes-returns-then-indexable
 suffixes-returns-then-indexable t c = search suffix-element
@@ -295,7 +319,7 @@ unary-unary-a-requires t c = omega (arith, (let it : c.args.i < c.args.n = there
 pub unary-one_part-requires : goal.unary-one_part-requires
 unary-one_part-requires t c =
     let w = (let it : c.args.i < c.args.n = there c.args.table.now c.args.n c.args.i _ k_not c.kind.ensures c.if-kind-eq-NOT.true (lit< tt) in it) in
-    (omega arith, omega arith, mode-fits c.requires.1.few c.unary-a.ensures)
+    (omega arith, omega arith, mode-fits c.requires.few c.unary-a.ensures)
 
 pub unary-returns-then-kind-eq-NOT : goal.unary-returns-then-kind-eq-NOT
 unary-returns-then-kind-eq-NOT t c = search negation-is

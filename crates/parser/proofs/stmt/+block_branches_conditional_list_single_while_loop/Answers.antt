@@ -27,11 +27,11 @@ use Rattle.parser.proofs.Pieces.{mode-fits}
 use Rattle.parser.proofs.stmt.+block_branches_conditional_list_single_while_loop.Goals as goal
 
 pub block-list-a-requires : goal.block-list-a-requires
-block-list-a-requires t c = omega (arith, (let it : c.args.i < c.args.n = there c.args.table.now c.args.n c.args.i _ k_open_brace refl c.requires.1.1 (lit< tt) in it), c.requires.1)
+block-list-a-requires t c = omega (arith, (let it : c.args.i < c.args.n = there c.args.table.now c.args.n c.args.i _ k_open_brace refl c.requires.1 (lit< tt) in it), c.requires)
 
 pub block-one_part-requires : goal.block-one_part-requires
 block-one_part-requires t c =
-    let w = (let it : c.args.i < c.args.n = there c.args.table.now c.args.n c.args.i _ k_open_brace refl c.requires.1.1 (lit< tt) in it) in (
+    let w = (let it : c.args.i < c.args.n = there c.args.table.now c.args.n c.args.i _ k_open_brace refl c.requires.1 (lit< tt) in it) in (
       omega arith,
       omega arith,
       follows-fits c.followed-b.ensures
@@ -55,7 +55,7 @@ branches-node-requires t c = omega (
       × (c.in-At.k + 1 ≤ c.in-At-c.end) × (c.in-At-c.end ≤ c.args.n) × (c.in-At-c.no < c.args.n) = let y = (let it : (c.args.j + 1 < c.in-At.k) × (c.in-At.k ≤ c.args.n) × (c.in-At.yes < c.args.n) = follows-ok c.in-At.is c.followed-b.ensures (lit< tt)
       c.single-a.ensures.within in it) in
       let w = within-ok c.in-At-c.is c.single-c.ensures.within in
-      (c.requires.1.0.few, c.requires.1.1, c.requires.1.2, y.0, y.2, w.0, w.1, w.2) in it),
+      (c.requires.0.few, c.requires.1, c.requires.2, y.0, y.2, w.0, w.1, w.2) in it),
 )
 
 pub branches-third-requires : goal.branches-third-requires
@@ -65,12 +65,12 @@ branches-third-requires t c = omega (
       × (c.in-At.k + 1 ≤ c.in-At-c.end) × (c.in-At-c.end ≤ c.args.n) × (c.in-At-c.no < c.args.n) = let y = (let it : (c.args.j + 1 < c.in-At.k) × (c.in-At.k ≤ c.args.n) × (c.in-At.yes < c.args.n) = follows-ok c.in-At.is c.followed-b.ensures (lit< tt)
       c.single-a.ensures.within in it) in
       let w = within-ok c.in-At-c.is c.single-c.ensures.within in
-      (c.requires.1.0.few, c.requires.1.1, c.requires.1.2, y.0, y.2, w.0, w.1, w.2) in it),
+      (c.requires.0.few, c.requires.1, c.requires.2, y.0, y.2, w.0, w.1, w.2) in it),
 )
 
 pub branches-returns-in-At-c : goal.branches-returns-in-At-c
 branches-returns-in-At-c t c =
-    branches-ok c.requires.1.0.few c.single-a.ensures c.followed-b.ensures
+    branches-ok c.requires.0.few c.single-a.ensures c.followed-b.ensures
     c.in-At.is c.single-c.ensures (omega arith)
     c.in-At-c.is c.node.ensures c.third.ensures
 
@@ -82,7 +82,7 @@ branches-returns-in-Bad t c = search yes-bad
 
 pub conditional-branches-requires : goal.conditional-branches-requires
 conditional-branches-requires t c =
-    let w = after_test c.requires.1.1 (lit< tt)
+    let w = after_test c.requires.1 (lit< tt)
     c.test-a.ensures c.in-At.is in
     omega arith
 
@@ -125,15 +125,15 @@ single-returns t c = search no-statement
 pub while_loop-single-b-requires : goal.while_loop-single-b-requires
 while_loop-single-b-requires t c = omega (
   arith,
-  (let it : (c.args.i < c.args.n) × (c.args.i + 1 ≤ c.in-At.next) × (c.in-At.next ≤ c.args.n) × (c.in-At.row < c.args.n) = after_test c.requires.1.1 (lit< tt)
+  (let it : (c.args.i < c.args.n) × (c.args.i + 1 ≤ c.in-At.next) × (c.in-At.next ≤ c.args.n) × (c.in-At.row < c.args.n) = after_test c.requires.1 (lit< tt)
       c.test-a.ensures c.in-At.is in it),
 )
 
 pub while_loop-two_parts-requires : goal.while_loop-two_parts-requires
 while_loop-two_parts-requires t c =
-    let w = (let it : (c.args.i < c.args.n) × (c.args.i + 1 ≤ c.in-At.next) × (c.in-At.next ≤ c.args.n) × (c.in-At.row < c.args.n) = after_test c.requires.1.1 (lit< tt)
+    let w = (let it : (c.args.i < c.args.n) × (c.args.i + 1 ≤ c.in-At.next) × (c.in-At.next ≤ c.args.n) × (c.in-At.row < c.args.n) = after_test c.requires.1 (lit< tt)
     c.test-a.ensures c.in-At.is in it) in
-    let f = mode-fits c.requires.1.0.few
+    let f = mode-fits c.requires.0.few
     c.single-b.ensures in
     (omega arith, omega arith, omega arith, omega arith, f)
 

@@ -7,13 +7,13 @@ use Rattle.reader.proofs.Walks.{part_none, part_step, part-absent, node-far, nod
 use Rattle.reader.proofs.walk.+node_part.Goals as goal
 
 pub node-returns-then-d-gt-DEPTH_MOST : goal.node-returns-then-d-gt-DEPTH_MOST
-node-returns-then-d-gt-DEPTH_MOST t c = node-far c.requires.1.1 c.if-d-gt-DEPTH_MOST.true c.column-start.ensures.0 c.column-start.ensures.1
+node-returns-then-d-gt-DEPTH_MOST t c = node-far c.requires.1 c.if-d-gt-DEPTH_MOST.true c.column-start.ensures.0 c.column-start.ensures.1
 
 pub node-returns-then-k-eq-IF : goal.node-returns-then-k-eq-IF
-node-returns-then-k-eq-IF t c = node-three _ _ c.kind-k.ensures c.column.ensures.0 c.part-a.ensures c.column-2.ensures.0 c.part-b.ensures c.join-two.ensures c.requires.1.1 c.if-d-gt-DEPTH_MOST.false c.if-k-eq-IF.true c.column-then-k-eq-IF.ensures.0 c.part-c.ensures c.join-three.ensures c.whole.ensures
+node-returns-then-k-eq-IF t c = node-three _ _ c.kind-k.ensures c.column.ensures.0 c.part-a.ensures c.column-2.ensures.0 c.part-b.ensures c.join-two.ensures c.requires.1 c.if-d-gt-DEPTH_MOST.false c.if-k-eq-IF.true c.column-then-k-eq-IF.ensures.0 c.part-c.ensures c.join-three.ensures c.whole.ensures
 
 pub node-returns : goal.node-returns
-node-returns t c = node-two _ _ c.kind-k.ensures c.column.ensures.0 c.part-a.ensures c.column-2.ensures.0 c.part-b.ensures c.join-two.ensures c.requires.1.1 c.if-d-gt-DEPTH_MOST.false c.if-k-eq-IF.false c.whole-2.ensures
+node-returns t c = node-two _ _ c.kind-k.ensures c.column.ensures.0 c.part-a.ensures c.column-2.ensures.0 c.part-b.ensures c.join-two.ensures c.requires.1 c.if-d-gt-DEPTH_MOST.false c.if-k-eq-IF.false c.whole-2.ensures
 
 pub part-loop-at-init : goal.part-loop-at-init
 part-loop-at-init t c = so-far-none _ c.nothing-all.ensures.0 c.nothing-all.ensures.1 (λ rest w k j. part_none c.nothing-all.ensures.0 c.nothing-all.ensures.1 k j)
@@ -25,4 +25,4 @@ pub part-loop-at-preserved : goal.part-loop-at-preserved
 part-loop-at-preserved t c = so_far_more _ c.node-member.result (λ rest w k j. part_step c.args.chain c.loop-at-test.true c.node-member.ensures c.following-at.ensures k j) c.loop-at.invariant c.join-all.ensures
 
 pub part-returns : goal.part-returns
-part-returns t c = so-far-end _ c.nothing-all.result c.nothing-all.ensures.0 c.nothing-all.ensures.1 (part-absent c.requires.1.0 c.loop-at-test.false c.nothing-all.ensures.0 c.nothing-all.ensures.1) c.loop-at.invariant
+part-returns t c = so-far-end _ c.nothing-all.result c.nothing-all.ensures.0 c.nothing-all.ensures.1 (part-absent c.requires.0 c.loop-at-test.false c.nothing-all.ensures.0 c.nothing-all.ensures.1) c.loop-at.invariant

@@ -6,16 +6,16 @@ use Rattle.runner.proofs.RunLaws.{accepted-few, accepted-some, performed, checke
 use Rattle.runner.proofs.run.+perform.Goals as goal
 
 pub accepted-requires : goal.accepted-requires
-accepted-requires t c = search (rules, accepted-few c.requires.1.4 (omega arith))
+accepted-requires t c = search (rules, accepted-few c.requires.4 (omega arith))
 
 pub returns-then-s-gt0 : goal.returns-then-s-gt0
 returns-then-s-gt0 t c =
-    performed c.requires.1.4 (search rules) c.accepted.ensures
+    performed c.requires.4 (search rules) c.accepted.ensures
 
 pub perform-r-requires : goal.perform-r-requires
 perform-r-requires t c =
     let some = accepted-some c.args.source.now _ c.find-f.ensures c.in-Program.is in
-    (omega (arith, some, c.requires.0), (search rules, search rules, search rules, search rules, now-known _ _ c.find-f.ensures c.in-Program.is, search rules))
+    (omega (arith, some, d.requires.0), (search rules, search rules, search rules, search rules, now-known _ _ c.find-f.ensures c.in-Program.is, search rules))
 
 pub returns-in-Program : goal.returns-in-Program
 returns-in-Program t c =

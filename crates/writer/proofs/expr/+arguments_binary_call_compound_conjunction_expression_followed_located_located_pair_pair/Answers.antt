@@ -37,7 +37,7 @@ call-expression-a-requires t c = (search rules, search (rules, part-writable))
 
 pub call-count-many-requires : goal.call-count-many-requires
 call-count-many-requires t c =
-    c.requires.1.judgeable.walkable.big
+    c.requires.judgeable.walkable.big
 
 pub call-arguments-b-requires : goal.call-arguments-b-requires
 call-arguments-b-requires t c = (search rules, search (rules, part-writable))
@@ -48,7 +48,7 @@ call-put-requires t c = (
   omega arith,
   c.word-start.ensures.1,
   c.word-method.ensures.1,
-  omega (arith, c.count-many.ensures.most, c.part-given.ensures.nodes, c.requires.1.few),
+  omega (arith, c.count-many.ensures.most, c.part-given.ensures.nodes, c.requires.few),
 )
 
 pub call-returns : goal.call-returns
