@@ -1,6 +1,5 @@
 -- `lexer::limits::whole_end` meets its contract: the digits end at the first byte that is none, or at the end.
 use borrow.Author.Rules.{rules}
-use Prim.Native.Nat.{◌-◌}
 use native.Mathlib.Nat.{zero-add}
 use mathlib.Core.Path.{refl, sym, ◌∙◌}
 use Rattle.lexer.proofs.Runs.{running_more, running-stop, running-end}

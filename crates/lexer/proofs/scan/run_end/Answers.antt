@@ -1,5 +1,4 @@
 -- `lexer::scan::run_end` meets its contract: the run ends at the first byte of another class, or at the end.
-use Prim.Native.Nat.{◌-◌}
 use mathlib.Core.Path.{refl, sym, ◌∙◌}
 use Rattle.lexer.proofs.Runs.{running_more, running-stop, running-end}
 use Rattle.lexer.proofs.scan.run_end.Goals as goal
