@@ -1,45 +1,18 @@
 -- The proof of the cycle of calls on expressions. The measure is 16 for each token left, and the rank of the function.
 -- What a return shows is a law of `Expressions` or `Postfix`; what a call or a sum asks is arithmetic, from `there` (a token is there) and `within-ok` (bounds of a callee's answer).
 use borrow.Author.Rules.{rules}
-use Rattle.parser.proofs.Postfix.{arguments-none, arguments-some}
-use Prim.Native.Nat.{◌+◌}
-use Prim.Native.Nat.{◌<◌}
-use Rattle.lexer.specs.Kinds.{k_open}
-use Prim.Native.Nat.{◌+◌}
+use Rattle.parser.proofs.Postfix.{arguments-none, arguments-some, call_ok, call-bad, call-open, call-name, element-ok, element-bad, array_ok, array-bad, array-open, parentheses-ok, parentheses-close, parentheses-bad, get-head, get-ok, atom-there, an-atom, no-primary, argument-bad, argument-last, argument-other, arguments-more, suffix-element, suffix-closed, suffix-length, suffix-none}
+use Prim.Native.Nat.{◌+◌, ◌<◌, ◌≤◌}
+use Rattle.lexer.specs.Kinds.{k_open, k_open_bracket, k_port, k_comma, k_length, k_dot, k_not}
 use native.Mathlib.Omega.{arith}
 use lib.Dec.{lit<}
 use Rattle.parser.proofs.Laws.{there, within-ok}
-use Rattle.parser.proofs.Postfix.{call_ok, call-bad, call-open, call-name}
-use Prim.Native.Nat.{◌+◌, ◌≤◌, ◌<◌}
 use Rattle.base.specs.Codes.{tokens_most}
-use Rattle.lexer.specs.Kinds.{k_open_bracket}
-use mathlib.Core.Path.{refl}
-use Rattle.parser.proofs.Laws.{there}
-use Rattle.parser.proofs.Pieces.{follows-ok}
-use Rattle.parser.proofs.Postfix.{element-ok, element-bad}
-use Rattle.parser.proofs.Laws.{within-ok}
-use Rattle.parser.proofs.Expressions.{levels-more, levels-last, levels-bad}
-use Rattle.parser.proofs.Postfix.{array_ok, array-bad, array-open}
-use Rattle.parser.proofs.Expressions.{operand-next, operand-last}
-use Rattle.parser.proofs.Expressions.{levels-ok, unary-bad}
-use Rattle.parser.proofs.Expressions.{operator-there, operations-ok, operations-bad, operations-none}
-use Rattle.parser.proofs.Postfix.{parentheses-ok, parentheses-close, parentheses-bad}
-use Rattle.lexer.specs.Kinds.{k_port}
+use mathlib.Core.Path.{refl, sym, ◌∙◌}
+use Rattle.parser.proofs.Pieces.{follows-ok, mode-fits, follows-fits, arguments-fit}
+use Rattle.parser.proofs.Expressions.{levels-more, levels-last, levels-bad, operand-next, operand-last, levels-ok, unary-bad, operator-there, operations-ok, operations-bad, operations-none, postfix-ok, postfix-bad, negation-is, to-postfix}
 use Rattle.parser.specs.Parse.{get_head}
-use Rattle.parser.proofs.Pieces.{mode-fits, follows-fits}
 use Rattle.parser.proofs.Heads.{head-there}
-use Rattle.parser.proofs.Postfix.{get-head, get-ok}
-use mathlib.Core.Path.{sym, ◌∙◌}
-use Rattle.parser.proofs.Expressions.{postfix-ok, postfix-bad}
-use Rattle.parser.proofs.Postfix.{atom-there, an-atom, no-primary}
-use Rattle.lexer.specs.Kinds.{k_comma}
-use Rattle.parser.proofs.Pieces.{arguments-fit}
-use Rattle.parser.proofs.Postfix.{argument-bad, argument-last, argument-other, arguments-more}
-use Rattle.lexer.specs.Kinds.{k_length, k_dot}
-use Rattle.parser.proofs.Postfix.{suffix-element, suffix-closed, suffix-length, suffix-none}
-use Rattle.lexer.specs.Kinds.{k_not}
-use Rattle.parser.proofs.Pieces.{mode-fits}
-use Rattle.parser.proofs.Expressions.{negation-is, to-postfix}
 use Rattle.parser.proofs.expr.+arguments_call_element_levels_new_array_operand_operation_operations_parentheses_port_get_postfix_primary_some_arguments_suffixes_unary.Goals as goal
 
 pub arguments-returns-then-kind-eq-CLOSE : goal.arguments-returns-then-kind-eq-CLOSE
