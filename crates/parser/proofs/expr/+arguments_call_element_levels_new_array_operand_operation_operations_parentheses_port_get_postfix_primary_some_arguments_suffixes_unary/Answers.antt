@@ -176,7 +176,7 @@ pub parentheses-returns-in-Bad : goal.parentheses-returns-in-Bad
 parentheses-returns-in-Bad t c = search parentheses-bad
 
 pub port_get-member_head-m-requires : goal.port_get-member_head-m-requires
-port_get-member_head-m-requires t c = omega (arith, (let it : c.args.i < c.args.n = there c.args.table.now c.args.n c.args.i _ k_port refl c.requires.1 (lit< tt) in it), c.requires)
+port_get-member_head-m-requires t c = omega (arith, there c.args.table.now c.args.n c.args.i _ k_port refl c.requires.1 (lit< tt), c.requires)
 
 pub port_get-returns-then-m-lt3 : goal.port_get-returns-then-m-lt3
 port_get-returns-then-m-lt3 t c =
@@ -189,7 +189,7 @@ port_get-operation-a-requires t c =
 
 pub port_get-one_part-requires : goal.port_get-one_part-requires
 port_get-one_part-requires t c =
-    let w = (let it : c.args.i < c.args.n = there c.args.table.now c.args.n c.args.i _ k_port refl c.requires.1 (lit< tt) in it) in (
+    let w : c.args.i < c.args.n = there c.args.table.now c.args.n c.args.i _ k_port refl c.requires.1 (lit< tt) in (
       omega arith,
       omega arith,
       follows-fits c.followed-b.ensures
@@ -223,10 +223,10 @@ pub primary-returns : goal.primary-returns
 primary-returns t c = search no-primary
 
 pub some_arguments-link-requires : goal.some_arguments-link-requires
-some_arguments-link-requires t c = omega (arith, (let it : (c.args.i + 1 ≤ c.in-At.next) × (c.in-At.next ≤ c.args.n) × (c.in-At.row < c.args.n) = within-ok c.in-At.is c.operation-a.ensures.within in it))
+some_arguments-link-requires t c = omega (arith, within-ok c.in-At.is c.operation-a.ensures.within)
 
 pub some_arguments-overflow_add-result : goal.some_arguments-overflow_add-result
-some_arguments-overflow_add-result t c = omega (arith, (let it : (c.args.i + 1 ≤ c.in-At.next) × (c.in-At.next ≤ c.args.n) × (c.in-At.row < c.args.n) = within-ok c.in-At.is c.operation-a.ensures.within in it))
+some_arguments-overflow_add-result t c = omega (arith, within-ok c.in-At.is c.operation-a.ensures.within)
 
 pub some_arguments-returns-then-k-eq-CLOSE : goal.some_arguments-returns-then-k-eq-CLOSE
 some_arguments-returns-then-k-eq-CLOSE t c =
@@ -235,18 +235,18 @@ some_arguments-returns-then-k-eq-CLOSE t c =
     c.if-k-eq-CLOSE.true c.link.ensures
 
 pub some_arguments-overflow_add-next : goal.some_arguments-overflow_add-next
-some_arguments-overflow_add-next t c = omega (arith, (let it : (c.args.i + 1 ≤ c.in-At.next) × (c.in-At.next ≤ c.args.n) × (c.in-At.row < c.args.n) = within-ok c.in-At.is c.operation-a.ensures.within in it))
+some_arguments-overflow_add-next t c = omega (arith, within-ok c.in-At.is c.operation-a.ensures.within)
 
 pub some_arguments-some_arguments-b-requires : goal.some_arguments-some_arguments-b-requires
 some_arguments-some_arguments-b-requires t c =
     let l = there c.operation-a.new.table
     c.args.n c.in-At.next _ k_comma
     c.kind-k.ensures c.if-k-eq-COMMA.true (lit< tt) in
-    omega (arith, (let it : (c.args.i + 1 ≤ c.in-At.next) × (c.in-At.next ≤ c.args.n) × (c.in-At.row < c.args.n) = within-ok c.in-At.is c.operation-a.ensures.within in it))
+    omega (arith, within-ok c.in-At.is c.operation-a.ensures.within)
 
 pub some_arguments-linked-requires : goal.some_arguments-linked-requires
 some_arguments-linked-requires t c =
-    let w = (let it : (c.args.i + 1 ≤ c.in-At.next) × (c.in-At.next ≤ c.args.n) × (c.in-At.row < c.args.n) = within-ok c.in-At.is c.operation-a.ensures.within in it) in
+    let w : (c.args.i + 1 ≤ c.in-At.next) × (c.in-At.next ≤ c.args.n) × (c.in-At.row < c.args.n) = within-ok c.in-At.is c.operation-a.ensures.within in
     (omega arith, omega arith, arguments-fit c.some_arguments-b.ensures)
 
 pub some_arguments-returns-then-k-eq-COMMA : goal.some_arguments-returns-then-k-eq-COMMA
@@ -286,11 +286,11 @@ pub suffixes-returns : goal.suffixes-returns
 suffixes-returns t c = search suffix-none
 
 pub unary-unary-a-requires : goal.unary-unary-a-requires
-unary-unary-a-requires t c = omega (arith, (let it : c.args.i < c.args.n = there c.args.table.now c.args.n c.args.i _ k_not c.kind.ensures c.if-kind-eq-NOT.true (lit< tt) in it))
+unary-unary-a-requires t c = omega (arith, there c.args.table.now c.args.n c.args.i _ k_not c.kind.ensures c.if-kind-eq-NOT.true (lit< tt))
 
 pub unary-one_part-requires : goal.unary-one_part-requires
 unary-one_part-requires t c =
-    let w = (let it : c.args.i < c.args.n = there c.args.table.now c.args.n c.args.i _ k_not c.kind.ensures c.if-kind-eq-NOT.true (lit< tt) in it) in
+    let w : c.args.i < c.args.n = there c.args.table.now c.args.n c.args.i _ k_not c.kind.ensures c.if-kind-eq-NOT.true (lit< tt) in
     (omega arith, omega arith, mode-fits c.requires.few c.unary-a.ensures)
 
 pub unary-returns-then-kind-eq-NOT : goal.unary-returns-then-kind-eq-NOT

@@ -13,11 +13,11 @@ use Rattle.base.specs.Codes.{tokens_most}
 use Rattle.parser.proofs.stmt.+block_branches_conditional_list_single_while_loop.Goals as goal
 
 pub block-list-a-requires : goal.block-list-a-requires
-block-list-a-requires t c = omega (arith, (let it : c.args.i < c.args.n = there c.args.table.now c.args.n c.args.i _ k_open_brace refl c.requires.1 (lit< tt) in it), c.requires)
+block-list-a-requires t c = omega (arith, there c.args.table.now c.args.n c.args.i _ k_open_brace refl c.requires.1 (lit< tt), c.requires)
 
 pub block-one_part-requires : goal.block-one_part-requires
 block-one_part-requires t c =
-    let w = (let it : c.args.i < c.args.n = there c.args.table.now c.args.n c.args.i _ k_open_brace refl c.requires.1 (lit< tt) in it) in (
+    let w : c.args.i < c.args.n = there c.args.table.now c.args.n c.args.i _ k_open_brace refl c.requires.1 (lit< tt) in (
       omega arith,
       omega arith,
       follows-fits c.followed-b.ensures
