@@ -66,7 +66,7 @@ module _ (s : List ℕ) {tab tab' : List ℕ} {n : ℕ} (kept : Same n tab tab')
         fixed = λ m. k2 ∙ r.fixed (sym k0 ∙ m) ∙ ap thousandths_of_lem (sym (text-kept i h));
       }
 
-  reaches-kept : {m x : ℕ} {t : List ℕ} → n ≤ m → Reaches s tab n t x → Reaches s tab' m t x
+  reaches-kept : {m : ℕ} {t : List ℕ} {x : ℕ} → n ≤ m → Reaches s tab n t x → Reaches s tab' m t x
   reaches-kept h (here j l e q) = here j (omega arith) e (text-kept j l ∙ q)
   reaches-kept {m} {t} h (next j l e r) =
       next j (omega arith) e (subst (Reaches s tab' m t) (sym (kept.at c_link (λ q. omega arith) j l)) (reaches-kept h r))

@@ -1,5 +1,4 @@
 -- `lexer::lex` meets its contract: each turn is a turn of the definition, and the table holds the tokens read so far.
-use Prim.Native.Nat.{◌-◌}
 use native.Mathlib.Omega.{arith}
 use mathlib.Core.Path.{◌≡◌, refl, sym, ◌∙◌}
 use lib.ListN.{length}

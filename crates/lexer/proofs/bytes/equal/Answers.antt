@@ -1,5 +1,4 @@
 -- `lexer::bytes::equal` meets its contract: after i turns the first i bytes are equal, so the rest decides.
-use Prim.Native.Nat.{◌-◌}
 use mathlib.Core.Path.{sym}
 use Rattle.base.specs.laws.Tests.{same-unlike}
 use Rattle.lexer.proofs.Runs.{alike-start, alike-more, alike-not, alike_end}

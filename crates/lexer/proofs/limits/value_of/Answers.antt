@@ -1,6 +1,5 @@
 -- `lexer::limits::value_of` meets its contract: the value so far decides with the digits left, and a value that is too large stays so.
 use borrow.Author.Rules.{rules}
-use Prim.Native.Nat.{◌-◌}
 use native.Mathlib.Omega.{arith}
 use mathlib.Core.Path.{refl}
 use Rattle.lexer.proofs.Folds.{summed-more, summed-past, summed-end}

@@ -1,9 +1,7 @@
 -- `lexer::limits::whole_end` meets its contract: the digits end at the first byte that is none, or at the end.
 use borrow.Author.Rules.{rules}
-use Prim.Native.Nat.{◌-◌}
 use native.Mathlib.Nat.{zero-add}
 use mathlib.Core.Path.{refl, sym, ◌∙◌}
-use borrow.Author.Tests.{not-true, not-false}
 use Rattle.lexer.proofs.Runs.{running_more, running-stop, running-end}
 use Rattle.lexer.proofs.limits.whole_end.Goals as goal
 
@@ -12,11 +10,11 @@ loop-i-init c = record { within = search rules; left = refl }
 
 pub returns-then-not-is_digit : goal.returns-then-not-is_digit
 returns-then-not-is_digit c =
-    running-stop c.loop-i-test.true (sym c.is_digit.ensures ∙ not-true _ c.if-not-is_digit.true) c.loop-i.invariant ∙ zero-add _
+    running-stop c.loop-i-test.true (sym c.is_digit.ensures ∙ c.if-not-is_digit.true) c.loop-i.invariant ∙ zero-add _
 
 pub loop-i-preserved : goal.loop-i-preserved
 loop-i-preserved c =
-    running_more c.loop-i-test.true (sym c.is_digit.ensures ∙ not-false _ c.if-not-is_digit.false) c.loop-i.invariant
+    running_more c.loop-i-test.true (sym c.is_digit.ensures ∙ c.if-not-is_digit.false) c.loop-i.invariant
 
 pub returns : goal.returns
 returns c = running-end c.loop-i-test.false c.loop-i.invariant ∙ zero-add _

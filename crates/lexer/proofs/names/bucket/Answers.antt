@@ -1,6 +1,5 @@
 -- `lexer::names::bucket` meets its contract: the bytes so far decide with those left.
 use borrow.Author.Rules.{rules}
-use Prim.Native.Nat.{◌-◌}
 use native.Mathlib.Omega.{arith}
 use mathlib.Core.Path.{refl}
 use Rattle.lexer.proofs.Folds.{hashed-more, hashed-end}

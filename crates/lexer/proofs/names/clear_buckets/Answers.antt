@@ -1,6 +1,5 @@
 -- The buckets before the loop's are empty.
 use borrow.Author.Rules.{rules}
-use Prim.Native.Nat.{◌-◌}
 use native.Mathlib.Omega.{arith}
 use mathlib.Core.Path.{refl}
 use Rattle.lexer.proofs.Chains.{no-names-first, no-names-next, no-names-last}

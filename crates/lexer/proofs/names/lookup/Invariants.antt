@@ -1,5 +1,4 @@
 -- `lexer::names::lookup` meets its contract: each turn passes one row of the chain, and the links fall.
-use Prim.Native.Nat.{◌-◌}
 use Rattle.lexer.specs.promises.Chains.{Sought}
 use Rattle.lexer.proofs.names.lookup.Given as goal
 

@@ -1,5 +1,4 @@
 -- `lexer::scan::comment_end` meets its contract: what is left to read, at the depth reached, ends where the comment ends.
-use Prim.Native.Nat.{◌-◌}
 use Rattle.lexer.proofs.Comments.{commented-start, commented-open, commented-close, commented-closed, commented-other, commented-end}
 use Rattle.lexer.proofs.scan.comment_end.Goals as goal
 

@@ -1,7 +1,5 @@
 -- `lexer::scan::run_end` meets its contract: the run ends at the first byte of another class, or at the end.
-use Prim.Native.Nat.{◌-◌}
 use mathlib.Core.Path.{refl, sym, ◌∙◌}
-use borrow.Author.Tests.{not-true, not-false}
 use Rattle.lexer.proofs.Runs.{running_more, running-stop, running-end}
 use Rattle.lexer.proofs.scan.run_end.Goals as goal
 
@@ -10,11 +8,11 @@ loop-i-init c = record { within = c.requires.1; left = refl }
 
 pub returns-then-not-belongs : goal.returns-then-not-belongs
 returns-then-not-belongs c =
-    running-stop c.loop-i-test.true (sym c.belongs.ensures ∙ not-true _ c.if-not-belongs.true) c.loop-i.invariant
+    running-stop c.loop-i-test.true (sym c.belongs.ensures ∙ c.if-not-belongs.true) c.loop-i.invariant
 
 pub loop-i-preserved : goal.loop-i-preserved
 loop-i-preserved c =
-    running_more c.loop-i-test.true (sym c.belongs.ensures ∙ not-false _ c.if-not-belongs.false) c.loop-i.invariant
+    running_more c.loop-i-test.true (sym c.belongs.ensures ∙ c.if-not-belongs.false) c.loop-i.invariant
 
 pub returns : goal.returns
 returns c = running-end c.loop-i-test.false c.loop-i.invariant

@@ -1,5 +1,4 @@
 -- `lexer::words::kind_among` meets its contract: the words that are left decide, and the first that is equal is the word.
-use Prim.Native.Nat.{◌-◌}
 use native.Mathlib.Omega.{arith}
 use Rattle.lexer.proofs.Reserved.{decide-start, decide-inside, decide-hit, decide-more, decide-end}
 use Rattle.lexer.proofs.words.kind_among.Goals as goal

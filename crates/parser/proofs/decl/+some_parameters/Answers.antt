@@ -25,7 +25,7 @@ overflow_add-next t c = omega (arith, (let it : (c.args.i + 2 ≤ c.in-At.next) 
 
 pub some_parameters-b-requires : goal.some_parameters-b-requires
 some_parameters-b-requires t c =
-    let l = there c.variable-a.new.0
+    let l = there c.variable-a.new.table
     c.args.n c.in-At.next _ k_comma
     c.kind-k.ensures c.if-k-eq-COMMA.true (lit< tt) in
     omega (arith, (let it : (c.args.i + 2 ≤ c.in-At.next) × (c.in-At.next ≤ c.args.n) × (c.in-At.row < c.args.n) = within-ok c.in-At.is c.variable-a.ensures.0.within in it))

@@ -267,7 +267,7 @@ some_arguments-overflow_add-next t c = omega (arith, (let it : (c.args.i + 1 ≤
 
 pub some_arguments-some_arguments-b-requires : goal.some_arguments-some_arguments-b-requires
 some_arguments-some_arguments-b-requires t c =
-    let l = there c.operation-a.new.0
+    let l = there c.operation-a.new.table
     c.args.n c.in-At.next _ k_comma
     c.kind-k.ensures c.if-k-eq-COMMA.true (lit< tt) in
     omega (arith, (let it : (c.args.i + 1 ≤ c.in-At.next) × (c.in-At.next ≤ c.args.n) × (c.in-At.row < c.args.n) = within-ok c.in-At.is c.operation-a.ensures.within in it))
