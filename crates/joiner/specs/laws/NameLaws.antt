@@ -139,8 +139,11 @@ module _ {tab : List ℕ} {ts : List Token} (held : Rows tab ts) (few : length t
       let below : row < absent = omega (arith, m.0.name.token.there) in
       let w = collected-lists ks (i + 1) n (set a i x) h.2 m.1 (omega arith) (omega (arith, length-set a i x)) in
       let at = w.1 i (omega arith) ∙ get_or-set_same a i x 0 (omega arith) ∙ start_of held k.name m.0.name in
-      rw (lt-ltb row absent below, h.1)
-      ((at, w.0), λ j c. w.1 j (omega arith) ∙ get_or-set_other a i j x 0 (other i j c))
+      let e : collected tab (row_classes (k ∷ ks)) i (suc n) a ≡ collected tab (row_classes ks) (i + 1) n (set a i x) =
+      rw (lt-ltb row absent below, h.1) refl in
+      subst
+      (λ (t : List ℕ). ListedFrom t i (map (λ (c : Class). c.name.start) (k ∷ ks)) × ((j : ℕ) → j < i → get_or t j 0 ≡ get_or a j 0))
+      (sym e) ((at, w.0), λ j c. w.1 j (omega arith) ∙ get_or-set_other a i j x 0 (other i j c))
     where
       other : (i j : ℕ) → j < i → j ≢ i
       other i j c e = omega arith

@@ -9,7 +9,7 @@ returns-then-table-lt-TABLE_LEAST c = join-short _ _ _ _ c.if-table-lt-TABLE_LEA
 pub returns : goal.returns
 returns c =
     join-answer c.args.lesson.now c.args.library.now c.args.table.now
-    c.args.strip.now c.stages-a.new.1.0
+    c.args.strip.now c.stages-a.new.table
     c.if-table-lt-TABLE_LEAST.false
     c.stages-a.ensures (omega arith)
     c.zero_words.ensures

@@ -14,5 +14,5 @@ pub returns-in-Refused : goal.returns-in-Refused
 returns-in-Refused c =
     lesson-refused c.args.lesson.now
     c.args.library.now c.args.strip.now
-    c.fill-f.new.1.0 c.fill-f.ensures
+    c.fill-f.new.table c.fill-f.ensures
     c.in-Refused.is

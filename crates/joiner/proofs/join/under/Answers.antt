@@ -12,7 +12,7 @@ text-requires c =
       count-few c.args.lesson.now c.args.table.now c.args.library.now c.args.strip.now
           c.requires.1 c.keep-count.ensures,
       tokens-few c.args.lesson.now c.args.table.now c.args.library.now c.args.strip.now
-          c.requires.1 c.fill-h.new.1.0
+          c.requires.1 c.fill-h.new.table
           c.fill-h.ensures
           c.in-Classes.is,
     )
@@ -21,7 +21,7 @@ pub returns-in-Classes : goal.returns-in-Classes
 returns-in-Classes c =
     under-classes c.args.lesson.now
     c.args.table.now c.args.library.now c.args.strip.now
-    c.requires.1 c.fill-h.new.1.0 c.keep-count.ensures c.fill-h.ensures c.in-Classes.is c.text.ensures
+    c.requires.1 c.fill-h.new.table c.keep-count.ensures c.fill-h.ensures c.in-Classes.is c.text.ensures
 
 pub returns-in-Refused : goal.returns-in-Refused
 returns-in-Refused c =
@@ -29,5 +29,5 @@ returns-in-Refused c =
     in
     under-refused a.lesson.now a.table.now a.library.now a.strip.now
     c.requires.1
-    c.fill-h.new.1.0 c.fill-h.ensures
+    c.fill-h.new.table c.fill-h.ensures
     c.in-Refused.is

@@ -9,12 +9,12 @@ returns-then-library-gt-SOURCE_MOST c = fill-long c.args.library.now c.args.tabl
 pub grow-requires : goal.grow-requires
 grow-requires c = omega (
   arith,
-  lexed-few c.args.library.now c.lex-l.new.1.0
+  lexed-few c.args.library.now c.lex-l.new.table
       c.lex-l.ensures.1 c.in-Tokens.is,
 )
 
 pub returns-in-Tokens : goal.returns-in-Tokens
-returns-in-Tokens c = fill-tokens c.args.library.now c.lex-l.new.1.0
+returns-in-Tokens c = fill-tokens c.args.library.now c.lex-l.new.table
     c.lex-l.result
     c.if-library-gt-SOURCE_MOST.false
     c.lex-l.ensures.1
@@ -22,6 +22,6 @@ returns-in-Tokens c = fill-tokens c.args.library.now c.lex-l.new.1.0
 
 pub returns-in-Refused : goal.returns-in-Refused
 returns-in-Refused c = fill-refused c.args.library.now
-    c.lex-l.new.1.0 c.lex-l.result
+    c.lex-l.new.table c.lex-l.result
     c.if-library-gt-SOURCE_MOST.false c.lex-l.ensures.1
     c.in-Refused.is

@@ -1,5 +1,4 @@
 -- `methods` meets its contract. The measure is the number of tokens left. Each return is a law of `Methods`.
-use Prim.Native.Nat.{◌-◌}
 use native.Mathlib.Omega.{arith}
 use Rattle.parser.proofs.Laws.{within-ok}
 use Rattle.parser.proofs.Pieces.{declared-fits}

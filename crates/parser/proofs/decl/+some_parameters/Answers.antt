@@ -1,5 +1,5 @@
 -- `some_parameters` meets its contract. The measure is the number of tokens left. Each return is a law of `Variables`.
-use Prim.Native.Nat.{◌+◌, ◌-◌, ◌≤◌, ◌<◌}
+use Prim.Native.Nat.{◌+◌, ◌≤◌, ◌<◌}
 use Rattle.lexer.specs.Kinds.{k_comma}
 use native.Mathlib.Omega.{arith}
 use lib.Dec.{lit<}

@@ -1,5 +1,5 @@
 -- `variables` meets its contract. The measure is the number of tokens left. Each return is a law of `Variables`.
-use Prim.Native.Nat.{◌+◌, ◌-◌, ◌≤◌, ◌<◌}
+use Prim.Native.Nat.{◌+◌, ◌≤◌, ◌<◌}
 use native.Mathlib.Omega.{arith}
 use lib.Dec.{lit<}
 use Rattle.parser.proofs.Pieces.{declared-fits, follows-ok}

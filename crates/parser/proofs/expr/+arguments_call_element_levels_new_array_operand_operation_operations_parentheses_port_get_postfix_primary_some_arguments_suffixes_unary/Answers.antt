@@ -2,7 +2,7 @@
 -- What a return shows is a law of `Expressions` or `Postfix`; what a call or a sum asks is arithmetic, from `there` (a token is there) and `within-ok` (bounds of a callee's answer).
 use borrow.Author.Rules.{rules}
 use Rattle.parser.proofs.Postfix.{arguments-none, arguments-some}
-use Prim.Native.Nat.{◌+◌, ◌-◌}
+use Prim.Native.Nat.{◌+◌}
 use Prim.Native.Nat.{◌<◌}
 use Rattle.lexer.specs.Kinds.{k_open}
 use Prim.Native.Nat.{◌+◌}
@@ -14,7 +14,6 @@ use Prim.Native.Nat.{◌+◌, ◌≤◌, ◌<◌}
 use Rattle.base.specs.Codes.{tokens_most}
 use Rattle.lexer.specs.Kinds.{k_open_bracket}
 use mathlib.Core.Path.{refl}
-use Rattle.parser.specs.promises.Layout.{node}
 use Rattle.parser.proofs.Laws.{there}
 use Rattle.parser.proofs.Pieces.{follows-ok}
 use Rattle.parser.proofs.Postfix.{element-ok, element-bad}

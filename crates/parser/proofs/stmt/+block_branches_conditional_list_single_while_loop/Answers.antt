@@ -1,6 +1,6 @@
 -- The proof of the cycle of calls on statements. The measure is 16 for each token left, and the rank of the function.
 -- What a return shows is a law of `Statements`; what a call asks is arithmetic, from `there` (a token is there) and `within-ok` and `follows-ok` (bounds of a callee's answer).
-use Prim.Native.Nat.{◌+◌, ◌-◌}
+use Prim.Native.Nat.{◌+◌}
 use Prim.Native.Nat.{◌<◌}
 use Rattle.lexer.specs.Kinds.{k_open_brace}
 use mathlib.Core.Path.{refl}
@@ -12,7 +12,6 @@ use Rattle.parser.proofs.Statements.{block-is}
 use Rattle.parser.proofs.Pieces.{list-fits, follows-fits}
 use Prim.Native.Nat.{◌+◌, ◌≤◌, ◌<◌}
 use Rattle.base.specs.Codes.{tokens_most}
-use Rattle.parser.specs.promises.Layout.{node}
 use Rattle.parser.proofs.Laws.{within-ok}
 use Rattle.parser.proofs.Statements.{yes-bad, no-bad, branches-ok}
 use Rattle.parser.proofs.Pieces.{follows-ok}

@@ -1,5 +1,4 @@
 -- `matched` meets its contract. The loop's invariant: so many kinds have been matched, and what is left is looked for from there on. The measure is what is left of the kinds.
-use Prim.Native.Nat.{◌-◌}
 use native.Mathlib.Omega.{arith}
 use Rattle.parser.proofs.Matched.{counted_none, counted-more, counted_stop, counted-all}
 use Rattle.parser.proofs.table.matched.Goals as goal
