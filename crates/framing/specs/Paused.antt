@@ -10,7 +10,7 @@ use Rattle.std.proofs.Math.Path.{refl, ap, ap₂}
 use Rattle.std.proofs.lemmas.List.{length-replicate}
 use Rattle.std.proofs.Math.Dec.{eqb}
 use Rattle.base.specs.All.{All, all_nil, all_cons}
-use Rattle.base.specs.Choice.{if◌then◌else◌, option}
+use Rattle.base.specs.Choice.{if◌then◌otherwise◌, option}
 use Rattle.base.specs.Codes.{budget_spent, registers_count}
 use Rattle.base.specs.Outcome.{Outcome, accepted}
 use Rattle.device.specs.Device.{registers}
@@ -39,7 +39,7 @@ Priced10 q = (q.price ≡ 1) ⊎ (q.price ≡ 10)
 unfoldable pub go_on_lem : (frames tape : List ℕ) → (calls : ℕ) → List Part → Answer → Answer
 go_on_lem s tape c [] x = x
 go_on_lem s tape c (q ∷ qs) x =
-    if eqb x.number budget_spent then (λ _. go_on_lem s tape c qs (continue s tape (limits_for c q) x.pause x.strips)) else λ _. x
+    if eqb x.number budget_spent then (λ _. go_on_lem s tape c qs (continue s tape (limits_for c q) x.pause x.strips)) otherwise λ _. x
 
 abbrev pub in_turn : (frames tape : List ℕ) → (calls : ℕ) → Part → List Part → Strips → Answer
 in_turn s tape c q qs m = go_on_lem s tape c qs (run s tape (limits_for c q) m)
@@ -109,7 +109,7 @@ module _ (s tape : List ℕ) (ls : List Line) (text : lines s ≡ accepted ls) (
       ∙ ap (λ (o : Option ℕ). option o (going_on (lines s) tape (limits_for c q) (record_from r) m) λ n. refusal n 0 m) (fit_none
       (limits_for c q) m fit)
       ∙ ap (λ (o : Outcome (List Line)). going_on o tape (limits_for c q) (record_from r) m) text
-      ∙ ap (λ (x : Bool). if x then (λ _. part_from ls tape (limits_for c q) (record_from r) m) else λ _. refusal record_unfit 0 m)
+      ∙ ap (λ (x : Bool). if x then (λ _. part_from ls tape (limits_for c q) (record_from r) m) otherwise λ _. refusal record_unfit 0 m)
       (record-fits ls tape (limits_for c q) r w l b)
       ∙ ap (λ (t : State). answer (run_frames A (λ _. q.price) r.frames (r.unspent + q.budget) t)) (same-state tape r
       (w.registers tape r.state.tape))
@@ -136,9 +136,9 @@ module _ (s tape : List ℕ) (ls : List Line) (text : lines s ≡ accepted ls) (
           → go_on_lem s tape c qs (answer (one_part_lem A q' (one_part_lem A q n u t).frames (one_part_lem A q n u t).unspent (one_part_lem A q n u t).state))
           ≡ answer (in_parts A q' qs (one_part_lem A q n u t).frames (one_part_lem A q n u t).unspent (one_part_lem A q n u t).state)
           → (if x then (λ _. go_on_lem s tape c qs (continue s tape (limits_for c q') (answer (one_part_lem A q n u t)).pause (answer
-          (one_part_lem A q n u t)).strips)) else λ _. answer (one_part_lem A q n u t))
+          (one_part_lem A q n u t)).strips)) otherwise λ _. answer (one_part_lem A q n u t))
           ≡ answer (if x then (λ _. in_parts A q' qs (one_part_lem A q n u t).frames (one_part_lem A q n u t).unspent
-          (one_part_lem A q n u t).state) else λ _. one_part_lem A q n u t)
+          (one_part_lem A q n u t).state) otherwise λ _. one_part_lem A q n u t)
       by true e f g = ap (go_on_lem s tape c qs) (f (eqb-true (one_part_lem A q n u t).number budget_spent e)) ∙ g
       by false e f g = refl
 
@@ -203,7 +203,7 @@ module _ (s tape : List ℕ) (ls : List Line) (text : lines s ≡ accepted ls) (
   continue-answers q r m f e =
       ap (λ (o : Option ℕ). option o (going_on (lines s) tape (limits_for c q) r m) λ n. refusal n 0 m) (fit_none (limits_for c q) m f)
       ∙ ap (λ (o : Outcome (List Line)). going_on o tape (limits_for c q) r m) text
-      ∙ ap (λ (x : Bool). if x then (λ _. part_from ls tape (limits_for c q) r m) else λ _. refusal record_unfit 0 m) e
+      ∙ ap (λ (x : Bool). if x then (λ _. part_from ls tape (limits_for c q) r m) otherwise λ _. refusal record_unfit 0 m) e
 
   -- The same from any record that the operation does not refuse, on any strips: what was unspent and the frames so far are carried along.
   pub parts-from-record : (q : Part) (qs : List Part) (r : Record) (m : Strips) → FitFor (limits_for c q) m → All Priced10 qs

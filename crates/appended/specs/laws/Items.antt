@@ -12,7 +12,7 @@ use Rattle.std.proofs.Common.{sym, ◌∙◌, subst, eqb-true, ne_eqb}
 use Rattle.std.proofs.Math.ListN.{length, length-drop, length-append}
 use Rattle.std.proofs.lemmas.List.{drop-append-le}
 use Rattle.base.specs.Bytes.{same}
-use Rattle.base.specs.Choice.{if◌then◌else◌}
+use Rattle.base.specs.Choice.{if◌then◌otherwise◌}
 use Rattle.base.specs.laws.Tests.{apart, and-true, and-false, if-both}
 use Rattle.lexer.specs.Bytes.{b_line_feed, b_slash, b_star, b_ampersand, b_dot, is_blank, is_letter, is_digit_lem, is_name_part_lem}
 use Rattle.lexer.specs.Kinds.{Word, words, k_literal, k_fixed_literal, k_close_brace, kind_in, word_kind_lem, mark_kind_lem}
@@ -45,9 +45,9 @@ run-kept p n (b ∷ bs) u h = go (p b) h (run-kept p n bs u)
     less (inl h) = inl (omega arith)
     less (inr e) = inr e
 
-    go : (c : Bool) → Room (length (if c then (λ _. b ∷ longest_run p bs) else λ _. [])) (b ∷ bs) u
+    go : (c : Bool) → Room (length (if c then (λ _. b ∷ longest_run p bs) otherwise λ _. [])) (b ∷ bs) u
         → (Room (length (longest_run p bs)) bs u → longest_run p (bs ++ u) ≡ longest_run p bs)
-        → (if c then (λ _. b ∷ longest_run p (bs ++ u)) else λ _. []) ≡ (if c then (λ _. b ∷ longest_run p bs) else λ _. [])
+        → (if c then (λ _. b ∷ longest_run p (bs ++ u)) otherwise λ _. []) ≡ (if c then (λ _. b ∷ longest_run p bs) otherwise λ _. [])
     go true h f = ap (λ (l : List ℕ). b ∷ l) (f (less h))
     go false h f = refl
 
@@ -56,8 +56,8 @@ run-kept p n (b ∷ bs) u h = go (p b) h (run-kept p n bs u)
 -- what an answer of `closing` says of its parts, at three tests
 pub closed-by : (x y z : Bool) (o p q o' p' q' : Unit {0} → Option ℕ) (m : ℕ) {j : ℕ}
     → (o tt ≡ some j → o' tt ≡ some j) → (p tt ≡ some j → p' tt ≡ some j) → (q tt ≡ some j → q' tt ≡ some j)
-    → (if x then o else λ _. if y then (λ _. if z then (λ _. some m) else p) else q) ≡ some j
-    → (if x then o' else λ _. if y then (λ _. if z then (λ _. some m) else p') else q') ≡ some j
+    → (if x then o otherwise λ _. if y then (λ _. if z then (λ _. some m) otherwise p) otherwise q) ≡ some j
+    → (if x then o' otherwise λ _. if y then (λ _. if z then (λ _. some m) otherwise p') otherwise q') ≡ some j
 closed-by true y z o p q o' p' q' m f g h e = f e
 closed-by false true true o p q o' p' q' m f g h e = e
 closed-by false true false o p q o' p' q' m f g h e = g e
@@ -83,7 +83,7 @@ Settled rest u = ((0 < length rest) × (length rest ≡ 1 → get_or rest 0 0 �
 
 abbrev pub literal_item : Bool → (whole rest : List ℕ) → Item
 literal_item b whole rest =
-    if b then (λ _. token k_fixed_literal (whole ++ b_dot ∷ longest_run is_digit_lem (drop 1 rest))) else λ _. token k_literal whole
+    if b then (λ _. token k_fixed_literal (whole ++ b_dot ∷ longest_run is_digit_lem (drop 1 rest))) otherwise λ _. token k_literal whole
 
 -- whether a literal goes on is decided by the bytes left, if these are settled
 goes-on-kept : (rest u : List ℕ) → Settled rest u → going_on (rest ++ u) ≡ going_on rest

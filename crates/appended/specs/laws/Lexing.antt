@@ -4,7 +4,7 @@ use Rattle.std.proofs.Common.{arith, inl, inr, sym, ◌∙◌, length-append, dr
 use Rattle.std.proofs.Math.Path.{refl, ap, subst}
 use Rattle.std.proofs.Math.ListN.{length, drop, length-drop}
 use Rattle.std.proofs.lemmas.List.{drop-append-le}
-use Rattle.base.specs.Choice.{if◌then◌else◌}
+use Rattle.base.specs.Choice.{if◌then◌otherwise◌}
 use Rattle.base.specs.Codes.{tokens_most}
 use Rattle.base.specs.Outcome.{Outcome, accepted}
 use Rattle.base.specs.laws.Tests.{apart}
@@ -76,7 +76,7 @@ from-tokens (suc f) s count i ts h l e = go (λ c j us n m q. from-tokens f s c 
 
     go : ((c j : ℕ) (us : List Token) → length s < f + j → j ≤ length s → next c j ≡ accepted us → HasTokens j (drop j s) us)
         → (x : Bool) → leb (length s) i ≡ x
-        → (if x then (λ _. accepted []) else λ _. turn next count i (item i (drop i s))) ≡ accepted ts → HasTokens i (drop i s) ts
+        → (if x then (λ _. accepted []) otherwise λ _. turn next count i (item i (drop i s))) ≡ accepted ts → HasTokens i (drop i s) ts
     go after true q e =
         let n : length s ≤ i = leb-true (length s) i q in
         subst (HasTokens i (drop i s)) (accepted-same e) (has-tokens-at refl (sym (drop_of_length-le s n)) no_byte)

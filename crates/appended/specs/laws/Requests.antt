@@ -4,7 +4,7 @@ use Rattle.std.proofs.Math.Path.{refl}
 use mathlib.Core.List.{List, [], ◌∷◌, ◌++◌, map}
 use Rattle.std.proofs.Math.Option.{Option, none, some}
 use Rattle.std.proofs.Math.ListN.{length, get_elem?}
-use Rattle.base.specs.Choice.{if◌then◌else◌}
+use Rattle.base.specs.Choice.{if◌then◌otherwise◌}
 use Rattle.parser.specs.Tree.{Place, Operator, Part, Expression, Statement, Variable, Class}
 use Rattle.parser.specs.Tree.{Sort.arguments}
 use Rattle.parser.specs.Tree.{Part.literal, Part.truth, Part.variable, Part.this, Part.new_array_lem, Part.new_object_lem, Part.negation, Part.binary}
@@ -79,7 +79,7 @@ same-innermost : (cs : List Call) {j k : ℕ → Context → List Value → List
 same-innermost [] f = was-stuck
 same-innermost (frame a Γ xs ∷ cs) f = f a Γ xs cs
 
-same-choice : (b : Bool) (w x y z : Unit {0} → Request Core) → w tt ≼ y tt → x tt ≼ z tt → (if b then w else x) ≼ (if b then y else z)
+same-choice : (b : Bool) (w x y z : Unit {0} → Request Core) → w tt ≼ y tt → x tt ≼ z tt → (if b then w otherwise x) ≼ (if b then y otherwise z)
 same-choice true w x y z f g = f
 same-choice false w x y z f g = g
 

@@ -13,7 +13,7 @@ use Rattle.std.proofs.lemmas.List.Edits.{sets}
 use Rattle.std.proofs.Math.Dec.{leb}
 use borrow.Author.Tests.{ltb-true, ltb-false, leb-true, leb-false, eqb-true, eqb-false, lt-ltb, le-ltb, le-leb, lt-leb, eq-eqb, ne_eqb}
 use Rattle.base.specs.All.{All, all_nil, all_cons}
-use Rattle.base.specs.Choice.{if◌then◌else◌, option}
+use Rattle.base.specs.Choice.{if◌then◌otherwise◌, option}
 use Rattle.base.specs.Codes.{null_reference, negative_size, index_out_of_range, register_out_of_range, registers_count, value_out_of_range, byte_values}
 use Rattle.base.specs.Codes.{success, budget_spent, heap_full, calls_full, output_full}
 use Rattle.base.specs.Word as Word

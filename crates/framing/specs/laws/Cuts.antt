@@ -9,7 +9,7 @@ use Rattle.std.proofs.Math.Path.{refl, sym, ap}
 use Rattle.std.proofs.Common.{◌∙◌, lt-ltb, le-ltb}
 use Rattle.std.proofs.Math.Dec.{eqb}
 use Rattle.base.specs.All.{All, all_cons}
-use Rattle.base.specs.Choice.{if◌then◌else◌}
+use Rattle.base.specs.Choice.{if◌then◌otherwise◌}
 use Rattle.base.specs.Codes.{budget_spent}
 use Rattle.frames.specs.Machine.{State, Around}
 use Rattle.frames.specs.Parts.{Report, cost, finish, run_for, run_frames, Part, one_part_lem, in_parts, prices_of, sum}
@@ -34,7 +34,7 @@ module _ (A : Around) (π : ℕ → ℕ) (h : Priced π) where
 module _ (A : Around) (π π' : ℕ → ℕ) (h : Priced π) (h' : Priced π') (c : ℕ) where
   -- the run goes on with c more where it paused
   abbrev onwards : Report → Report
-  onwards r = if eqb r.number budget_spent then (λ _. run_frames A π' r.frames (r.unspent + c) r.state) else λ _. r
+  onwards r = if eqb r.number budget_spent then (λ _. run_frames A π' r.frames (r.unspent + c) r.state) otherwise λ _. r
 
   abbrev Alike : (n k : ℕ) → Type 0
   Alike n k = (i : ℕ) → n ≤ i → i < k → π' i ≡ π i
@@ -68,7 +68,7 @@ module _ (A : Around) (π π' : ℕ → ℕ) (h : Priced π) (h' : Priced π') (
           let u : n < (run_for A π (suc f) n b s).frames = rw w (omega arith) in
           let p : cost (π' n) x ≡ cost (π n) x = ap (λ (y : ℕ). cost y x) (a n (omega arith) u) in
           run-halted A π' n (b + c) s g x e (omega (arith, p)) k q
-          ∙ sym (ap (λ (z : Bool). if z then (λ _. run_frames A π' (n + 1) (0 + c) s) else λ _. finish k (n + 1) s) o)
+          ∙ sym (ap (λ (z : Bool). if z then (λ _. run_frames A π' (n + 1) (0 + c) s) otherwise λ _. finish k (n + 1) s) o)
           ∙ ap onwards (sym w)
 
 -- two prices that are alike from a frame on
@@ -105,7 +105,7 @@ module _ (A : Around) where
       let r = one_part_lem A q n u s in
       choice (ltb i r.frames) (fair-prices q' qs r.frames r.unspent r.state h' a i)
     where
-      choice : {m : ℕ} (b : Bool) → 1 ≤ m → 1 ≤ (if b then (λ _. q.price) else λ _. m)
+      choice : {m : ℕ} (b : Bool) → 1 ≤ m → 1 ≤ (if b then (λ _. q.price) otherwise λ _. m)
       choice true k = h
       choice false k = k
 
@@ -117,7 +117,7 @@ module _ (A : Around) where
       let r = one_part_lem A q n u s in
       choice (ltb i r.frames) (most-prices c q' qs r.frames r.unspent r.state h' a i)
     where
-      choice : {m : ℕ} (b : Bool) → m ≤ c → (if b then (λ _. q.price) else λ _. m) ≤ c
+      choice : {m : ℕ} (b : Bool) → m ≤ c → (if b then (λ _. q.price) otherwise λ _. m) ≤ c
       choice true k = h
       choice false k = k
 
@@ -145,5 +145,5 @@ module _ (A : Around) where
       (r.unspent + c) r.state
       = alike A π'' π (r.unspent + c + 1) r.frames (r.unspent + c) r.state (λ i l. rw (le-ltb i r.frames l) refl) in
       let back = parts-are-one q' qs r.frames r.unspent r.state h' a in
-      ap (λ (x : Report). if eqb r.number budget_spent then (λ _. x) else λ _. r) (back ∙ sym rest)
+      ap (λ (x : Report). if eqb r.number budget_spent then (λ _. x) otherwise λ _. r) (back ∙ sym rest)
       ∙ sym whole ∙ ap (λ (y : ℕ). run_for A π (y + 1) n y s) z

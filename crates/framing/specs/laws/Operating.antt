@@ -6,7 +6,7 @@ use Rattle.std.proofs.Math.Option.{Option, none, some}
 use Rattle.std.proofs.Math.Path.{refl}
 use Rattle.std.proofs.Math.ListN.{get_elem?}
 use Rattle.std.proofs.lemmas.Bool.{eqb-false}
-use Rattle.base.specs.Choice.{if◌then◌else◌, option}
+use Rattle.base.specs.Choice.{if◌then◌otherwise◌, option}
 use Rattle.base.specs.Codes.{budget_spent, call_limit_out_of_range, calls_most, heap_too_long, heap_most, registers_not_sixteen, registers_count}
 use Rattle.base.specs.laws.Lists.{get-below}
 use Rattle.base.specs.laws.Tests.{and-true}

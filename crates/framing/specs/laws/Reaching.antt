@@ -6,7 +6,7 @@ use Rattle.std.proofs.Math.Option.{Option, none, some}
 use Rattle.std.proofs.Math.Path.{refl, ap}
 use Rattle.std.proofs.Math.ListN.{get_elem?}
 use Rattle.base.specs.All.{All, all_nil}
-use Rattle.base.specs.Choice.{if◌then◌else◌}
+use Rattle.base.specs.Choice.{if◌then◌otherwise◌}
 use Rattle.base.specs.Codes.{budget_spent, tokens_most}
 use Rattle.base.specs.laws.Lists.{drop-none}
 use Rattle.device.specs.Device.{Device, IsByte, reset, registers}
@@ -145,7 +145,7 @@ module _ (A : Around) (π : ℕ → ℕ) (h : Priced π) where
     cost-most : (q : ℕ) (x : Line) → q ≤ c → cost q x ≤ c
     cost-most q x l = by (eqb x.code 18)
       where
-        by : (b : Bool) → (if b then (λ _. q) else λ _. 1) ≤ c
+        by : (b : Bool) → (if b then (λ _. q) otherwise λ _. 1) ≤ c
         by true = l
         by false = one
 

@@ -14,7 +14,7 @@ use Rattle.std.proofs.Math.Seq.{take-suc-set}
 use Rattle.std.proofs.Math.Dec.{ltb, leb, eqb}
 use borrow.Author.Tests.{ltb-true, ltb-false, leb-true, leb-false, eqb-true, eqb-false, lt-ltb, le-ltb, le-leb, lt-leb, eq-eqb, ne_eqb}
 use Rattle.base.specs.All.{All, all_nil, all_cons}
-use Rattle.base.specs.Choice.{if◌then◌else◌, option}
+use Rattle.base.specs.Choice.{if◌then◌otherwise◌, option}
 use Rattle.base.specs.Codes.{null_reference, negative_size, index_out_of_range, register_out_of_range, registers_count, value_out_of_range, byte_values}
 use Rattle.base.specs.Codes.{success, budget_spent, heap_full, calls_full, output_full}
 use Rattle.base.specs.Word as Word
@@ -135,7 +135,7 @@ read_back d t n e =
 get-tape : (n : ℕ) (d : Device) → (after_get n d).tape ≡ d.tape
 get-tape n d = by (eqb n 2)
   where
-    by : (b : Bool) → (if b then (λ _. with_flags false d.lost d) else λ _. d).tape ≡ d.tape
+    by : (b : Bool) → (if b then (λ _. with_flags false d.lost d) otherwise λ _. d).tape ≡ d.tape
     by true = refl
     by false = refl
 
@@ -146,10 +146,10 @@ put-tape (suc (suc zero)) v d = refl
 put-tape (suc (suc (suc n))) v d = refl
 
 sample-tape : (t : List ℕ) (n : ℕ) (d : Device) → d.tape ≡ drop n t
-    → (sample d).tape ≡ drop (if ltb n (length t) then (λ _. n + 1) else λ _. n) t
+    → (sample d).tape ≡ drop (if ltb n (length t) then (λ _. n + 1) otherwise λ _. n) t
 sample-tape t n d e = by (ltb n (length t)) refl
   where
-    by : (b : Bool) → ltb n (length t) ≡ b → (sample_of d.tape d).tape ≡ drop (if b then (λ _. n + 1) else λ _. n) t
+    by : (b : Bool) → ltb n (length t) ≡ b → (sample_of d.tape d).tape ≡ drop (if b then (λ _. n + 1) otherwise λ _. n) t
     by true q =
         let l : n < length t = ltb-true n (length t) q in
         let z : n + 1 ≡ suc n = omega arith in
@@ -315,10 +315,10 @@ module _ {P : Code.Code} {L : Limits} {A : Around} (S : Stage P L A) (s : State)
     unfolding act do_unless guard Code.act
     unless-meets j [] H l = m-stuck
     unless-meets j (x ∷ vs) H l =
-        flag_by (at-stuck m _) x _ (λ b e. tell (one-goes H _ ∙ ap (λ (w : ℕ). sure (leb w 1) λ _. if eqb w 0 then (λ _. goes (steps s (j % 2 ^ 32) (s.height - 1) s.stack)) else λ _. goes (without s 1)) (ap word_of e)) (on b))
+        flag_by (at-stuck m _) x _ (λ b e. tell (one-goes H _ ∙ ap (λ (w : ℕ). sure (leb w 1) λ _. if eqb w 0 then (λ _. goes (steps s (j % 2 ^ 32) (s.height - 1) s.stack)) otherwise λ _. goes (without s 1)) (ap word_of e)) (on b))
       where
-        on : (b : Bool) → Meets A ν (L.budget ≤ m.steps) (guard L m (if b then (λ _. move (at (suc i) vs ds h)) else λ _. move (at j vs ds h)))
-            (sure (leb (word_of_flag b) 1) λ _. if eqb (word_of_flag b) 0 then (λ _. goes (steps s (j % 2 ^ 32) (s.height - 1) s.stack)) else λ _. goes (without s 1))
+        on : (b : Bool) → Meets A ν (L.budget ≤ m.steps) (guard L m (if b then (λ _. move (at (suc i) vs ds h)) otherwise λ _. move (at j vs ds h)))
+            (sure (leb (word_of_flag b) 1) λ _. if eqb (word_of_flag b) 0 then (λ _. goes (steps s (j % 2 ^ 32) (s.height - 1) s.stack)) otherwise λ _. goes (without s 1))
         on true = tell (sure-is _ _ refl) (m-goes (gone_one H))
         on false = tell (sure-is _ _ refl) (m-goes (record { place = word_line j (omega arith); stack = drop-one H.stack; heap = H.heap; meters = H.meters }))
 
@@ -328,10 +328,10 @@ module _ {P : Code.Code} {L : Limits} {A : Around} (S : Stage P L A) (s : State)
     unfolding act do_keep guard Code.act
     keep_meets j [] H l = m-stuck
     keep_meets j (x ∷ vs) H l =
-        flag_by (at-stuck m _) x _ (λ b e. tell (one-goes H _ ∙ ap (λ (w : ℕ). sure (leb w 1) λ _. if eqb w 0 then (λ _. goes (steps s (j % 2 ^ 32) s.height s.stack)) else λ _. goes (without s 1)) (ap word_of e)) (on b e))
+        flag_by (at-stuck m _) x _ (λ b e. tell (one-goes H _ ∙ ap (λ (w : ℕ). sure (leb w 1) λ _. if eqb w 0 then (λ _. goes (steps s (j % 2 ^ 32) s.height s.stack)) otherwise λ _. goes (without s 1)) (ap word_of e)) (on b e))
       where
-        on : (b : Bool) → x ≡ flag b → Meets A ν (L.budget ≤ m.steps) (guard L m (if b then (λ _. move (at (suc i) vs ds h)) else λ _. move (at j (flag false ∷ vs) ds h)))
-            (sure (leb (word_of_flag b) 1) λ _. if eqb (word_of_flag b) 0 then (λ _. goes (steps s (j % 2 ^ 32) s.height s.stack)) else λ _. goes (without s 1))
+        on : (b : Bool) → x ≡ flag b → Meets A ν (L.budget ≤ m.steps) (guard L m (if b then (λ _. move (at (suc i) vs ds h)) otherwise λ _. move (at j (flag false ∷ vs) ds h)))
+            (sure (leb (word_of_flag b) 1) λ _. if eqb (word_of_flag b) 0 then (λ _. goes (steps s (j % 2 ^ 32) s.height s.stack)) otherwise λ _. goes (without s 1))
         on true e = tell (sure-is _ _ refl) (m-goes (gone_one H))
         on false e =
             tell (sure-is _ _ refl)
@@ -648,13 +648,13 @@ module _ {P : Code.Code} {L : Limits} {A : Around} (S : Stage P L A) (s : State)
         q = H.meters.device
 
         sampled : State
-        sampled = serving s s.height s.stack (if ltb s.tape (length A.tape) then (λ _. s.tape + 1) else λ _. s.tape) 0 (sample (device A s))
+        sampled = serving s s.height s.stack (if ltb s.tape (length A.tape) then (λ _. s.tape + 1) otherwise λ _. s.tape) 0 (sample (device A s))
 
         unsampled : State
         unsampled = serving s s.height s.stack s.tape (s.marks + 1) (device A s)
 
         on : (b : Bool) → ltb m.steps L.budget ≡ b → (c : Bool) → eqb (s.marks + 1) period ≡ c
-            → Meets A ν (L.budget ≤ m.steps) (within b budget_spent p λ _. next (at (suc i) vs ds h) (charged m)) (if c then (λ _. goes sampled) else λ _. goes unsampled)
+            → Meets A ν (L.budget ≤ m.steps) (within b budget_spent p λ _. next (at (suc i) vs ds h) (charged m)) (if c then (λ _. goes sampled) otherwise λ _. goes unsampled)
         on false b c e = m-spent (ltb-false m.steps L.budget b)
         on true b true e =
             let l : s.marks + 1 ≡ 100 = eqb-true (s.marks + 1) 100 e in
@@ -666,7 +666,7 @@ module _ {P : Code.Code} {L : Limits} {A : Around} (S : Stage P L A) (s : State)
               meters = record {
                 count = H.meters.count;
                 shown = H.meters.shown;
-                device = read_back (sample (device A s)) A.tape (if ltb s.tape (length A.tape) then (λ _. s.tape + 1) else λ _. s.tape) (sample-tape A.tape s.tape (device A s) refl) ∙ ap sample q
+                device = read_back (sample (device A s)) A.tape (if ltb s.tape (length A.tape) then (λ _. s.tape + 1) otherwise λ _. s.tape) (sample-tape A.tape s.tape (device A s) refl) ∙ ap sample q
                     ∙ sym (yes-is (eqb ((m.steps + 1) % 100) 0) _ _ (eq-eqb _ _ k));
                 hundredth = sym k;
               };

@@ -8,7 +8,7 @@ use Rattle.std.proofs.lemmas.List.{length-map, length-replicate}
 use Rattle.std.proofs.lemmas.List.Edits.{sets}
 use Rattle.std.proofs.lemmas.Bool.{eqb-false, lt-leb}
 use Rattle.base.specs.All.{All, all_nil, all_cons}
-use Rattle.base.specs.Choice.{if◌then◌else◌, option}
+use Rattle.base.specs.Choice.{if◌then◌otherwise◌, option}
 use Rattle.base.specs.Codes.{null_reference, negative_size, index_out_of_range, register_out_of_range, registers_count, value_out_of_range, byte_values}
 use Rattle.base.specs.Codes.{success, budget_spent, heap_full, calls_full, output_full}
 use Rattle.base.specs.Word as Word
@@ -84,11 +84,11 @@ pub word-is : (a v : ℕ) (k : ℕ → Turn) → a ≡ v → v < modulus → wor
 unfolding word
 word-is a v k e l = sure-is (ltb a modulus) (λ _. k a) (lt-ltb a modulus (omega (arith, e))) ∙ ap k e
 
-pub yes-is : {B : Type 0} (b : Bool) (x y : Unit {0} → B) → b ≡ true → (if b then x else y) ≡ x tt
+pub yes-is : {B : Type 0} (b : Bool) (x y : Unit {0} → B) → b ≡ true → (if b then x otherwise y) ≡ x tt
 yes-is true x y e = refl
 yes-is false x y e = absurd (let z : ◌≡◌ {A = ℕ} 0 1 = cc in omega arith)
 
-pub no-is : {B : Type 0} (b : Bool) (x y : Unit {0} → B) → b ≡ false → (if b then x else y) ≡ y tt
+pub no-is : {B : Type 0} (b : Bool) (x y : Unit {0} → B) → b ≡ false → (if b then x otherwise y) ≡ y tt
 no-is true x y e = absurd (let z : ◌≡◌ {A = ℕ} 0 1 = cc in omega arith)
 no-is false x y e = refl
 
@@ -219,6 +219,6 @@ module _ {Q : Reply → Type 0} (q : AtStuck Q) where
       at-cell (array t n) e = q.at
       at-cell (slot v) e = f v e
 
-  pub choice-by : (b : Bool) (x y : Unit {0} → Reply) → (b ≡ true → Q (x tt)) → (b ≡ false → Q (y tt)) → Q (if b then x else y)
+  pub choice-by : (b : Bool) (x y : Unit {0} → Reply) → (b ≡ true → Q (x tt)) → (b ≡ false → Q (y tt)) → Q (if b then x otherwise y)
   choice-by true x y f g = f refl
   choice-by false x y f g = g refl

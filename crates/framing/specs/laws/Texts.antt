@@ -6,7 +6,7 @@ use Rattle.std.proofs.Math.Option.{Option, none, some}
 use Rattle.std.proofs.Common.{sym, ap₂, ◌∙◌, ltb-true, ltb-false, le-leb}
 use Rattle.std.proofs.Math.Path.{ap}
 use Rattle.std.proofs.lemmas.Bool.{lt-leb}
-use Rattle.base.specs.Choice.{if◌then◌else◌, option}
+use Rattle.base.specs.Choice.{if◌then◌otherwise◌, option}
 use Rattle.base.specs.Outcome.{Outcome, accepted, refused, ◌>>=◌}
 use Rattle.base.specs.Codes.{other_form}
 use Rattle.frames.specs.Numbers.{line_bytes}
@@ -17,14 +17,14 @@ digit-read : (n : ℕ) → n < 16 → digit_of (digit n) ≡ some n
 digit-read n h = by (ltb n 10) refl
   where
     at : ℕ → Option ℕ
-    at b = if leb 48 b && leb b 57 then (λ _. some (b - 48)) else λ _. if leb 97 b && leb b 102 then (λ _. some (b - 87)) else λ _. none
+    at b = if leb 48 b && leb b 57 then (λ _. some (b - 48)) otherwise λ _. if leb 97 b && leb b 102 then (λ _. some (b - 87)) otherwise λ _. none
 
-    pick : (x y : Bool) (b c : ℕ) → (x && y) ≡ true → (if x && y then (λ _. some b) else λ _. if leb 97 c && leb c 102 then (λ _. some (c - 87)) else λ _. none) ≡ some b
+    pick : (x y : Bool) (b c : ℕ) → (x && y) ≡ true → (if x && y then (λ _. some b) otherwise λ _. if leb 97 c && leb c 102 then (λ _. some (c - 87)) otherwise λ _. none) ≡ some b
     pick true true b c e = refl
     pick true false b c e = absurd (let z : ◌≡◌ {A = ℕ} 0 1 = cc in omega arith)
     pick false y b c e = absurd (let z : ◌≡◌ {A = ℕ} 0 1 = cc in omega arith)
 
-    second : (w x y z : Bool) (a b : ℕ) → x ≡ false → (y && z) ≡ true → (if w && x then (λ _. some a) else λ _. if y && z then (λ _. some b) else λ _. none) ≡ some b
+    second : (w x y z : Bool) (a b : ℕ) → x ≡ false → (y && z) ≡ true → (if w && x then (λ _. some a) otherwise λ _. if y && z then (λ _. some b) otherwise λ _. none) ≡ some b
     second true false true true a b e f = refl
     second false false true true a b e f = refl
     second w true y z a b e f = absurd (let z : ◌≡◌ {A = ℕ} 0 1 = cc in omega arith)
@@ -33,7 +33,7 @@ digit-read n h = by (ltb n 10) refl
     second false false true false a b e f = absurd (let z : ◌≡◌ {A = ℕ} 0 1 = cc in omega arith)
     second false false false z a b e f = absurd (let z : ◌≡◌ {A = ℕ} 0 1 = cc in omega arith)
 
-    by : (b : Bool) → ltb n 10 ≡ b → at (if b then (λ _. 48 + n) else λ _. 87 + n) ≡ some n
+    by : (b : Bool) → ltb n 10 ≡ b → at (if b then (λ _. 48 + n) otherwise λ _. 87 + n) ≡ some n
     by true e =
         let l : n < 10 = ltb-true n 10 e in
         let z : 48 + n - 48 ≡ n = omega arith in
@@ -118,7 +118,7 @@ read-lines [] zero i h = refl
 read-lines [] (suc f) i h = refl
 read-lines (x ∷ xs) zero i h = absurd (omega arith)
 read-lines (x ∷ xs) (suc f) i h =
-    ap (λ (b : Bool). if b then (λ _. accepted []) else λ _. single_line (text (x ∷ xs)) (refused other_form i) λ y s. lines_from f (i + line_bytes) s >>= λ ys. accepted (y ∷ ys))
+    ap (λ (b : Bool). if b then (λ _. accepted []) otherwise λ _. single_line (text (x ∷ xs)) (refused other_form i) λ y s. lines_from f (i + line_bytes) s >>= λ ys. accepted (y ∷ ys))
     (more-there x.code (in_hex 8 x.operand (10 ∷ text xs)))
     ∙ one_line x (text xs) (refused other_form i) (λ y s. lines_from f (i + line_bytes) s >>= λ ys. accepted (y ∷ ys))
     ∙ ap (λ (o : Outcome (List Line)). o >>= λ ys. accepted (reduced x ∷ ys)) (read-lines xs f (i + line_bytes) (omega arith))

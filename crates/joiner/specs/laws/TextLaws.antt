@@ -6,7 +6,7 @@ use Rattle.std.proofs.Math.Path.{refl, sym, ap, subst}
 use Rattle.std.proofs.Common.{◌∙◌, lt-ltb}
 use mathlib.Core.List.{List, ◌∷◌, ◌++◌}
 use Rattle.std.proofs.Math.ListN.{length}
-use Rattle.base.specs.Choice.{if◌then◌else◌}
+use Rattle.base.specs.Choice.{if◌then◌otherwise◌}
 use Rattle.base.specs.Codes.{tokens_most}
 use Rattle.base.specs.Outcome.{accepted}
 use Rattle.base.specs.promises.Table.{col, c_start}
@@ -79,4 +79,4 @@ module _ (s : List ℕ) {ts : List Token} {p : Program} (lexed : tokens s ≡ ac
       ∙ sym (brace-end lib ls read (first_token ls ks - 1) inside brace) in
       let rest = kept-is Ds h.2 g.1 n (omega arith) in
       rw (lt-ltb row absent below, h.1, taken)
-      (λ j. if occurs k.name.text (names_of p) then (λ _. rest j) else λ _. slice (from j) (to j) lib ++ b_line_feed ∷ rest j)
+      (λ j. if occurs k.name.text (names_of p) then (λ _. rest j) otherwise λ _. slice (from j) (to j) lib ++ b_line_feed ∷ rest j)

@@ -5,7 +5,7 @@ use Rattle.std.proofs.Common.{ap, ◌∙◌}
 use Rattle.std.proofs.lemmas.List.{map-append}
 use Rattle.base.specs.All.{All, all_nil, all_cons}
 use Rattle.base.specs.Bytes.{same}
-use Rattle.base.specs.Choice.{if◌then◌else◌}
+use Rattle.base.specs.Choice.{if◌then◌otherwise◌}
 use Rattle.base.specs.laws.Lists.{All2, all2-nil, all2-cons}
 use Rattle.base.specs.laws.Tests.{same_refl}
 use Rattle.lexer.specs.Bytes.{b_line_feed}
@@ -63,7 +63,7 @@ names_in ls taken [] cs h = all_nil
 names_in ls taken (k ∷ ks) cs h = by (occurs k.name.text taken) refl cs h (λ ds w. names_in ls taken ks ds w)
   where
     by : (b : Bool) → occurs k.name.text taken ≡ b → (cs : List Class)
-        → All2 (Copy ls) (if b then (λ _. kept_classes taken ks) else λ _. k ∷ kept_classes taken ks) cs
+        → All2 (Copy ls) (if b then (λ _. kept_classes taken ks) otherwise λ _. k ∷ kept_classes taken ks) cs
         → ((ds : List Class) → All2 (Copy ls) (kept_classes taken ks) ds → All (NameIn taken ds) ks) → All (NameIn taken cs) (k ∷ ks)
     by true e cs h behind = all_cons (ap (λ (b : Bool). b || occurs k.name.text (class_names cs)) e) (behind cs h)
     by false e (c ∷ cs) (all2-cons w h) behind = all_cons (its-name taken k c cs w) (one_more taken c cs ks (behind cs h))

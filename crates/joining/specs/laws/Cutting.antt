@@ -8,7 +8,7 @@ use Rattle.std.proofs.Math.Option.{Option, none, some}
 use Rattle.std.proofs.Math.Path.{refl, sym, ap}
 use Rattle.std.proofs.Math.ListN.{length, drop, length-drop, length-append}
 use Rattle.std.proofs.Math.Seq.{drop-append-le}
-use Rattle.base.specs.Choice.{if◌then◌else◌}
+use Rattle.base.specs.Choice.{if◌then◌otherwise◌}
 use Rattle.base.specs.laws.Tests.{apart, and-true, and-false}
 use Rattle.lexer.specs.Bytes.{b_line_feed, b_slash, b_star, b_ampersand, b_dot, is_blank, is_letter, is_digit_lem, is_name_part_lem}
 use Rattle.lexer.specs.Kinds.{k_fixed_literal, word_kind_lem}
@@ -30,9 +30,9 @@ unfolding longest_run
 run-cut p [] u h = no_longer (longest_run p u) h
 run-cut p (b ∷ a) u h = go (p b) h (run-cut p a u)
   where
-    go : (c : Bool) → length (if c then (λ _. b ∷ longest_run p (a ++ u)) else λ _. []) ≤ suc (length a)
+    go : (c : Bool) → length (if c then (λ _. b ∷ longest_run p (a ++ u)) otherwise λ _. []) ≤ suc (length a)
         → (length (longest_run p (a ++ u)) ≤ length a → longest_run p a ≡ longest_run p (a ++ u))
-        → (if c then (λ _. b ∷ longest_run p a) else λ _. []) ≡ (if c then (λ _. b ∷ longest_run p (a ++ u)) else λ _. [])
+        → (if c then (λ _. b ∷ longest_run p a) otherwise λ _. []) ≡ (if c then (λ _. b ∷ longest_run p (a ++ u)) otherwise λ _. [])
     go true h f = ap (λ (l : List ℕ). b ∷ l) (f (omega arith))
     go false h f = refl
 
@@ -41,7 +41,7 @@ run-cut p (b ∷ a) u h = go (p b) h (run-cut p a u)
 -- which of three tests gave an answer of `closing`
 by_answer : (R : Type 0) (x y z : Bool) (o p q : Unit {0} → Option ℕ) (m : ℕ) {j : ℕ}
     → (o tt ≡ some j → R) → (p tt ≡ some j → R) → (q tt ≡ some j → R) → (m ≡ j → R)
-    → (if x then o else λ _. if y then (λ _. if z then (λ _. some m) else p) else q) ≡ some j → R
+    → (if x then o otherwise λ _. if y then (λ _. if z then (λ _. some m) otherwise p) otherwise q) ≡ some j → R
 by_answer R true y z o p q m f g h k e = f e
 by_answer R false true true o p q m f g h k e = k (cc)
 by_answer R false true false o p q m f g h k e = g e

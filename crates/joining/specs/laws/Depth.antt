@@ -2,7 +2,7 @@
 use Rattle.std.specs.Prelude.{ℕ, ◌+◌, ◌≡◌, refl, Bool, true, false, ltb}
 use mathlib.Core.List.{List, [], ◌∷◌, ◌++◌, map}
 use Rattle.std.proofs.Math.Option.{Option, none, some}
-use Rattle.base.specs.Choice.{if◌then◌else◌}
+use Rattle.base.specs.Choice.{if◌then◌otherwise◌}
 use Rattle.base.specs.Codes.{depth_most}
 use Rattle.base.specs.laws.Tests.{apart}
 use Rattle.parser.specs.Tree.{Place, Sort, Part, Method, Class}
@@ -26,7 +26,7 @@ both-least each each = each
 here : (d : ℕ) (p q : Place) → BothDeep (deep_here d p) (deep_here d q)
 here d p q = go (ltb depth_most d)
   where
-    go : (b : Bool) → BothDeep (if b then (λ _. some p.start) else λ _. none) (if b then (λ _. some q.start) else λ _. none)
+    go : (b : Bool) → BothDeep (if b then (λ _. some p.start) otherwise λ _. none) (if b then (λ _. some q.start) otherwise λ _. none)
     go true = each
     go false = neither
 

@@ -6,7 +6,7 @@ use Rattle.std.proofs.Math.Decide.{dec_lt}
 use Rattle.std.proofs.Math.Path.{refl}
 use Rattle.std.proofs.Math.Option.{Option, none, some}
 use Rattle.std.proofs.Math.ListN.{get_or-eq_default}
-use Rattle.base.specs.Choice.{if◌then◌else◌}
+use Rattle.base.specs.Choice.{if◌then◌otherwise◌}
 use Rattle.base.specs.Codes.{source_too_long, source_most, not_in_grammar, too_deep}
 use Rattle.base.specs.Outcome.{Outcome, accepted, refused}
 use Rattle.lexer.specs.Tokens.{Token, tokens}
@@ -139,13 +139,13 @@ module _ (lib : List ℕ) where
           → reading_library lib ≡ refused not_in_grammar (start_at ls k)
       at-token k l v n =
           not-parsed k (first-misfit ls (proper lib ls lexed) k (omega arith) v (λ _. n) (λ s. n (ls, s, refl)))
-          ∙ ap (λ b. refused not_in_grammar (if b then (λ _. start_at ls k) else λ _. length lib)) (lt-ltb k (length ls) l)
+          ∙ ap (λ b. refused not_in_grammar (if b then (λ _. start_at ls k) otherwise λ _. length lib)) (lt-ltb k (length ls) l)
 
       pub at-end : ViableLibrary ls (length ls) → ¬ Library ls → reading_library lib ≡ refused not_in_grammar (length lib)
       at-end v n =
           let k = length ls in
           not-parsed k (first-misfit ls (proper lib ls lexed) k (omega arith) v (λ lt. absurd (omega arith)) n)
-          ∙ ap (λ b. refused not_in_grammar (if b then (λ _. start_at ls k) else λ _. length lib)) (le-ltb k k (omega arith))
+          ∙ ap (λ b. refused not_in_grammar (if b then (λ _. start_at ls k) otherwise λ _. length lib)) (le-ltb k k (omega arith))
 
       pub deep-library : {ks : List Class} {at : ℕ} → DerivesClasses ls 0 (length ls) ks → classes_deep ks ≡ some at
           → reading_library lib ≡ refused too_deep at

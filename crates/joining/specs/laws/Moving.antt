@@ -2,7 +2,7 @@
 use Rattle.std.specs.Prelude.{ℕ, ◌+◌, ◌-◌, ◌<◌, List, [], ◌∷◌, map, Bool, true, false, ◌&&◌, ◌≡◌, refl, length, drop, eqb}
 use Rattle.std.proofs.Common.{add-zero, arith, sym, ap, ◌∙◌, subst}
 use Rattle.std.proofs.Math.Option.{Option, none, some}
-use Rattle.base.specs.Choice.{if◌then◌else◌}
+use Rattle.base.specs.Choice.{if◌then◌otherwise◌}
 use Rattle.base.specs.laws.Tests.{apart}
 use Rattle.lexer.specs.Bytes.{b_slash, b_star, b_ampersand, is_blank, is_letter, is_digit_lem}
 use Rattle.lexer.specs.Kinds.{k_end, mark_kind_lem}
@@ -26,8 +26,8 @@ move_end d (some j) = some (d + j)
 
 moved_by : (d : ℕ) (x y z : Bool) (o p q o' p' q' : Unit {0} → Option ℕ) (m m' : ℕ)
     → o' tt ≡ move_end d (o tt) → p' tt ≡ move_end d (p tt) → q' tt ≡ move_end d (q tt) → m' ≡ d + m
-    → (if x then o' else λ _. if y then (λ _. if z then (λ _. some m') else p') else q')
-    ≡ move_end d (if x then o else λ _. if y then (λ _. if z then (λ _. some m) else p) else q)
+    → (if x then o' otherwise λ _. if y then (λ _. if z then (λ _. some m') otherwise p') otherwise q')
+    ≡ move_end d (if x then o otherwise λ _. if y then (λ _. if z then (λ _. some m) otherwise p) otherwise q)
 moved_by d true y z o p q o' p' q' m m' f g h e = f
 moved_by d false true true o p q o' p' q' m m' f g h e = ap (λ (n : ℕ). some n) e
 moved_by d false true false o p q o' p' q' m m' f g h e = g
@@ -49,8 +49,8 @@ comment-moved d (some j) = refl
 mark-moved : (d b k : ℕ) → mark b k ≡ move_item d (mark b k)
 mark-moved d b k = go (eqb k k_end)
   where
-    go : (c : Bool) → (if c then (λ _. nothing) else λ _. token k (b ∷ [])) ≡ move_item d
-        (if c then (λ _. nothing) else λ _. token k (b ∷ []))
+    go : (c : Bool) → (if c then (λ _. nothing) otherwise λ _. token k (b ∷ [])) ≡ move_item d
+        (if c then (λ _. nothing) otherwise λ _. token k (b ∷ []))
     go true = refl
     go false = refl
 

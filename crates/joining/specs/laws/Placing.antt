@@ -7,7 +7,7 @@ use Rattle.std.proofs.Math.Path.{refl}
 use Rattle.std.proofs.Math.Option.{none}
 use Rattle.std.proofs.lemmas.List.{length-map}
 use Rattle.std.proofs.Math.ListN.{get_or-append, get_or-map}
-use Rattle.base.specs.Choice.{if◌then◌else◌}
+use Rattle.base.specs.Choice.{if◌then◌otherwise◌}
 use Rattle.base.specs.Codes.{tokens_most, source_most}
 use Rattle.base.specs.laws.Lists.{All2, all2-nil, all2-cons, get_d_default}
 use Rattle.base.specs.Outcome.{accepted}
@@ -137,8 +137,8 @@ module _ {lib : List ℕ} {ls : List Token} (h : HasTokens 0 lib ls) where
     kept-placed (more-classes {i = i} {m = m} {c = k} {cs = ks} D Ds) d = go (occurs k.name.text taken) (λ e. kept-placed Ds e)
       where
         go : (b : Bool) → ((e : ℕ) → Placed ls (kept_classes taken ks) (kept_text taken lib ls ks) e)
-            → Placed ls (if b then (λ _. kept_classes taken ks) else λ _. k ∷ kept_classes taken ks)
-            (if b then (λ _. kept_text taken lib ls ks) else λ _. class_text lib ls k ks ++ b_line_feed ∷ kept_text taken lib ls ks) d
+            → Placed ls (if b then (λ _. kept_classes taken ks) otherwise λ _. k ∷ kept_classes taken ks)
+            (if b then (λ _. kept_text taken lib ls ks) otherwise λ _. class_text lib ls k ks ++ b_line_feed ∷ kept_text taken lib ls ks) d
         go true f = f d
         go false f =
             subst (λ (x : List ℕ). Placed ls (k ∷ kept_classes taken ks) (x ++ b_line_feed ∷ kept_text taken lib ls ks) d)

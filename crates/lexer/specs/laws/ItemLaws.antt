@@ -10,7 +10,7 @@ use Rattle.std.proofs.Math.ListN.{length, take, drop, length-append, length-drop
 use Rattle.std.proofs.Math.Dec.{eqb, lit<}
 use Rattle.std.proofs.Math.Seq.{drop-append-add, take-add}
 use Rattle.base.specs.Bytes.{same}
-use Rattle.base.specs.Choice.{if◌then◌else◌}
+use Rattle.base.specs.Choice.{if◌then◌otherwise◌}
 use Rattle.base.specs.All.{All, all_nil, all_cons}
 use Rattle.base.specs.laws.Tests.{apart, and-true, and-false, or-neither, if-both}
 use Rattle.lexer.specs.Bytes.{b_line_feed, b_underscore, b_slash, b_ampersand, b_less, b_plus, b_minus, b_star, b_exclamation, b_equals, b_dot}
@@ -49,7 +49,7 @@ run-front p [] = refl
 run-front p (b ∷ l) = go (p b) (run-front p l)
   where
     go : (c : Bool) → take (length (longest_run p l)) l ≡ longest_run p l
-        → take (length (if c then (λ _. b ∷ longest_run p l) else λ _. [])) (b ∷ l) ≡ (if c then (λ _. b ∷ longest_run p l) else λ _. [])
+        → take (length (if c then (λ _. b ∷ longest_run p l) otherwise λ _. [])) (b ∷ l) ≡ (if c then (λ _. b ∷ longest_run p l) otherwise λ _. [])
     go true e = ap (λ (r : List ℕ). b ∷ r) e
     go false e = refl
 
@@ -58,7 +58,7 @@ unfolding longest_run
 run_short p [] = omega arith
 run_short p (b ∷ l) = go (p b) (run_short p l)
   where
-    go : (c : Bool) → length (longest_run p l) ≤ length l → length (if c then (λ _. b ∷ longest_run p l) else λ _. []) ≤ suc (length l)
+    go : (c : Bool) → length (longest_run p l) ≤ length l → length (if c then (λ _. b ∷ longest_run p l) otherwise λ _. []) ≤ suc (length l)
     go true h = omega arith
     go false h = omega arith
 
@@ -69,7 +69,7 @@ run-all p [] = all_nil
 run-all p (b ∷ l) = go (p b) refl (run-all p l)
   where
     go : (c : Bool) → p b ≡ c → All (λ d. p d ≡ true) (longest_run p l)
-        → All (λ d. p d ≡ true) (if c then (λ _. b ∷ longest_run p l) else λ _. [])
+        → All (λ d. p d ≡ true) (if c then (λ _. b ∷ longest_run p l) otherwise λ _. [])
     go true e h = all_cons e h
     go false e h = all_nil
 
@@ -240,12 +240,12 @@ Good i bs (token k t) = Shape k t bs
 abbrev pub chosen : (i b : ℕ) (r : List ℕ) (blank line block letter digit and : Bool) → Item
 chosen i b r blank line block letter digit and =
     let bs = b ∷ r in
-    if blank then (λ _. gap (i + 1)) else λ _.
-    if line then (λ _. gap (i + length (longest_run (λ c. not (eqb c b_line_feed)) bs))) else λ _.
-    if block then (λ _. comment (closing 1 (i + 2) (drop 2 bs))) else λ _.
-    if letter then (λ _. let text = longest_run is_name_part_lem bs in token (word_kind_lem text) text) else λ _.
-    if digit then (λ _. numeral bs) else λ _.
-    if and then (λ _. token k_and (b_ampersand ∷ b_ampersand ∷ [])) else λ _.
+    if blank then (λ _. gap (i + 1)) otherwise λ _.
+    if line then (λ _. gap (i + length (longest_run (λ c. not (eqb c b_line_feed)) bs))) otherwise λ _.
+    if block then (λ _. comment (closing 1 (i + 2) (drop 2 bs))) otherwise λ _.
+    if letter then (λ _. let text = longest_run is_name_part_lem bs in token (word_kind_lem text) text) otherwise λ _.
+    if digit then (λ _. numeral bs) otherwise λ _.
+    if and then (λ _. token k_and (b_ampersand ∷ b_ampersand ∷ [])) otherwise λ _.
     mark b (mark_kind_lem b)
 
 module _ (i b : ℕ) (r : List ℕ) where
@@ -328,7 +328,7 @@ module _ (i b : ℕ) (r : List ℕ) where
       by : (c : Bool) → (eqb (get_or rest 0 0) b_dot && is_digit_lem (get_or rest 1 0)) ≡ c
           → Good i (b ∷ r)
           (if c then (λ _. token k_fixed_literal (longest_run is_digit_lem (b ∷ r) ++ b_dot ∷ longest_run is_digit_lem (drop 1 rest)))
-          else λ _. token k_literal (longest_run is_digit_lem (b ∷ r)))
+          otherwise λ _. token k_literal (longest_run is_digit_lem (b ∷ r)))
       by true q = good-fixed e (eqb-true (get_or rest 0 0) b_dot (and-true (eqb (get_or rest 0 0) b_dot) (is_digit_lem (get_or rest 1 0)) q).0)
       by false q = good-literal e
 
@@ -347,7 +347,7 @@ module _ (i b : ℕ) (r : List ℕ) where
   }
 
   good-mark : (k : ℕ) → mark_kind_lem b ≡ k → KindFits k → is_name_lem k ≡ false → (z : Bool) → eqb k 0 ≡ z
-      → Good i (b ∷ r) (if z then (λ _. nothing) else λ _. token k (b ∷ []))
+      → Good i (b ∷ r) (if z then (λ _. nothing) otherwise λ _. token k (b ∷ []))
   good-mark k m h n true e = tt
   good-mark k m h n false e = record {
     positive = not-zero k (eqb-false k 0 e);

@@ -6,7 +6,7 @@ use Rattle.std.proofs.Math.Path.{refl}
 use Rattle.std.proofs.Math.ListN.{get_elem?}
 use Rattle.std.proofs.lemmas.Bool.{eqb-false, not-false}
 use Rattle.base.specs.Bytes.{same}
-use Rattle.base.specs.Choice.{if◌then◌else◌}
+use Rattle.base.specs.Choice.{if◌then◌otherwise◌}
 use Rattle.base.specs.Codes.{tokens_most, name_most, literal_most, leading_zero, not_three_digits, literal_too_large, name_too_long, too_many_tokens}
 use Rattle.base.specs.laws.Lists.{get-below}
 use Rattle.base.specs.Outcome.{Outcome, accepted, refused, ◌>>=◌}
@@ -46,7 +46,7 @@ first-least (t ∷ ts) zero x n =
 first-least (t ∷ ts) (suc i) x n =
     go (hit t x) (first-least ts i x (record { item = n.item; at = n.at; named = n.named; text = n.text }))
   where
-    go : (c : Bool) → first_named ts x ≤ i → (if c then (λ _. 0) else λ _. first_named ts x + 1) ≤ suc i
+    go : (c : Bool) → first_named ts x ≤ i → (if c then (λ _. 0) otherwise λ _. first_named ts x + 1) ≤ suc i
     go true h = omega arith
     go false h = omega arith
 
@@ -56,9 +56,9 @@ unfolding first_named
 first-named [] x h = absurd (omega arith)
 first-named (t ∷ ts) x h = go (hit t x) refl h (first-named ts x)
   where
-    go : (c : Bool) → hit t x ≡ c → (if c then (λ _. 0) else λ _. first_named ts x + 1) < suc (length ts)
+    go : (c : Bool) → hit t x ≡ c → (if c then (λ _. 0) otherwise λ _. first_named ts x + 1) < suc (length ts)
         → (first_named ts x < length ts → NameToken ts (first_named ts x) x)
-        → NameToken (t ∷ ts) (if c then (λ _. 0) else λ _. first_named ts x + 1) x
+        → NameToken (t ∷ ts) (if c then (λ _. 0) otherwise λ _. first_named ts x + 1) x
     go true e l f =
         let q = and-true (is_name_lem t.kind) (same t.text x) e in
         record { item = t; at = refl; named = q.0; text = same-equal t.text x q.1 }
@@ -71,7 +71,7 @@ unfolding first_named
 first-most [] x = omega arith
 first-most (t ∷ ts) x = go (hit t x) (first-most ts x)
   where
-    go : (c : Bool) → first_named ts x ≤ length ts → (if c then (λ _. 0) else λ _. first_named ts x + 1) ≤ suc (length ts)
+    go : (c : Bool) → first_named ts x ≤ length ts → (if c then (λ _. 0) otherwise λ _. first_named ts x + 1) ≤ suc (length ts)
     go true h = omega arith
     go false h = omega arith
 
@@ -82,7 +82,7 @@ first-none [] x f = refl
 first-none (t ∷ ts) x f =
     go (hit t x) refl (first-none ts x (λ i n. f (suc i) (record { item = n.item; at = n.at; named = n.named; text = n.text })))
   where
-    go : (c : Bool) → hit t x ≡ c → first_named ts x ≡ length ts → (if c then (λ _. 0) else λ _. first_named ts x + 1) ≡ suc (length ts)
+    go : (c : Bool) → hit t x ≡ c → first_named ts x ≡ length ts → (if c then (λ _. 0) otherwise λ _. first_named ts x + 1) ≡ suc (length ts)
     go true e h =
         let q = and-true (is_name_lem t.kind) (same t.text x) e in
         absurd (f zero (record { item = t; at = refl; named = q.0; text = same-equal t.text x q.1 }))
@@ -94,7 +94,7 @@ pub first-stable : (ts us : List Token) (t : Token) → is_name_lem t.kind ≡ t
 unfolding first_named
 first-stable [] us t n = rw (hit-true t t.text n refl)
 first-stable (u ∷ ts) us t n =
-    ap (λ (k : ℕ). if hit u t.text then (λ _. 0) else λ _. k + 1) (first-stable ts us t n)
+    ap (λ (k : ℕ). if hit u t.text then (λ _. 0) otherwise λ _. k + 1) (first-stable ts us t n)
 
 -- token i of ts is the name t
 module _ (ts : List Token) (i : ℕ) (t : Token) (at : get_elem? ts i ≡ some t) (named : is_name_lem t.kind ≡ true) where
@@ -167,11 +167,11 @@ module _
     of-token : (k : ℕ) (t : List ℕ) → item i (drop i s) ≡ token k t → Shape k t (drop i s) → (x y w v z : Bool) → eqb count tokens_most ≡ x →
         exceeds_length k t ≡ y
         → zero_first k t ≡ w → not_three k t ≡ v → too_large k t ≡ z
-        → (if x then (λ _. refused too_many_tokens i) else λ _.
-        if y then (λ _. refused name_too_long i) else λ _.
-        if w then (λ _. refused leading_zero i) else λ _.
-        if v then (λ _. refused not_three_digits i) else λ _.
-        if z then (λ _. refused literal_too_large i) else λ _.
+        → (if x then (λ _. refused too_many_tokens i) otherwise λ _.
+        if y then (λ _. refused name_too_long i) otherwise λ _.
+        if w then (λ _. refused leading_zero i) otherwise λ _.
+        if v then (λ _. refused not_three_digits i) otherwise λ _.
+        if z then (λ _. refused literal_too_large i) otherwise λ _.
         next (count + 1) (i + length t) >>= λ us. accepted ((record { kind = k; start = i; text = t }) ∷ us))
         ≡ accepted ts → Sequence s count i ts
     of-token k t b g true y w v z ex ey ew ev ez e = never e
@@ -237,7 +237,7 @@ sequence-from (suc f) s count i ts h e = go (λ c j us k q. sequence-from f s c 
     next c j = tokens_from f s c j
 
     go : ((c j : ℕ) (us : List Token) → c ≤ tokens_most → next c j ≡ accepted us → Sequence s c j us) → (c : Bool) → leb (length s) i ≡ c
-        → (if c then (λ _. accepted []) else λ _. turn next count i (item i (drop i s))) ≡ accepted ts → Sequence s count i ts
+        → (if c then (λ _. accepted []) otherwise λ _. turn next count i (item i (drop i s))) ≡ accepted ts → Sequence s count i ts
     go after true l q = subst (Sequence s count i) (accepted-eq q) finish
     go after false l q =
         let inside = leb-false (length s) i l in

@@ -2,7 +2,7 @@
 use Rattle.std.specs.Prelude.{ℕ, ◌≤◌, List, [], ◌∷◌, ◌≢◌, Bool, true, false, ◌&&◌, ◌≡◌, refl, length, eqb, leb}
 use Rattle.std.proofs.Common.{arith, leb-true}
 use Rattle.std.proofs.lemmas.Bool.{eqb-false}
-use Rattle.base.specs.Choice.{if◌then◌else◌}
+use Rattle.base.specs.Choice.{if◌then◌otherwise◌}
 use Rattle.base.specs.laws.Tests.{and-true, same-unlike}
 use Rattle.lexer.specs.Kinds.{Word, words, kind_in, word_kind_lem, k_name}
 use Rattle.lexer.specs.promises.Words.{has_length}
@@ -12,7 +12,7 @@ skip [] t = refl
 skip (w ∷ ws) t = step (skip ws t) (eqb (length w.text) (length t)) refl
   where
     step : kind_in ws t ≡ kind_in (has_length (length t) ws) t → (b : Bool) → eqb (length w.text) (length t) ≡ b
-        → kind_in (w ∷ ws) t ≡ kind_in (if b then (λ _. w ∷ has_length (length t) ws) else λ _. has_length (length t) ws) t
+        → kind_in (w ∷ ws) t ≡ kind_in (if b then (λ _. w ∷ has_length (length t) ws) otherwise λ _. has_length (length t) ws) t
     step r true e = rw r refl
     step r false e = rw (same-unlike w.text t (eqb-false (length w.text) (length t) e)) r
 

@@ -11,7 +11,7 @@ use Rattle.std.proofs.Math.Bool.{true, false}
 use Rattle.std.proofs.Math.Option.{Option, none, some}
 use Rattle.std.proofs.Math.ListN.{length}
 use Rattle.base.specs.Bytes.{same}
-use Rattle.base.specs.Choice.{if◌then◌else◌, option}
+use Rattle.base.specs.Choice.{if◌then◌otherwise◌, option}
 use Rattle.base.specs.All.{All, all_nil, all_cons}
 use Rattle.base.specs.laws.Lists.{all-weaken}
 use Rattle.base.specs.laws.Tests.{apart, or-neither, not-true, same_refl, same-sym}
@@ -123,7 +123,7 @@ among-more c (x ∷ w) k = first (same (class_name x) c) _ (among c w) _ (among-
 -- the classes of a table that are not written
 unwritten : List Class → List Class → List Class
 unwritten w [] = []
-unwritten w (k ∷ ks) = if among (class_name k) w then (λ _. unwritten w ks) else λ _. k ∷ unwritten w ks
+unwritten w (k ∷ ks) = if among (class_name k) w then (λ _. unwritten w ks) otherwise λ _. k ∷ unwritten w ks
 
 unwritten-all : (G : List Class) → unwritten [] G ≡ G
 unfolding unwritten among
@@ -176,8 +176,8 @@ module _ (w : List Class) (k : Class) where
   take_out (x ∷ xs) ys (distinct_more o d) n = rw (other-among x (occurs-among (class_name x) xs ys o)) (go (take_out xs ys d n) (among (class_name x) w))
     where
       go : Permᴰ (k ∷ unwritten (w ++ k ∷ []) (xs ++ k ∷ ys)) (unwritten w (xs ++ k ∷ ys)) → (b : Bool)
-          → Permᴰ (k ∷ (if b then (λ _. unwritten (w ++ k ∷ []) (xs ++ k ∷ ys)) else λ _. x ∷ unwritten (w ++ k ∷ []) (xs ++ k ∷ ys)))
-          (if b then (λ _. unwritten w (xs ++ k ∷ ys)) else λ _. x ∷ unwritten w (xs ++ k ∷ ys))
+          → Permᴰ (k ∷ (if b then (λ _. unwritten (w ++ k ∷ []) (xs ++ k ∷ ys)) otherwise λ _. x ∷ unwritten (w ++ k ∷ []) (xs ++ k ∷ ys)))
+          (if b then (λ _. unwritten w (xs ++ k ∷ ys)) otherwise λ _. x ∷ unwritten w (xs ++ k ∷ ys))
       go h true = h
       go h false = Permᴰ.trans (Permᴰ.swap refl refl) (Permᴰ.cons refl h)
 

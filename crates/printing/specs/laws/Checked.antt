@@ -3,7 +3,7 @@ use Rattle.std.specs.Prelude.{ℕ, ◌≡◌, refl, Bool, true, false, ◌&&◌,
 use Rattle.std.proofs.Common.{sym, ap, ◌∙◌, subst}
 use mathlib.Core.List.{List, [], ◌∷◌, ◌++◌, map}
 use Rattle.std.proofs.Math.Option.{Option, none, some}
-use Rattle.base.specs.Choice.{if◌then◌else◌, option}
+use Rattle.base.specs.Choice.{if◌then◌otherwise◌, option}
 use Rattle.base.specs.Codes.{parent_unknown, bad_redeclaration, variables_most}
 use Rattle.base.specs.Outcome.{Outcome, accepted, refused, ◌>>=◌}
 use Rattle.base.specs.laws.Tests.{apart}
@@ -41,7 +41,7 @@ and_then neither h = neither
 
 -- one test on both sides, and one look-up
 tested : {A : Type 0} (b : Bool) {x x₂ y y₂ : Outcome A} → Alike x x₂ → Alike y y₂
-    → Alike (if b then (λ _. x) else λ _. y) (if b then (λ _. x₂) else λ _. y₂)
+    → Alike (if b then (λ _. x) otherwise λ _. y) (if b then (λ _. x₂) otherwise λ _. y₂)
 tested true h g = h
 tested false h g = g
 
@@ -197,9 +197,9 @@ module _ (G : List Class) where
     where
       go : (o : Option Found) → Alike {A = Unit {0}}
           (option (mapped erase_found o) (accepted tt) λ F.
-          if redeclares (erase_classes G) (erase_method m) F.method then (λ _. accepted tt) else λ _. refused bad_redeclaration 0)
+          if redeclares (erase_classes G) (erase_method m) F.method then (λ _. accepted tt) otherwise λ _. refused bad_redeclaration 0)
           (option o (accepted tt) λ F.
-          if redeclares G m F.method then (λ _. accepted tt) else λ _. refused bad_redeclaration m.name.start)
+          if redeclares G m F.method then (λ _. accepted tt) otherwise λ _. refused bad_redeclaration m.name.start)
       go none = both
       go (some F) =
           rw (types-erase m.parameters F.method.parameters, fits-erase G m.result.type F.method.result.type)

@@ -2,7 +2,7 @@
 use Rattle.std.specs.Prelude.{ℕ, ◌+◌, ◌≡◌, refl, List, [], ◌∷◌, Bool, true, false, ◌&&◌, not, ltb}
 use Rattle.std.proofs.Common.{sym, ap, ◌∙◌}
 use Rattle.std.proofs.Math.Option.{Option, none, some}
-use Rattle.base.specs.Choice.{if◌then◌else◌}
+use Rattle.base.specs.Choice.{if◌then◌otherwise◌}
 use Rattle.base.specs.Codes.{depth_most}
 use Rattle.base.specs.laws.Tests.{apart}
 use Rattle.parser.specs.Tree.{Place, Sort, Part, Method, Class, Program}
@@ -25,7 +25,7 @@ free-least (some a) (some b) = refl
 free-here : (d : ℕ) (p : Place) → free (deep_here d p) ≡ not (ltb depth_most d)
 free-here d p = go (ltb depth_most d)
   where
-    go : (b : Bool) → free (if b then (λ _. some p.start) else λ _. none) ≡ not b
+    go : (b : Bool) → free (if b then (λ _. some p.start) otherwise λ _. none) ≡ not b
     go true = refl
     go false = refl
 

@@ -3,7 +3,7 @@ use Rattle.std.specs.Prelude.{ℕ, zero, suc, ◌+◌, ◌*◌, ◌-◌, ◌/◌
 use Rattle.std.proofs.Common.{sym, ap, ◌∙◌, subst, arith, le-leb, le-ltb, ltb-true, ltb-false, ne_eqb, length-append}
 use Rattle.std.proofs.Math.Seq.{drop-append-add}
 use Rattle.base.specs.All.{All, all_nil, all_cons}
-use Rattle.base.specs.Choice.{if◌then◌else◌}
+use Rattle.base.specs.Choice.{if◌then◌otherwise◌}
 use Rattle.base.specs.Codes.{literal_most}
 use Rattle.base.specs.Word.{per_unit}
 use Rattle.base.specs.laws.Lists.{all_append}
@@ -31,7 +31,7 @@ value_of zero n l = absurd (omega arith)
 value_of (suc f) n l = go (ltb n 10) refl (value_of f (n / 10))
   where
     go : (b : Bool) → ltb n 10 ≡ b → (n / 10 < f → decimal 0 (digits_of f (n / 10)) ≡ n / 10)
-        → decimal 0 (if b then (λ _. (b_zero + n) ∷ []) else λ _. digits_of f (n / 10) ++ (b_zero + n % 10) ∷ []) ≡ n
+        → decimal 0 (if b then (λ _. (b_zero + n) ∷ []) otherwise λ _. digits_of f (n / 10) ++ (b_zero + n % 10) ∷ []) ≡ n
     go true e h = omega arith
     go false e h =
         let q = ltb-false n 10 e in
@@ -51,7 +51,7 @@ all_digits zero n = all_nil
 all_digits (suc f) n = go (ltb n 10) refl (all_digits f (n / 10))
   where
     go : (b : Bool) → ltb n 10 ≡ b → Digits (digits_of f (n / 10))
-        → Digits (if b then (λ _. (b_zero + n) ∷ []) else λ _. digits_of f (n / 10) ++ (b_zero + n % 10) ∷ [])
+        → Digits (if b then (λ _. (b_zero + n) ∷ []) otherwise λ _. digits_of f (n / 10) ++ (b_zero + n % 10) ∷ [])
     go true e h = all_cons (a-digit n (ltb-true n 10 e)) all_nil
     go false e h = all_append h (all_cons (a-digit (n % 10) (omega arith)) all_nil)
 
@@ -59,7 +59,7 @@ some-digit : (f n : ℕ) → 0 < length (digits_of (suc f) n)
 unfolding digits_of
 some-digit f n = go (ltb n 10)
   where
-    go : (b : Bool) → 0 < length (if b then (λ _. (b_zero + n) ∷ []) else λ _. digits_of f (n / 10) ++ (b_zero + n % 10) ∷ [])
+    go : (b : Bool) → 0 < length (if b then (λ _. (b_zero + n) ∷ []) otherwise λ _. digits_of f (n / 10) ++ (b_zero + n % 10) ∷ [])
     go true = omega arith
     go false = omega (arith, length-append (digits_of f (n / 10)) ((b_zero + n % 10) ∷ []))
 
@@ -75,7 +75,7 @@ first-digit (suc zero) n p l = absurd (omega arith)
 first-digit (suc (suc f)) n p l = go (ltb n 10) refl (first-digit (suc f) (n / 10))
   where
     go : (b : Bool) → ltb n 10 ≡ b → (0 < n / 10 → n / 10 < suc f → b_zero < get_or (digits_of (suc f) (n / 10)) 0 0)
-        → b_zero < get_or (if b then (λ _. (b_zero + n) ∷ []) else λ _. digits_of (suc f) (n / 10) ++ (b_zero + n % 10) ∷ []) 0 0
+        → b_zero < get_or (if b then (λ _. (b_zero + n) ∷ []) otherwise λ _. digits_of (suc f) (n / 10) ++ (b_zero + n % 10) ∷ []) 0 0
     go true e h = omega arith
     go false e h =
         let q = ltb-false n 10 e in
@@ -86,7 +86,7 @@ unfolding digits digits_of
 no-leading-zero n = go (ltb n 10) refl
   where
     go : (b : Bool) → ltb n 10 ≡ b
-        → starts_with_zero_lem (if b then (λ _. (b_zero + n) ∷ []) else λ _. digits_of n (n / 10) ++ (b_zero + n % 10) ∷ []) ≡ false
+        → starts_with_zero_lem (if b then (λ _. (b_zero + n) ∷ []) otherwise λ _. digits_of n (n / 10) ++ (b_zero + n % 10) ∷ []) ≡ false
     go true e = refl
     go false e =
         let q = ltb-false n 10 e in

@@ -6,7 +6,7 @@ use Rattle.std.proofs.Common.{ap, ◌∙◌, arith, add-one, leb-true, leb-false
 use mathlib.Core.List.{List, [], ◌∷◌, ◌++◌, map}
 use Rattle.std.proofs.Math.Option.{Option, none, some}
 use Rattle.std.proofs.lemmas.List.{length-map}
-use Rattle.base.specs.Choice.{if◌then◌else◌}
+use Rattle.base.specs.Choice.{if◌then◌otherwise◌}
 use Rattle.base.specs.Outcome.{accepted}
 use Rattle.base.specs.laws.Lists.{drop-none}
 use Rattle.base.specs.laws.Tests.{apart}
@@ -118,7 +118,7 @@ record OperatorAt (L : Level) (k : ℕ) (o : Operator) : Type 0 where
   kind : k ≡ kind_of o
 
 chosen : (k q : ℕ) (b : Bool) → eqb k q ≡ b → (x : Operator) (L : Level) {o : Operator} → level_of x ≡ L → kind_of x ≡ q
-    → (if b then (λ _. some x) else λ _. none) ≡ some o → OperatorAt L k o
+    → (if b then (λ _. some x) otherwise λ _. none) ≡ some o → OperatorAt L k o
 chosen k q true e x L {o} h g s =
     let z : x ≡ o = cc in
     subst (OperatorAt L k) z (record { level = h; kind = eqb-true k q e ∙ sym g })
@@ -131,7 +131,7 @@ operator-at comparison k e = chosen k k_less (eqb k k_less) refl less comparison
 operator-at sum k {o} e = go (eqb k k_plus) refl e
   where
     go : (b : Bool) → eqb k k_plus ≡ b
-        → (if b then (λ _. some plus) else λ _. if eqb k k_minus then (λ _. some minus) else λ _. none) ≡ some o → OperatorAt sum k o
+        → (if b then (λ _. some plus) otherwise λ _. if eqb k k_minus then (λ _. some minus) otherwise λ _. none) ≡ some o → OperatorAt sum k o
     go true q e = chosen k k_plus true q plus sum refl refl e
     go false q e = chosen k k_minus (eqb k k_minus) refl minus sum refl refl e
 operator-at product k e = chosen k k_times (eqb k k_times) refl times product refl refl e

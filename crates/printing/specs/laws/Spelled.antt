@@ -4,7 +4,7 @@ use Rattle.std.proofs.Common.{sym, ap, ◌∙◌, subst, arith, eqb-true, lit<}
 use Rattle.std.proofs.lemmas.Bool.{false≢true}
 use Rattle.base.specs.All.{All, all_nil, all_cons}
 use Rattle.base.specs.Bytes.{same}
-use Rattle.base.specs.Choice.{if◌then◌else◌}
+use Rattle.base.specs.Choice.{if◌then◌otherwise◌}
 use Rattle.base.specs.laws.Tests.{apart, and-true, or-neither, same-equal}
 use Rattle.lexer.specs.Bytes.{b_less, b_plus, b_minus, b_star, b_exclamation, b_equals, b_dot, b_comma, b_semicolon, b_open, b_close, b_open_bracket}
 use Rattle.lexer.specs.Bytes.{b_close_bracket, b_open_brace, b_close_brace, is_blank, is_letter, is_digit_lem, is_name_part_lem}
