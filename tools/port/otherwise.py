@@ -14,7 +14,8 @@ def code(line):
     """A line of antt, its comment left alone."""
     at = re.search(r"(?:^|\s)--(?:\s|$)", line)
     at = at.start() if at else len(line)
-    return WORD.sub("otherwise", line[:at]) + line[at:]
+    parts = re.split(r'("[^"]*")', line[:at])
+    return "".join(p if p.startswith('"') else WORD.sub("otherwise", p) for p in parts) + line[at:]
 
 
 for folder, dirs, names in os.walk("crates"):

@@ -107,7 +107,7 @@ module _ (s tab : List ℕ) (n : ℕ) (job : Job) {k at : ℕ} {part : Job} (f :
 
 module _ {s tab : List ℕ} {n : ℕ} {job : Job} where
   pub branches-put : {at a b r : ℕ} {second third : Job} {c c₁ c₂ c₃ : List ℕ} → PartReached tab c_second job at second
-      → PartPut s tab n statement 0 second c c₁ a → Puts a (bytes "otherwise" ++ b_space ∷ []) c₁ c₂ b → PartReached tab c_third job b third
+      → PartPut s tab n statement 0 second c c₁ a → Puts a (bytes "else" ++ b_space ∷ []) c₁ c₂ b → PartReached tab c_third job b third
       → PartPut s tab n statement 0 third c₂ c₃ r → BranchesPut s tab n job at c c₃ r
   unfolding render spelling words marks separator
   branches-put g f p g₂ f₂ = record {
