@@ -42,7 +42,7 @@ pub binary-returns-then-answer-ge-NOTHING : goal.binary-returns-then-answer-ge-N
 binary-returns-then-answer-ge-NOTHING t c = search binary-wrong
 
 pub binary-returns-else-answer-ge-NOTHING : goal.binary-returns-else-answer-ge-NOTHING
-binary-returns-else-answer-ge-NOTHING t c = search (binary-right, c.requires.1)
+binary-returns-else-answer-ge-NOTHING t c = search (binary-right, c.requires.k_value)
 
 pub binary-returns-in-Refused : goal.binary-returns-in-Refused
 binary-returns-in-Refused t c = search (left-refused of-binary)
