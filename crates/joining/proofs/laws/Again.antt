@@ -66,6 +66,7 @@ names_in ls taken (k ∷ ks) cs h = by (occurs k.name.text taken) refl cs h (λ 
         → All2 (Copy ls) (if b then (λ _. kept_classes taken ks) otherwise λ _. k ∷ kept_classes taken ks) cs
         → ((ds : List Class) → All2 (Copy ls) (kept_classes taken ks) ds → All (NameIn taken ds) ks) → All (NameIn taken cs) (k ∷ ks)
     by true e cs h behind = all_cons (ap (λ (b : Bool). b || occurs k.name.text (class_names cs)) e) (behind cs h)
+    by false e [] h behind = elim h [ ]
     by false e (c ∷ cs) (all2-cons w h) behind = all_cons (its-name taken k c cs w) (one_more taken c cs ks (behind cs h))
 
 -- where every name is taken no text is left
