@@ -23,7 +23,7 @@ use Rattle.typesystem.specs.Declarations.{redeclares}
 use Rattle.typesystem.specs.Declarations.{redeclaration, heads, declarations}
 use Rattle.typesystem.specs.Check.{body, bodies, class_bodies, all_bodies, judged}
 use Rattle.typing.specs.laws.Choices.{bind_assoc}
-use Rattle.printing.specs.Same.{no_place, erase, erase_variable, erase_variables, erase_method, erase_methods, erase_parent, erase_class}
+use Rattle.printing.specs.Same.{no_place, unplaced, erase, erase_variable, erase_variables, erase_method, erase_methods, erase_parent, erase_class}
 use Rattle.printing.specs.Same.{erase_classes, erase_program, SameProgram}
 use Rattle.printing.specs.laws.Lookups.{erase_found, mapped, erase_context, class-erase, ends-erase, known-erase, fits-erase}
 use Rattle.printing.specs.laws.Lookups.{types-erase}
@@ -121,7 +121,7 @@ module _ (G : List Class) (Γ : Context) where
   judged-alike (array_length p a) = and_then (judged-alike a) λ t. array-alike (place_e (erase a)).start (place_e a).start t λ _. both
   judged-alike (call p e m es) =
       and_then (judged-alike e) λ t. receiver-alike (erase e) e t λ c. rw (method-of G c m.text)
-      (invocation-alike _ m es (judged-alike es) (method_of G c m.text))
+      (invocation-alike (unplaced m.text) m es (judged-alike es) (method_of G c m.text))
   judged-alike (port_get_lem p e) = and_then (judged-alike e) λ t. and_then (must-alike (erase e) e (plain int) t) λ _. both
   judged-alike no_arguments = λ vs. both
   judged-alike (argument e es) = argument-alike e es (judged-alike e) (judged-alike es)

@@ -5,15 +5,9 @@ use borrow.Author.Rules.{rules}
 use Rattle.printer.specs.promises.Ranks.{tightness_of}
 use Rattle.printer.specs.laws.WalkLaws.{arguments-none, arguments-end, arguments-last, arguments-more, binary-put, dotted-length}
 use Rattle.printer.specs.laws.WalkLaws.{dotted-call, element-put, enclosed-put, expression-none, expression-bare, expression-pair}
-use Rattle.printer.specs.laws.WalkLaws.{form-atom, form-array, form-object, form-not, form-port, form-element, form-binary}
+use Rattle.printer.specs.laws.WalkLaws.{form-atom, form-array, form-object, form-not, form-port, form-element, form-binary, given-put}
 use Rattle.printer.specs.laws.WalkLaws.{part-printable, row-printable}
 use Rattle.printer.proofs.expr.+arguments_binary_dotted_element_enclosed_expression_form_given.Goals as goal
-
-  statement,
-}
-
-  close,
-}
 
 -- src/expr.rt:325:9
 pub arguments-returns-then-p-eq0 : goal.arguments-returns-then-p-eq0
@@ -25,7 +19,7 @@ arguments-returns-then-p-ge-ABSENT t c = search arguments-end
 
 -- src/expr.rt:332:9
 pub arguments-expression-a-requires : goal.arguments-expression-a-requires
-arguments-expression-a-requires t c = (search rules, search (rules, part-printable, row-printable))
+arguments-expression-a-requires t c = (search rules, search (rules, part-printable))
 
 -- src/expr.rt:334:9
 pub arguments-returns-then-next-ge-ABSENT : goal.arguments-returns-then-next-ge-ABSENT
@@ -45,21 +39,12 @@ binary-expression-a-requires t c = (search rules, search (rules, part-printable,
 
 -- src/expr.rt:301:5
 pub binary-expression-requires : goal.binary-expression-requires
-binary-expression-requires t c =
-    let d = c.before.before.before.before.before in
-    let e = d.before.before.before.before.before in
-    let g = e.before.before.before.before.before in
-    (search rules, part-printable g.requires.1.0 c.part2.ensures d.token.ensures.within)
+binary-expression-requires t c = (search rules, part-printable c.requires.0 c.part-2.ensures c.token-b.ensures.within)
 
 -- src/expr.rt:279:1
 pub binary-returns : goal.binary-returns
 binary-returns t c =
-    let d = c.before.before.before.before in
-    let e = d.before.before.before.before in
-    let g = e.before.before.before.before in
-    let h = g.before.before.before.before.before.before in
-    binary-put h.requires.1.1 g.before.part.ensures g.expression.ensures e.token.ensures d.tighter.ensures
-    c.before.before.before.part2.ensures c.before.before.expression2.ensures
+    binary-put c.requires.1 c.part.ensures c.expression-a.ensures c.token-b.ensures c.tighter.ensures c.part-2.ensures c.expression.ensures
 
 -- src/expr.rt:206:9
 pub dotted-expression-a-requires : goal.dotted-expression-a-requires
@@ -71,29 +56,20 @@ dotted-returns-then-kind-eq-LENGTH t c = search dotted-length
 
 -- src/expr.rt:225:9
 pub dotted-part-requires-2 : goal.dotted-part-requires-2
-dotted-part-requires-2 t c =
-    let d = c.before.before.before.before.before.before.before.before in
-    (d.before.before.before.before.before.before.before.before.requires.1.0.big, omega arith)
+dotted-part-requires-2 t c = (c.requires.0.big, omega arith)
 
 -- src/expr.rt:219:5
 pub dotted-given-requires : goal.dotted-given-requires
-dotted-given-requires t c =
-    let d = c.before.before.before.before in
-    let e = d.before.before.before.before.before.before.before in
-    let g = e.before.before.before.before.before.before in (
-      omega (arith, c.part2.ensures.nodes, g.requires.0),
-      part-printable g.requires.1.0 c.part2.ensures d.member.ensures.within,
-    )
+dotted-given-requires t c = (
+  omega (arith, c.part-2.ensures.nodes),
+  part-printable c.requires.0 c.part-2.ensures c.member-b.ensures.within,
+)
 
 -- src/expr.rt:195:1
 pub dotted-returns : goal.dotted-returns
 dotted-returns t c =
-    let d = c.before.before.before.before.before.before.before in
-    let e = d.before.before.before.before.before.before.before in
-    let g = e.before.before.before.before.before.before in
-    dotted-call g.requires.1.1 e.before.part.ensures e.expression.ensures d.before.before.before.kind.ensures
-    d.before.before.if1.false
-    d.member.ensures c.before.before.before.part2.ensures c.before.before.given.ensures
+    dotted-call c.requires.1 c.part.ensures c.expression-a.ensures c.kind.ensures c.if-kind-eq-LENGTH.false c.member-b.ensures
+    c.part-2.ensures c.given.ensures
 
 -- src/expr.rt:257:9
 pub element-expression-a-requires : goal.element-expression-a-requires
@@ -109,7 +85,7 @@ element-returns t c = search element-put
 
 -- src/expr.rt:189:9
 pub enclosed-expression-a-requires : goal.enclosed-expression-a-requires
-enclosed-expression-a-requires t c = (search rules, search (rules, part-printable, row-printable))
+enclosed-expression-a-requires t c = (search rules, search (rules, part-printable))
 
 -- src/expr.rt:177:1
 pub enclosed-returns : goal.enclosed-returns
@@ -146,12 +122,8 @@ form-enclosed-requires t c = (search rules, search (rules, part-printable, row-p
 -- src/expr.rt:131:13
 pub form-returns-then-third-eq-OPEN_BRACKET : goal.form-returns-then-third-eq-OPEN_BRACKET
 form-returns-then-third-eq-OPEN_BRACKET t c =
-    let d = c.before.before.before.before.before.before.before in
-    let e = d.before.before.before.before.before.before in
-    let g = e.before.before.before.before.before.before.before.before in
-    form-array g.requires.1.1 g.requires.1.2 e.before.before.if2.true d.before.before.before.if3.true e.made.ensures
-    d.spell.ensures
-    c.before.before.before.part.ensures c.before.before.enclosed.ensures
+    form-array c.requires.1 c.requires.2 c.if-k-eq-NEW.true c.if-third-eq-OPEN_BRACKET.true c.made-a.ensures c.spell-b.ensures
+    c.part.ensures c.enclosed.ensures
 
 -- src/expr.rt:141:9
 pub form-returns-then-k-eq-NEW : goal.form-returns-then-k-eq-NEW
@@ -179,7 +151,7 @@ form-returns-then-k-eq-PORT t c = search form-port
 
 -- src/expr.rt:171:9
 pub form-element-requires : goal.form-element-requires
-form-element-requires t c = (search rules, search (rules, part-printable, row-printable))
+form-element-requires t c = (search rules, search (rules, part-printable))
 
 -- src/expr.rt:171:9
 pub form-returns-then-k-eq-OPEN_BRACKET : goal.form-returns-then-k-eq-OPEN_BRACKET
@@ -188,9 +160,16 @@ form-returns-then-k-eq-OPEN_BRACKET t c = search form-element
 -- src/expr.rt:173:5
 pub form-binary-requires : goal.form-binary-requires
 form-binary-requires t c =
-    let g = c.before.before.before.before.before.before.before.before.before.before.before.before in
-    (search rules, (g.requires.1.0, c.rank.ensures ∙ (λ i. tightness_of (g.requires.1.1 i) (g.requires.1.2 i))))
+    (search rules, (c.requires.0, c.rank.ensures ∙ (λ i. tightness_of (c.requires.1 i) (c.requires.2 i))))
 
 -- src/expr.rt:111:1
 pub form-returns : goal.form-returns
 form-returns t c = search form-binary
+
+-- src/expr.rt:246:9
+pub given-arguments-a-requires : goal.given-arguments-a-requires
+given-arguments-a-requires t c = (search rules, search (rules, part-printable))
+
+-- src/expr.rt:235:1
+pub given-returns : goal.given-returns
+given-returns t c = search given-put
