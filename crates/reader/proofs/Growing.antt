@@ -11,7 +11,7 @@ use Rattle.base.specs.Choice.{option}
 use Rattle.base.specs.Codes.{source_most, too_deep, not_in_grammar, source_too_long, tokens_most, table_least, table_too_short}
 use Rattle.base.specs.laws.Lists.{get-get_d}
 use Rattle.base.specs.Outcome.{Outcome, accepted, refused}
-use Rattle.base.specs.promises.Table.{cell, c_start}
+use Rattle.base.specs.promises.Table.{c_start}
 use Rattle.lexer.specs.Tokens.{Token, tokens}
 use Rattle.lexer.specs.declared.Lexed.{Lexed}
 use Rattle.lexer.specs.declared.Lexed.TheVariants.{Tokens}
@@ -23,7 +23,6 @@ use Rattle.parser.specs.Tree.{Program}
 use Rattle.parser.specs.Stream.{token_at, no_more}
 use Rattle.parser.specs.Measure.{program_nodes, program_deep}
 use Rattle.parser.specs.Parse.{ok, parse}
-use Rattle.parser.specs.promises.Post.{TokensIn}
 use Rattle.parser.specs.promises.DeclarationPost.{ProgramPost}
 use Rattle.parser.specs.Read.{Reading, position_of, reading, read_answer, read, table_after, Reads}
 use Rattle.grammar.specs.laws.Agreement.{sound}

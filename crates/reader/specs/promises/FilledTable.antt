@@ -1,7 +1,6 @@
 -- What the crates above may rely on once a program's tree is stored in the work table. It holds because the tree is derived from the
 -- tokens: each node and each declaration has a row that is its token's, and no other has it.
-use Rattle.std.specs.Prelude.{ℕ, ◌≤◌, ◌<◌, ◌≡◌, refl, List, length}
-use Rattle.std.proofs.Common.{arith}
+use Rattle.std.specs.Prelude.{ℕ, ◌≤◌, ◌≡◌, refl, List, length}
 use Rattle.base.specs.promises.Table.{rows, size}
 use Rattle.lexer.specs.Tokens.{Token}
 use Rattle.parser.specs.Tree.{Program}

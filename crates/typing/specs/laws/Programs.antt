@@ -119,6 +119,7 @@ module _ (G : List Class) where
     pub endless-complete : {ks : List Class} → All Named ks → {k : Class} → FirstNot (ChainEnds G) ks k
         → ending_chains G ks ≡ refused chain_endless k.name.start
     unfolding ending_chains
+    endless-complete all_nil {k = k} x3 = elim x3 [ ]
     endless-complete (all_cons {x = k} own os) (first-here n) =
         rw (not-true (ends_within (length G) G (class_name k)) (λ e. n (chain-sound k own e)))
     endless-complete (all_cons own os) (first-later e h) = rw (ends-within e) (endless-complete os h)

@@ -1,6 +1,5 @@
 -- The proof of the cycle of calls on parts and nodes. The measure is 2 for each level of depth left, and 1 more for a part.
 -- The loop of `part` keeps what `SoFar` says, and its measure is the number of rows left. Each return and each turn is by a law of `Walks`.
-use Prim.Native.Nat.{◌-◌}
 use native.Mathlib.Omega.{arith}
 use Rattle.reader.proofs.Lists.{so-far-none, so_far_more, so-far-end, follower-rises}
 use Rattle.reader.proofs.Walks.{part_none, part_step, part-absent, node-far, node-two, node-three}

@@ -1,6 +1,5 @@
 -- `classes` meets its contract. Its loop keeps what `SoFar` says, by the laws of `Declarations`, and its measure is the number of rows
 -- left.
-use Prim.Native.Nat.{◌-◌}
 use mathlib.Core.Bool.{true}
 use native.Mathlib.Omega.{arith}
 use Rattle.reader.proofs.Lists.{so-far-none, so_far_more, so-far-end, follower-rises}

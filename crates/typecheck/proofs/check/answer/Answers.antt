@@ -4,10 +4,10 @@ use Rattle.typecheck.proofs.VerdictLaws.{find-few, answer-tree, answer-refused}
 use Rattle.typecheck.proofs.check.answer.Goals as goal
 
 pub tree-requires : goal.tree-requires
-tree-requires c = omega (arith, find-few c.args.source.now c.fill-f.result c.fill-f.new.1.0 c.fill-f.ensures c.in-Tree.is)
+tree-requires c = omega (arith, find-few c.args.source.now c.fill-f.result c.fill-f.new.table c.fill-f.ensures c.in-Tree.is)
 
 pub returns-in-Tree : goal.returns-in-Tree
-returns-in-Tree c = answer-tree c.args.source.now c.fill-f.result c.fill-f.new.1.0 c.fill-f.ensures c.in-Tree.is c.tree.ensures c.told.ensures
+returns-in-Tree c = answer-tree c.args.source.now c.fill-f.result c.fill-f.new.table c.fill-f.ensures c.in-Tree.is c.tree.ensures c.told.ensures
 
 pub returns-in-Refused : goal.returns-in-Refused
-returns-in-Refused c = answer-refused c.args.source.now c.fill-f.result c.fill-f.new.1.0 c.fill-f.ensures c.in-Refused.is c.told-in-Refused.ensures
+returns-in-Refused c = answer-refused c.args.source.now c.fill-f.result c.fill-f.new.table c.fill-f.ensures c.in-Refused.is c.told-in-Refused.ensures
