@@ -21,7 +21,7 @@ use Rattle.base.specs.promises.Table.{rows, col, put, length-put, col-put-same, 
 use Rattle.lexer.specs.Kinds.{k_if, is_name_lem}
 use Rattle.lexer.specs.Tokens.{Token}
 use Rattle.lexer.specs.promises.Rows.{first_named}
-use Rattle.lexer.specs.laws.RowLaws.{first-named}
+use Rattle.lexer.proofs.laws.RowLaws.{first-named}
 use Rattle.parser.specs.Tree.{Class, Program}
 use Rattle.parser.specs.Stream.{token_at, no_more, kind_at}
 use Rattle.parser.specs.promises.Layout.{absent, row_classes}

@@ -12,7 +12,7 @@ use Rattle.lexer.specs.Bytes.{b_space, b_tab, b_line_feed, b_carriage_return, b_
 use Rattle.lexer.specs.Bytes.{b_nine, b_underscore, b_slash, b_ampersand, is_blank, is_letter, is_digit_lem, is_name_part_lem}
 use Rattle.lexer.specs.Kinds.{mark_kind_lem, k_end}
 use Rattle.lexer.specs.ByteKinds.{b_letter, b_digit, b_blank, b_mark, b_other, is_mark, byte_kind}
-use Rattle.lexer.specs.laws.LiteralLaws.{digit-range}
+use Rattle.lexer.proofs.laws.LiteralLaws.{digit-range}
 
 -- ---- a letter, a digit and a blank are different bytes
 

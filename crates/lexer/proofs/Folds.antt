@@ -16,8 +16,8 @@ use Rattle.base.specs.laws.Tests.{apart}
 use Rattle.base.specs.promises.Table.{rows}
 use Rattle.lexer.specs.Bytes.{b_zero, is_digit_lem}
 use Rattle.lexer.specs.Tokens.{decimal, whole_digits, fraction_digits, thousandths_of_lem}
-use Rattle.lexer.specs.laws.ItemLaws.{run-front, run_short}
-use Rattle.lexer.specs.laws.LiteralLaws.{decimal-grows}
+use Rattle.lexer.proofs.laws.ItemLaws.{run-front, run_short}
+use Rattle.lexer.proofs.laws.LiteralLaws.{decimal-grows}
 use Rattle.lexer.specs.promises.Chains.{bucket_from}
 use Rattle.lexer.specs.promises.Verdicts.{literal_of}
 use Rattle.lexer.specs.declared.limits.Literal.{Literal}

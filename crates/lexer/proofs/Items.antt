@@ -16,7 +16,7 @@ use Rattle.base.specs.Choice.{if◌then◌otherwise◌}
 use Rattle.lexer.specs.Bytes.{b_line_feed, b_slash, b_ampersand, b_star, b_dot, is_blank, is_letter, is_digit_lem, is_name_part_lem}
 use Rattle.lexer.specs.Kinds.{k_literal, k_fixed_literal, k_and, word_kind_lem, mark_kind_lem, k_end}
 use Rattle.lexer.specs.Tokens.{gap, nothing, token, longest_run, begins, closing, comment, mark, numeral, item}
-use Rattle.lexer.specs.laws.ItemLaws.{run-front, begins-cons, chosen}
+use Rattle.lexer.proofs.laws.ItemLaws.{run-front, begins-cons, chosen}
 use Rattle.lexer.specs.ByteKinds.{b_letter, b_digit, b_blank, b_mark, b_other, byte_kind}
 use Rattle.lexer.specs.promises.Scan.{member, closing_of, piece_of, Letter, Digit, Mark}
 use Rattle.lexer.specs.declared.scan.Class.TheVariants.{Line, Word, Number}

@@ -16,7 +16,7 @@ use Rattle.lexer.specs.Kinds.{k_literal, k_fixed_literal, is_name_lem}
 use Rattle.lexer.specs.Tokens.{Token, token, decimal, starts_with_zero_lem, whole_digits, fraction_digits, thousandths_of_lem}
 use Rattle.lexer.specs.Tokens.{exceeds_length, zero_first, not_three, too_large, turn}
 use Rattle.base.specs.laws.Tests.{apart}
-use Rattle.lexer.specs.laws.ItemLaws.{kinds-apart}
+use Rattle.lexer.proofs.laws.ItemLaws.{kinds-apart}
 use Rattle.lexer.specs.promises.Verdicts.{literal_of, number_beside, verdict_of}
 use Rattle.lexer.specs.promises.Chains.{Extended, Added}
 use Rattle.lexer.specs.declared.Stored.TheVariants.{Refused as Declined, Done}

@@ -33,7 +33,7 @@ use Rattle.lookup.specs.laws.HeldLaws.{word_in, start_word, row-there, all-stand
 use Rattle.lookup.specs.promises.Lookups.{Above}
 use Rattle.declarations.specs.promises.Judgements.{ClassesAt, FoundByName}
 use Rattle.menu.specs.Menu.{may_stand, earliest, writing, positions}
-use Rattle.menu.specs.laws.Writing.{among-more, all_there, earliest-sound}
+use Rattle.menu.proofs.laws.Writing.{among-more, all_there, earliest-sound}
 use Rattle.menu.specs.InOrder.{MayStand}
 use Rattle.menu.specs.promises.Least.{Keeps, Entered, Removed}
 use Rattle.menu.specs.promises.MenuPost.{name_row, standing, RowsRise, rising-more, Tabled, is_child, child_rows, RowsLinked, linked-end, linked-more, ChildrenListed, Empty, Gathered}

@@ -11,7 +11,7 @@ use Rattle.base.specs.promises.Table.{col, put, c_start, c_third}
 use Rattle.base.specs.Codes.{tokens_most}
 use Rattle.lexer.specs.Kinds.{is_name_lem, k_assign, k_close, k_comma, k_if, k_open, k_open_brace, k_open_bracket, k_port, k_semicolon, k_system, k_while, k_else, k_close_bracket, k_close_brace}
 use Rattle.lexer.specs.Tokens.{Token}
-use Rattle.lexer.specs.laws.ItemLaws.{kinds-apart}
+use Rattle.lexer.proofs.laws.ItemLaws.{kinds-apart}
 use Rattle.parser.specs.declared.answer.Answer.{Answer}
 use Rattle.parser.specs.declared.answer.Answer.TheVariants.{At, Bad}
 use Rattle.parser.specs.Tree.{Place, Sort, Sort.expression, Sort.statement, Part, Expression, Statement}

@@ -10,7 +10,7 @@ use Rattle.base.specs.laws.Lists.{get-get_d}
 use Rattle.base.specs.Outcome.{Outcome, accepted, refused}
 use Rattle.base.specs.laws.Tests.{apart}
 use Rattle.lexer.specs.Tokens.{Token, tokens}
-use Rattle.lexer.specs.laws.RowLaws.{token-of, starts-increase}
+use Rattle.lexer.proofs.laws.RowLaws.{token-of, starts-increase}
 use Rattle.parser.specs.Tree.{Program}
 use Rattle.parser.specs.Stream.{token_at, start_at, no_more}
 use Rattle.parser.specs.Parse.{Parsed, ok, bad, out, parse}

@@ -8,7 +8,7 @@ use Rattle.base.specs.Choice.{if◌then◌otherwise◌}
 use Rattle.base.specs.Codes.{tokens_most, name_too_long, leading_zero, not_three_digits, literal_too_large, too_many_tokens}
 use Rattle.base.specs.Outcome.{Outcome, accepted, refused, ◌>>=◌}
 use Rattle.lexer.specs.Tokens.{Token, Item, gap, unclosed, nothing, token, item, exceeds_length, zero_first, not_three, too_large, turn, tokens_from}
-use Rattle.lexer.specs.laws.ItemLaws.{Good, good}
+use Rattle.lexer.proofs.laws.ItemLaws.{Good, good}
 
 -- what is read on after a token, by the answers of the tests
 abbrev judged : (tooMany long zeroes digits large : Bool) (i : ℕ) → Token → Outcome (List Token) → Outcome (List Token)

@@ -14,7 +14,7 @@ use Rattle.std.proofs.Math.ListN.{get_or-eq_default}
 use Rattle.base.specs.Choice.{if◌then◌otherwise◌, option}
 use Rattle.lexer.specs.Tokens.{Token}
 use Rattle.lexer.specs.Kinds.{k_end, k_boolean, k_fixed, k_if, k_int, k_port, k_system, k_while, k_open_brace, is_name_lem}
-pub use Rattle.lexer.specs.laws.ItemLaws.{kinds-apart}
+pub use Rattle.lexer.proofs.laws.ItemLaws.{kinds-apart}
 use Rattle.parser.specs.Stream.{no_more, token_at, kind_at, Level, operator_of}
 use Rattle.parser.specs.Tree.{Operator, Element, Element.int, Element.boolean, Element.class}
 use Rattle.parser.specs.Parse.{Parsed, ok, bad, bind, expect, expect_name, element_type_lem, begins_type_lem}

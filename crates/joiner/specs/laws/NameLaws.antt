@@ -16,7 +16,7 @@ use Rattle.base.specs.laws.Lists.{get-get_d}
 use Rattle.base.specs.Outcome.{accepted}
 use Rattle.lexer.specs.Bytes.{is_letter, is_digit_lem, is_name_part_lem}
 use Rattle.lexer.specs.Tokens.{Token, token, longest_run, tokens}
-use Rattle.lexer.specs.laws.RowLaws.{TokenOf, token-of}
+use Rattle.lexer.proofs.laws.RowLaws.{TokenOf, token-of}
 use Rattle.parser.specs.Tree.{Name, Class, Program}
 use Rattle.parser.specs.Stream.{no_more, token_at, name_at}
 use Rattle.parser.specs.promises.Layout.{absent, row_classes}

@@ -22,13 +22,13 @@ use Rattle.parser.specs.promises.Layout.{absent, row_classes}
 use Rattle.reader.specs.promises.Holds.{HoldsClasses}
 use Rattle.reader.specs.promises.Matches.{ClassesMatch}
 use Rattle.typesystem.specs.ClassTable.{occurs}
-use Rattle.appended.specs.laws.Embedding.{order-class, order-classes}
+use Rattle.appended.proofs.laws.Embedding.{order-class, order-classes}
 use Rattle.joining.specs.Join.{names_of, end_at, slice, first_token, kept_text}
 use Rattle.joiner.specs.promises.Names.{positions_of, ListedFrom, taken_within_lem}
 use Rattle.joiner.specs.promises.Texts.{end_before_lem, kept_from}
 use Rattle.joiner.specs.laws.NameLaws.{name-is, names-taken, start_of}
 use Rattle.joiner.specs.laws.Braces.{brace-end}
-use Rattle.joining.specs.laws.Placing.{row_is, first-is}
+use Rattle.joining.proofs.laws.Placing.{row_is, first-is}
 
 -- the last token of a class is its closing brace
 class-closed : {ls : List Token} {i m : ℕ} {k : Class} → DerivesClass ls i m k → kind_at ls (m - 1) ≡ k_close_brace

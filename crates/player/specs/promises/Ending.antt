@@ -7,7 +7,7 @@ use Rattle.frames.specs.Lines.{Line}
 use Rattle.frames.specs.Operations as Operations
 use Rattle.frames.specs.Operations.{Strips, answer, begins, going_on}
 use Rattle.frames.specs.Parts.{Report, run_frames}
-use Rattle.frames.specs.laws.Turns.{Within}
+use Rattle.frames.proofs.laws.Turns.{Within}
 use Rattle.player.specs.declared.rounds.Meter.{Meter}
 use Rattle.player.specs.declared.run.Answer.{Answer}
 use Rattle.player.specs.declared.run.Limits.{Limits}
