@@ -7,7 +7,7 @@ pub written-requires : goal.written-requires
 written-requires c = (found-walkable c.find-f.ensures c.in-Program.is (search rules), found-classes c.find-f.ensures c.in-Program.is)
 
 pub returns-in-Program : goal.returns-in-Program
-returns-in-Program c = answer-found c.args.source.now c.find-f.result c.find-f.new.1.0 c.args.strip.now c.find-f.ensures c.in-Program.is c.written.ensures
+returns-in-Program c = answer-found c.args.source.now c.find-f.result c.find-f.new.table c.args.strip.now c.find-f.ensures c.in-Program.is c.written.ensures
 
 pub returns-in-Refused : goal.returns-in-Refused
-returns-in-Refused c = answer-unfit c.args.source.now c.find-f.result c.find-f.new.1.0 c.args.strip.now c.find-f.ensures c.in-Refused.is
+returns-in-Refused c = answer-unfit c.args.source.now c.find-f.result c.find-f.new.table c.args.strip.now c.find-f.ensures c.in-Refused.is
