@@ -1,28 +1,24 @@
-/* The lesson engine: operations on a MiniJava lesson, for C and C++ on Linux on x86-64 and, by ./build --target, on aarch64, armv7 and wasm32.
+/* The lesson engine: operations on a MiniJava lesson, for C and C++ on x86-64 Linux.
  *
- * Link liblessonengine.a or liblessonengine.so, which ./build writes into target/lib/, or where frames alone are run liblessonengine-frames.a, which has engine_version,
- * engine_run_frames and engine_continue_frames. The functions of the library are proved to answer what the definitions say, for all inputs; this header, like everything outside
- * the library, is tested and not proved. docs/EMBEDDING.md has what the library takes of a small machine.
+ * Link libengine.a or libengine.so, which ./build writes into target/lib/. The functions of the library are proved to answer what the definitions say, for all inputs;
+ * this header, like everything outside the library, is tested and not proved.
  *
  * What the caller owes. A strip is a pointer and the number of its elements. The pointer is not null, not even for 0 elements, and aligned for its type; the elements are
  * initialised, readable and, where the pointer is not to const, writable; and nothing that is lent to be written overlaps anything else that is lent. A function keeps no
- * pointer. Nothing else is asked: every lesson, every length and every number is answered. (Where size_t has 32 bits, a length or a limit of 2^32 and more cannot be given.)
+ * pointer. Nothing else is asked: every lesson, every length and every number is answered.
  *
  * Threads. The library has no state of its own: any number of threads may call it at once, each with strips of its own.
  *
- * Stack. A call takes at most ENGINE_STACK_BYTES of stack, whatever the lesson is. It allocates nothing, and calls nothing but memset; on armv7 also memcpy, and
- * what the compiler has there for division.
+ * Stack. A call takes at most ENGINE_STACK_BYTES of stack, whatever the lesson is. It allocates nothing, and calls nothing but memset.
  *
- * Time. All but the runs end within milliseconds (Join within thirty, of which hundreds of classes with alike names take most). A run takes a time proportional to its steps or frames, which the budget bounds:
- * a few nanoseconds each, but for a call whose method is looked for anew, since another took its place among 1,024 that are remembered: up to some microseconds, by the classes and
- * methods that the search passes.
+ * Time. All but the runs end within milliseconds (Join within thirty, of which hundreds of classes with alike names take most). A run takes a time proportional to its steps or frames, which the budget bounds: a few nanoseconds each.
  *
  * A long run that can be interrupted is one of frames in parts: engine_run_frames with a budget of 100,000, say, which is spent within a millisecond or two, and for as long as
  * the answer is 50 engine_continue_frames with as much again; between two parts the caller looks at a flag of its own. It ends as one run with all these budgets does.
  * examples/pause.c does so.
  *
  * Positions count the bytes of the lesson from 0, that of 66 those of the library, and those of a run of frames the bytes of the frames. Every answer has a number and a position:
- * 0 at position 0 for success, else one of the numbers below. What a writer of lessons can do about one, hints.h says.
+ * 0 at position 0 for success, else one of the numbers below.
  */
 #ifndef ENGINE_H
 #define ENGINE_H
@@ -53,48 +49,48 @@ extern "C" {
 enum engine_number {
     /* [words/write numbers: what words/refusals.txt says */
     ENGINE_TABLE_TOO_SHORT = 1, /* The work table has fewer than 16,384 words. */
-    ENGINE_CALL_LIMIT_OUT_OF_RANGE = 2, /* The call limit is not between 1 and 64. */
+    ENGINE_CALL_LIMIT_OUT_OF_RANGE = 2, /* The call limit is not 1 to 64. */
     ENGINE_HEAP_TOO_LONG = 3, /* The heap strip has more than 16,384 words. */
-    ENGINE_STRIP_TOO_SHORT = 4, /* The strip has fewer words than the lesson has classes, the main class not counted. */
+    ENGINE_STRIP_TOO_SHORT = 4, /* The strip has fewer words than the lesson has classes beside main's. */
     ENGINE_SOURCE_TOO_LONG = 10, /* The lesson has more than 16,384 bytes. */
-    ENGINE_NO_TOKEN = 11, /* No name, number or mark of the language begins with this character. */
+    ENGINE_NO_TOKEN = 11, /* No word, number or mark of the language begins with this byte. */
     ENGINE_COMMENT_NOT_CLOSED = 12, /* A block comment is opened and never closed; comments nest, so each opening needs its own closing. */
-    ENGINE_NAME_TOO_LONG = 13, /* The name has more than 255 letters, digits and underscores. */
-    ENGINE_LITERAL_TOO_LARGE = 14, /* The number is larger than 2147483647 or, with a point, larger than 2147483.647. */
-    ENGINE_TOO_MANY_TOKENS = 15, /* The lesson has more than 2,048 tokens: words, numbers and marks. */
-    ENGINE_NOT_IN_GRAMMAR = 16, /* This does not fit the grammar here: something is missing, out of place or too much. */
-    ENGINE_TOO_DEEP = 17, /* A statement or an expression is nested more than 64 levels deep. */
-    ENGINE_CLASS_REPEATED = 20, /* An earlier class has the same name. */
-    ENGINE_PARENT_UNKNOWN = 21, /* No class has the name after `extends`; the main class cannot be extended. */
-    ENGINE_CHAIN_ENDLESS = 22, /* The class extends itself, or its chain of parents runs into a loop. */
-    ENGINE_FIELD_REPEATED = 23, /* The class already has a field of this name. */
-    ENGINE_TYPE_UNKNOWN = 24, /* No class has this name; the main class cannot be used as a type. */
-    ENGINE_METHOD_REPEATED = 25, /* The class already has a method of this name; methods cannot be overloaded. */
-    ENGINE_BAD_REDECLARATION = 26, /* The method of this name in a class above has other parameter types, or a result type that this one's does not fit. */
-    ENGINE_VARIABLE_REPEATED = 27, /* The method already has a parameter or local of this name. */
-    ENGINE_TOO_MANY_VARIABLES = 28, /* The method has more than 32 parameters and locals in all. */
-    ENGINE_NAME_UNKNOWN = 30, /* No local, parameter or field of this name is visible here; main sees none at all. */
-    ENGINE_WRONG_TYPE = 31, /* This expression has the wrong type here. */
+    ENGINE_NAME_TOO_LONG = 13, /* A name has more than 255 letters, digits and underscores. */
+    ENGINE_LITERAL_TOO_LARGE = 14, /* A number is larger than 2147483647, or one with a point larger than 2147483.647. */
+    ENGINE_TOO_MANY_TOKENS = 15, /* The lesson has more than 2,048 words, numbers and marks. */
+    ENGINE_NOT_IN_GRAMMAR = 16, /* No program goes on like this from here: something is missing, misplaced or too much. */
+    ENGINE_TOO_DEEP = 17, /* A statement or an expression lies inside more than 63 others. */
+    ENGINE_CLASS_REPEATED = 20, /* Another class before this one has the same name. */
+    ENGINE_PARENT_UNKNOWN = 21, /* The lesson has no class of the name after `extends`; the main class cannot be extended. */
+    ENGINE_CHAIN_ENDLESS = 22, /* The class extends itself, or its parents lead into a loop. */
+    ENGINE_FIELD_REPEATED = 23, /* The class has another field of the same name. */
+    ENGINE_TYPE_UNKNOWN = 24, /* The lesson has no class of this name; the main class is no type. */
+    ENGINE_METHOD_REPEATED = 25, /* The class has another method of the same name. */
+    ENGINE_BAD_REDECLARATION = 26, /* A method of this name in a class above has other parameter types, or a result that this one's does not fit. */
+    ENGINE_VARIABLE_REPEATED = 27, /* The method has another parameter or local of the same name. */
+    ENGINE_TOO_MANY_VARIABLES = 28, /* The method has more than 32 parameters and locals together. */
+    ENGINE_NAME_UNKNOWN = 30, /* No local, parameter or field of this name can be seen here; main sees none at all. */
+    ENGINE_WRONG_TYPE = 31, /* This part has another type than its place needs. */
     ENGINE_METHOD_UNKNOWN = 32, /* Neither the class nor a class above it has a method of this name. */
-    ENGINE_ARGUMENT_COUNT = 33, /* The call has another number of arguments than the method has parameters. */
+    ENGINE_ARGUMENT_COUNT = 33, /* The method takes another number of arguments. */
     ENGINE_THIS_IN_MAIN = 34, /* Main belongs to no object, so it has no `this`. */
-    ENGINE_NULL_REFERENCE = 40, /* The object or array that is used here is null. */
-    ENGINE_INDEX_OUT_OF_RANGE = 41, /* The index is negative or not less than the array's length. */
+    ENGINE_NULL_REFERENCE = 40, /* There is no object or array here: the reference is null. */
+    ENGINE_INDEX_OUT_OF_RANGE = 41, /* The index is negative, or not below the array's length. */
     ENGINE_NEGATIVE_SIZE = 42, /* An array cannot have a negative length. */
-    ENGINE_BUDGET_SPENT = 50, /* The step budget is used up. */
+    ENGINE_BUDGET_SPENT = 50, /* The budget of steps or frames is spent, and another is due. */
     ENGINE_HEAP_FULL = 51, /* The heap strip has no room for this object or array. */
     ENGINE_CALLS_FULL = 52, /* As many calls are open as the call limit allows. */
     ENGINE_OUTPUT_FULL = 53, /* The output strip has no room for another number. */
-    ENGINE_LEADING_ZERO = 60, /* The number begins with 0 and another digit; Java would read it as octal. */
+    ENGINE_LEADING_ZERO = 60, /* A number begins with 0 and another digit, which means another number in Java. */
     ENGINE_TEXT_TOO_LONG = 61, /* The strip is too short for the printed lesson. */
-    ENGINE_REGISTERS_NOT_SIXTEEN = 62, /* The register strip is not 16 bytes long. */
-    ENGINE_REGISTER_OUT_OF_RANGE = 63, /* The register number is not 0 to 15. */
-    ENGINE_VALUE_OUT_OF_RANGE = 64, /* The value that is put is not 0 to 255. */
-    ENGINE_NOT_THREE_DIGITS = 65, /* A number with a point needs exactly three digits after it. */
-    ENGINE_LIBRARY_REFUSED = 66, /* The library is something other than class declarations, or does not keep Read's rules and bounds. */
+    ENGINE_REGISTERS_NOT_SIXTEEN = 62, /* The register strip has not exactly 16 bytes. */
+    ENGINE_REGISTER_OUT_OF_RANGE = 63, /* The cable has registers 0 to 15 only. */
+    ENGINE_VALUE_OUT_OF_RANGE = 64, /* A register takes 0 to 255 only. */
+    ENGINE_NOT_THREE_DIGITS = 65, /* A number with a point has other than three digits behind it. */
+    ENGINE_LIBRARY_REFUSED = 66, /* The library has something other than class declarations, or Read's rules and bounds do not hold for it. */
     ENGINE_JOINED_TOO_LONG = 67, /* The strip is too short for the lesson and the classes of the library. */
     ENGINE_FRAMES_TOO_SHORT = 68, /* The strip is too short for the frames of the lesson, or the stack strip has fewer than 140,000 entries. */
-    ENGINE_OTHER_FORM = 69, /* The line is not ten lower-case hexadecimal digits and a line feed. */
+    ENGINE_OTHER_FORM = 69, /* The line is something other than ten lower-case hexadecimal digits and a line feed. */
     ENGINE_FRAME_FAULT = 70, /* The code table does not allow this frame, by its code, its operand or a value that it takes; or the stack strip is full, or the line is past the last. */
     ENGINE_RECORD_UNFIT = 71, /* The record does not fit the frames, the limits or the strips, or its counts and the new budget are together above 4294967295. */
     ENGINE_PRICE_UNFIT = 72, /* The price of a call is neither 1 nor 10. */
@@ -186,8 +182,8 @@ engine_read_answer engine_read(const uint8_t *source, size_t source_length, uint
 engine_check_answer engine_check(const uint8_t *source, size_t source_length, uint32_t *table, size_t table_length);
 
 /* Where do the names of the classes stand? After success `strip` begins with the position of the name of each class beside main's, each
- * once, in this order: again and again the earliest class in the lesson that is not yet written and whose parent is written or absent; its
- * rest is unchanged, and so is all of it after a refusal. Refuses as Check does, and with 4. */
+ * once, a parent before the classes that extend it and otherwise as they stand in the lesson; its rest is unchanged, and so is all of it
+ * after a refusal. Refuses as Check does, and with 4. */
 engine_check_answer engine_menu(const uint8_t *source, size_t source_length, uint32_t *table, size_t table_length, uint32_t *strip,
                                 size_t strip_length);
 

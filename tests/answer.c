@@ -1,17 +1,14 @@
 /* Answers the cases on standard input, a line each, as the program `cases` does, but through include/engine.h and in threads: `answer THREADS`.
- * `answer stack` writes in the place of the answers how many bytes of its stack the thread took, with what this program takes itself.
  *
  * Every thread has just the stack that the header names, and answers all lines while the others do; their answers must be equal, and are written once. Each strip is memory of
  * its own of just the length that a case names, filled with something other than 0, so that a tool such as valgrind sees every access beyond it. After an answer stands ` STRIP`
  * where a strip does not hold what documents 01 and 02 say.
  */
 #include "engine.h"
+#include <pthread.h>
 #include <stdio.h>
 #include <stdlib.h>
 #include <string.h>
-#ifndef __wasm__
-#include <pthread.h>
-#endif
 
 enum { THREADS_MOST = 16, FILLING = 0x5a };
 
@@ -83,13 +80,13 @@ static void add_number(text *to, const char *before, long long number) {
     add(to, digits, (size_t)snprintf(digits, sizeof digits, "%s%lld", before, number));
 }
 
-static uint64_t number_of(const char *word) {
-    return strtoull(word, NULL, 10);
+static size_t number_of(const char *word) {
+    return (size_t)strtoull(word, NULL, 10);
 }
 
 /* Room for as many elements as a word says. */
 static lent room(const char *word, size_t size) {
-    lent made = {NULL, (size_t)number_of(word), size};
+    lent made = {NULL, number_of(word), size};
     made.at = filled(made.length * size);
     return made;
 }
@@ -209,12 +206,12 @@ static const char *next(char ***word) {
     return *(*word)++;
 }
 
-static uint64_t next_number(char ***word) {
+static size_t next_number(char ***word) {
     return number_of(next(word));
 }
 
 static void next_parts(frames_case *c, char ***word) {
-    c->parts = (size_t)next_number(word);
+    c->parts = next_number(word);
     c->part = *word;
     for (size_t k = 0; k < 2 * c->parts; k++) {
         next(word);
@@ -224,8 +221,8 @@ static void next_parts(frames_case *c, char ***word) {
 /* A strip that is 0 but at the places that a case names. */
 static void next_held(char ***word, lent strip) {
     memset(strip.at, 0, strip.length * strip.size);
-    for (uint64_t count = next_number(word); count > 0; count--) {
-        size_t at = (size_t)next_number(word);
+    for (size_t count = next_number(word); count > 0; count--) {
+        size_t at = next_number(word);
         const char *value = next(word);
         if (at >= strip.length) {
             fail("a line is no case");
@@ -269,18 +266,14 @@ static int is_zero(lent strip) {
     return is_all(strip.at, 0, strip.length * strip.size);
 }
 
-static int is_empty(engine_frame_record r) {
-    return !r.line && !r.height && !r.calls && !r.words && !r.printed && !r.tape && !r.marks && !r.frames && !r.unspent;
-}
-
 /* Whether a part leaves what it should: a refusal all as it was; every other end but 50 heap and stack strip and the record all 0; and the output strip is as it was but for the
  * numbers that the part printed, which stand behind those printed before. */
 static int is_left_right(strips before, strips after, size_t printed, engine_frames_answer a) {
     if (!is_run(a.number)) {
         return is_all_same(after.heap, before.heap) && is_all_same(after.output, before.output) && is_all_same(after.registers, before.registers) &&
-               is_all_same(after.stack, before.stack) && !a.frames && !a.words && !a.printed && is_empty(a.pause);
+               is_all_same(after.stack, before.stack) && !a.frames && !a.words && !a.printed && is_all(&a.pause, 0, sizeof a.pause);
     }
-    int is_ended_right = a.number == ENGINE_BUDGET_SPENT || (is_zero(after.heap) && is_zero(after.stack) && is_empty(a.pause));
+    int is_ended_right = a.number == ENGINE_BUDGET_SPENT || (is_zero(after.heap) && is_zero(after.stack) && is_all(&a.pause, 0, sizeof a.pause));
     return is_ended_right && is_same(after.output, before.output, 0, printed) && is_same(after.output, before.output, a.printed, after.output.length);
 }
 
@@ -366,7 +359,7 @@ static int answer_frames(char **word, text *to) {
     frames_case c;
     memset(&c, 0, sizeof c);
     word++;
-    c.calls = (size_t)next_number(&word);
+    c.calls = next_number(&word);
     c.lent.heap = room(next(&word), sizeof(int32_t));
     c.lent.output = room(next(&word), sizeof(int32_t));
     c.lent.registers = room(next(&word), sizeof(uint8_t));
@@ -383,16 +376,16 @@ static int answer_continue(char **word, text *to) {
     memset(&c, 0, sizeof c);
     word++;
     c.is_begun = 1;
-    c.record.line = (size_t)next_number(&word);
-    c.record.height = (size_t)next_number(&word);
-    c.record.calls = (size_t)next_number(&word);
-    c.record.words = (size_t)next_number(&word);
-    c.record.printed = (size_t)next_number(&word);
-    c.record.tape = (size_t)next_number(&word);
-    c.record.marks = (size_t)next_number(&word);
+    c.record.line = next_number(&word);
+    c.record.height = next_number(&word);
+    c.record.calls = next_number(&word);
+    c.record.words = next_number(&word);
+    c.record.printed = next_number(&word);
+    c.record.tape = next_number(&word);
+    c.record.marks = next_number(&word);
     c.record.frames = next_number(&word);
     c.record.unspent = next_number(&word);
-    c.calls = (size_t)next_number(&word);
+    c.calls = next_number(&word);
     c.lent.heap = room(next(&word), sizeof(int32_t));
     c.lent.output = room(next(&word), sizeof(int32_t));
     c.lent.registers = given(next(&word));
@@ -574,63 +567,11 @@ static void *answer_all(void *given) {
     return NULL;
 }
 
-/* How many bytes of memory that was painted are as they were, from its beginning on. */
-static size_t untouched(const volatile unsigned char *memory, int paint, size_t length) {
-    size_t count = 0;
-    while (count < length && memory[count] == paint) {
-        count++;
+int main(int count, char **argument) {
+    int threads = count == 2 ? atoi(argument[1]) : 0;
+    if (threads < 1 || threads > THREADS_MOST) {
+        fail("usage: answer THREADS < CASES");
     }
-    return count;
-}
-
-#ifdef __wasm__
-/* There are no threads: the program is linked with just the stack that the header names. */
-static void answer_in_threads(work *works, int threads) {
-    for (int k = 0; k < threads; k++) {
-        answer_all(&works[k]);
-    }
-}
-
-/* The stack is the first part of the memory, which is 0 at the start; its first bytes are left out, since an address of 0 is none. */
-static size_t stack_taken(work *w) {
-    answer_all(w);
-    return ENGINE_STACK_BYTES - untouched((const volatile unsigned char *)sizeof(void *), 0, ENGINE_STACK_BYTES);
-}
-#else
-static size_t stack_taken(work *w) {
-    unsigned char *stack = (unsigned char *)filled(ENGINE_STACK_BYTES);
-    pthread_t thread;
-    pthread_attr_t attributes;
-    pthread_attr_init(&attributes);
-    if (pthread_attr_setstack(&attributes, stack, ENGINE_STACK_BYTES) || pthread_create(&thread, &attributes, answer_all, w)) {
-        fail("no thread on this stack");
-    }
-    pthread_join(thread, NULL);
-    size_t taken = ENGINE_STACK_BYTES - untouched(stack, FILLING, ENGINE_STACK_BYTES);
-    free(stack);
-    return taken;
-}
-
-static void answer_in_threads(work *works, int threads) {
-    pthread_t thread[THREADS_MOST];
-    pthread_attr_t attributes;
-    pthread_attr_init(&attributes);
-    if (pthread_attr_setstacksize(&attributes, ENGINE_STACK_BYTES)) {
-        fail("no stack of this size");
-    }
-    for (int k = 0; k < threads; k++) {
-        if (pthread_create(&thread[k], &attributes, answer_all, &works[k])) {
-            fail("no thread");
-        }
-    }
-    for (int k = 0; k < threads; k++) {
-        pthread_join(thread[k], NULL);
-    }
-    pthread_attr_destroy(&attributes);
-}
-#endif
-
-static text all_input(void) {
     static char chunk[65536];
     text input = {NULL, 0, 0};
     for (size_t got; (got = fread(chunk, 1, sizeof chunk, stdin)) > 0;) {
@@ -639,26 +580,22 @@ static text all_input(void) {
     if (input.length == 0) {
         fail("there are no cases");
     }
-    return input;
-}
-
-int main(int count, char **argument) {
-    int threads = count == 2 ? atoi(argument[1]) : 0;
     static work works[THREADS_MOST];
-    if (count == 2 && !strcmp(argument[1], "stack")) {
-        text input = all_input();
-        works[0].input = &input;
-        printf("%zu\n", stack_taken(&works[0]));
-        return 0;
+    pthread_t thread[THREADS_MOST];
+    pthread_attr_t attributes;
+    pthread_attr_init(&attributes);
+    if (pthread_attr_setstacksize(&attributes, ENGINE_STACK_BYTES)) {
+        fail("no stack of this size");
     }
-    if (threads < 1 || threads > THREADS_MOST) {
-        fail("usage: answer THREADS < CASES, or answer stack < CASES");
-    }
-    text input = all_input();
     for (int k = 0; k < threads; k++) {
         works[k].input = &input;
+        if (pthread_create(&thread[k], &attributes, answer_all, &works[k])) {
+            fail("no thread");
+        }
     }
-    answer_in_threads(works, threads);
+    for (int k = 0; k < threads; k++) {
+        pthread_join(thread[k], NULL);
+    }
     for (int k = 1; k < threads; k++) {
         if (works[k].answers.length != works[0].answers.length || memcmp(works[k].answers.bytes, works[0].answers.bytes, works[0].answers.length)) {
             fail("two threads answer differently");
@@ -669,5 +606,6 @@ int main(int count, char **argument) {
         free(works[k].answers.bytes);
     }
     free(input.bytes);
+    pthread_attr_destroy(&attributes);
     return 0;
 }

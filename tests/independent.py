@@ -1,4 +1,4 @@
-"""The independent cases, which stand outside the repository, with the answers that are due of them; a part of them is stored in independent_cases/.
+"""The independent cases, which stand outside the repository, with the answers that are due of them.
 
 The cases of document 01 stand in vectors/. Those of document 02 stand in vectors-requests/stage-K/, for a repository in which requests 1 to K hold; stage-K/old/ has what is then due
 of document 01's cases. A stage whose request changes no result has no folder; the cases of an operation that a request adds stand beside the stages, those of frames (encode, frames and
@@ -13,9 +13,6 @@ SHARED = pathlib.Path(__file__).resolve().parent.parent.parent / "shared"
 STAGE = 9  # the answers are those due with requests 1 to STAGE of document 02, of which (v), an operation of its own, changes none; raise it as the next one lands
 CLIMBS = 7  # the stage from which on run's answers have climbs
 REGISTERS = 8  # the stage from which on run's cases have a register strip and a tape, and its answers registers
-STORED = pathlib.Path(__file__).resolve().parent / "independent_cases"
-EACH = 6  # one of so many cases is stored
-STORED_MOST = 2000  # bytes of a case that is stored
 FRAMES = ["encode", "frames", "continue"]  # operations whose cases stand in one file
 RUN_ENDS = {"0", "40", "41", "42", "50", "51", "52", "53", "63", "64"}  # all other numbers refuse the call
 
@@ -99,20 +96,6 @@ def groups(shared, operation):
     found += [group_of_request(k, folder, operation) for k, folder in zip(stages, folders)]
     found.append(group(operation, requests / (operation + ".cases"), requests / (operation + ".answers")))
     return [g for g in found if g.rows]
-
-
-def store(shared, operations):
-    """Writes the cases that are stored: of each group one of so many that are not long, a case and its answer on a line."""
-    STORED.mkdir(exist_ok=True)
-    for operation in operations:
-        short = [[row for row in found.rows if len(row[0]) <= STORED_MOST] for found in groups(shared, operation)]
-        rows = [row for found in short for row in found[::EACH]]
-        (STORED / (operation + ".txt")).write_text("".join("%s\t%s\n" % row for row in rows))
-
-
-def stored_groups(operation):
-    rows = [tuple(line.split("\t")) for line in lines(STORED / (operation + ".txt"))]
-    return [Group(operation + ", stored", rows)] if rows else []
 
 
 def is_ordered(operation):

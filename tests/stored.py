@@ -15,8 +15,6 @@ FORMS = {o.name: [o.is_given(word) for word in o.case] for o in surface().operat
 # PARTS are how many, then a budget and a price each. Of the registers before a part that continues stands what they hold; of heap and stack strip, behind the parts, how many
 # entries are not 0, then each one's place and what it holds.
 BYTES_WITH_PARTS = {"frames": {5}, "continue": {12, 14}}
-# Of these forms, which words are lengths and places; the other numbers have 32 or 64 bits on every processor.
-LENGTHS_WITH_PARTS = {"frames": [0, 1, 2, 3, 4], "continue": [0, 1, 2, 3, 4, 5, 6, 9, 10, 11, 13]}
 STACK_OF_BINDINGS = next(c.value for c in surface().constants if c.name == "STACK_ENTRIES")
 # The numbers that refuse what the bindings always lend enough of.
 NEVER_BY_BINDINGS = {str(r.number) for r in refusals() if not r.is_chosen}
@@ -52,13 +50,6 @@ def is_case(line, answer):
     operation, *words = line.split(" ")
     found = numbers(operation, words) if words and answer[:1].isdigit() else None
     return found is not None and all(int(number) < 1 << 64 for number in found)
-
-
-def fits(line, bits):
-    """Whether so many bits hold each length of a case."""
-    operation, *words = line.split(" ")
-    lengths = [words[k] for k in LENGTHS_WITH_PARTS[operation]] if operation in LENGTHS_WITH_PARTS else numbers(operation, words)
-    return all(int(length) < 1 << bits for length in lengths)
 
 
 def cases():

@@ -1,4 +1,4 @@
-"""What words/operations.txt declares, as lines of C, Rust, Python and JavaScript."""
+"""What words/operations.txt declares, as lines of C, Rust and Python."""
 import textwrap
 
 WIDTH = 140
@@ -87,7 +87,7 @@ def rust_field(field):
 
 def rust_arguments(a):
     if not a.is_strip:
-        return ["%s: Passed<%s>" % (a.name, rust_type(a.kind))]
+        return ["%s: %s" % (a.name, rust_type(a.kind))]
     return ["%s: *%s %s" % (a.name, "mut" if a.after else "const", RUST[a.kind]), "%s_length: usize" % a.name]
 
 
@@ -201,103 +201,6 @@ def answer_functions(surface):
         name, words = (o.by_hand, 0) if o.by_hand else (o.name, len(o.case) + 1)
         lines.append('    {"%s", %d, answer_%s},' % (name, words, name))
     return lines + ["};"]
-
-
-# web/surface.js: the layout of WebAssembly with 32 bits.
-
-WASM_BYTES = {"word": 4, "size": 4, "long": 8}
-
-
-def aligned(at, to):
-    return -(-at // to) * to
-
-
-def wasm_layout(record, records):
-    """The offset, the name and the type of each field; how many bytes the record has; and what it is aligned to."""
-    laid, at, widest = [], 0, 1
-    for f in record.fields:
-        size = WASM_BYTES.get(f.type)
-        _, size, to = ([], size, size) if size else wasm_layout(records[f.type], records)
-        at = aligned(at, to)
-        laid.append((at, f.name, f.type))
-        at, widest = at + size, max(widest, to)
-    return laid, aligned(at, widest), widest
-
-
-def javascript_constants(surface):
-    return ["  %s: %s, // %s" % (c.name, c.value, c.words) for c in surface.constants]
-
-
-def javascript_records(surface):
-    records = {r.name: r for r in surface.records}
-    lines = []
-    for r in surface.records:
-        laid, size, _ = wasm_layout(r, records)
-        fields = ", ".join('%s: [%d, "%s"]' % (name, at, kind) for at, name, kind in laid)
-        lines.append("  %s: { bytes: %d, fields: { %s } }," % (r.name, size, fields))
-    return lines
-
-
-def javascript_functions(surface):
-    def arguments(o):
-        return ", ".join('%s: "%s"' % (a.name, a.kind) for a in o.arguments)
-
-    return ['  %s: { answer: "%s", takes: { %s } },' % (o.name, o.answer, arguments(o)) for o in surface.operations]
-
-
-# targets/shim.c.
-
-
-def own_type(kind):
-    """The type of a field as the engine lays it out for itself: a length has 64 bits on every target."""
-    return {"word": "uint32_t", "size": "uint64_t", "long": "uint64_t"}.get(kind) or "own_" + kind
-
-
-def own_record(r):
-    return ["typedef struct {", *("    %s %s;" % (own_type(f.type), f.name) for f in r.fields), "} own_%s;" % r.name, ""]
-
-
-def narrowed(field):
-    """A field of the engine's own record `r`, as the header has it."""
-    at = "r->" + field.name
-    return {"word": at, "size": "(size_t)" + at, "long": at}.get(field.type) or "narrow_%s(&%s)" % (field.type, at)
-
-
-def converting(head, made, parts):
-    return [head, *called("    %s made = {" % made, parts, "};"), "    return made;", "}", ""]
-
-
-def narrow(r):
-    return converting("static engine_%s narrow_%s(const own_%s *r) {" % (r.name, r.name, r.name), "engine_" + r.name, list(map(narrowed, r.fields)))
-
-
-def widen(r):
-    return converting("static own_%s widen_%s(engine_%s r) {" % (r.name, r.name, r.name), "own_" + r.name, ["r." + f.name for f in r.fields])
-
-
-def given_argument(a):
-    value = "{%s, %s_length}" % (a.name, a.name) if a.is_strip else "widen_%s(%s)" % (a.kind, a.name)
-    return "    %s given_%s = %s;" % ("lent" if a.is_strip else "own_" + a.kind, a.name, value)
-
-
-def shim_function(o):
-    pointers = ["own_%s *" % o.answer] + ["lent *" if a.is_strip else "own_%s *" % a.kind for a in o.arguments]
-    lines = called("void engine_own_%s(" % o.name, pointers, ");")
-    lines += called("engine_%s engine_%s(" % (o.answer, o.name), [part for a in o.arguments for part in c_arguments(a)], ") {")
-    lines += [given_argument(a) for a in o.arguments] + ["    own_%s answer;" % o.answer]
-    lines += called("    engine_own_%s(" % o.name, ["&answer"] + ["&given_" + a.name for a in o.arguments], ");")
-    return lines + ["    return narrow_%s(&answer);" % o.answer, "}", ""]
-
-
-def shim(surface):
-    """The functions of the header over those of the engine, which take and answer everything by pointer."""
-    taken = {a.kind for o in surface.operations for a in o.arguments if not a.is_strip}
-    answered = {o.answer for o in surface.operations}
-    answered |= {f.type for r in surface.records if r.name in answered for f in r.fields}
-    lines = [line for r in surface.records for line in own_record(r)]
-    lines += [line for r in surface.records if r.name in answered for line in narrow(r)]
-    lines += [line for r in surface.records if r.name in taken for line in widen(r)]
-    return (lines + [line for o in surface.operations for line in shim_function(o)])[:-1]
 
 
 # crates/engine/src/lib.rt, which is not written but held to this.

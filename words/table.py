@@ -8,7 +8,7 @@ from operations import surface
 ROOT = pathlib.Path(__file__).resolve().parent.parent
 FILE = ROOT / "words" / "refusals.txt"
 KINDS = {
-    "call": "The buffers or limits of a call do not fit",
+    "call": "What was lent to a call does not fit",
     "lesson": "The lesson is refused, and does not run",
     "library": "The library is refused, and is joined to no lesson",
     "frames": "The frames are refused, and do not run",
@@ -29,11 +29,9 @@ REPEATED = re.compile("⟨(.)⟩([0-9]+)")
 @dataclasses.dataclass
 class Refusal:
     number: int
-    engine_name: str  # in base/src/codes.rt; the constants are named by it
     name: str
     kind: str
     says: str
-    remedy: str
     at: str
     operation: str
     changed: dict  # what is lent otherwise than LENT says
@@ -43,11 +41,11 @@ class Refusal:
 
     @property
     def constant(self):
-        return self.engine_name.upper().replace(" ", "_")
+        return self.name.upper().replace(" ", "_")
 
     @property
     def variant(self):
-        return "".join(word.capitalize() for word in self.engine_name.split(" "))
+        return "".join(word.capitalize() for word in self.name.split(" "))
 
     @property
     def lent(self):
@@ -90,12 +88,12 @@ def unmarked(written):
 
 def refusal(block):
     head, *rest = block.split("\n")
-    number, engine_name = head.split(" ", 1)
+    number, name = head.split(" ", 1)
     fields = dict(line.split(": ", 1) for line in rest)
     operation, *changed = fields.pop("by").split(" ")
-    made = Refusal(int(number), engine_name, fields.pop("name", engine_name), fields.pop("kind"), fields.pop("says"), fields.pop("remedy"),
-                   fields.pop("at"), operation, {key: int(value) for key, value in zip(changed[::2], changed[1::2])}, fields.pop("lesson", ""),
-                   fields.pop("library", ""), fields.pop("frames", ""))
+    made = Refusal(int(number), name, fields.pop("kind"), fields.pop("says"), fields.pop("at"), operation,
+                   {key: int(value) for key, value in zip(changed[::2], changed[1::2])}, fields.pop("lesson", ""), fields.pop("library", ""),
+                   fields.pop("frames", ""))
     marks = (made.written + made.written_library + made.written_frames).count(MARK)
     if fields or made.kind not in KINDS or not set(made.changed) <= set(LENT) or marks != 1:
         raise ValueError("%s: %s" % (FILE.name, head))

@@ -10,17 +10,13 @@ A lesson goes in, an answer comes out. The operations are proved; this module, w
 ...     print(refusal.number, refusal.position, refusal.name)
 30 44 name unknown
 
-What to do about a refusal, `hint` says. A lesson can also be written as frames, stack code for readers (`frames`), whose runs go on in parts and can be stored between them (`run_frames`, `parts`, `Paused`).
+A lesson can also be written as frames, stack code for readers (`frames`), whose runs go on in parts and can be stored between them (`run_frames`, `parts`, `Paused`).
 
-It takes liblessonengine.so, and liblesson_hints.so for hints, from the folder that the environment names as ENGINE_LIBRARY; else from beside itself, where pip puts them, from
-where ./build of the repository writes them, or from where the system has them. Lessons, libraries, frames and tapes are bytes. A call needs up to STACK_BYTES of stack beside the
-interpreter's own. Any number of threads may call at once.
+It takes libengine.so from the folder that the environment names as ENGINE_LIBRARY, or from where ./build of the repository writes it. A call needs up to STACK_BYTES of stack
+beside the interpreter's own. Any number of threads may call at once.
 """
-import contextlib
 import ctypes
 import dataclasses
-import functools
-import json
 import os
 import pathlib
 import re
@@ -42,67 +38,63 @@ STACK_ENTRIES = 140000  # the stack strip of frames has at least so many entries
 STACK_BYTES = 1048576  # a call takes at most so many bytes of stack
 # words/write]
 
-Bytes = typing.Union[bytes, bytearray, memoryview]
-
 
 class Words(typing.NamedTuple):
-    """What a number means, and how to put it right. `cause` is `call` where what was lent does not fit, `lesson`, `library` or `frames` where that is refused, `fault` or `limit`
-    where a run ended so."""
+    """What a number means. `cause` is `call` where what was lent does not fit, `lesson`, `library` or `frames` where that is refused, `fault` or `limit` where a run ended so."""
 
     name: str
     sentence: str
     cause: str
-    remedy: str
 
 
 WORDS = {
     # [words/write numbers: what words/refusals.txt says
-    1: Words("table too short", "The work table has fewer than 16,384 words.", "call", "Pass a work table of at least 16,384 words."),
-    2: Words("call limit out of range", "The call limit is not between 1 and 64.", "call", "Give a call limit from 1 to 64."),
-    3: Words("heap too long", "The heap strip has more than 16,384 words.", "call", "Pass a heap strip of at most 16,384 words."),
-    4: Words("strip too short", "The strip has fewer words than the lesson has classes, the main class not counted.", "call", "Pass a strip of 2,048 words: no lesson has more classes."),
-    10: Words("source too long", "The lesson has more than 16,384 bytes.", "lesson", "Shorten the lesson: comments and indentation count too. What many lessons share can stand in a library, but the joined text has the same bound."),
-    11: Words("invalid character", "No name, number or mark of the language begins with this character.", "lesson", "Take the character out, or write what the language has in its place. Strings, other alphabets and further operators stand in comments only."),
-    12: Words("comment not closed", "A block comment is opened and never closed; comments nest, so each opening needs its own closing.", "lesson", "Close the comment, once for each time that it is opened: an opening inside a comment counts too."),
-    13: Words("name too long", "The name has more than 255 letters, digits and underscores.", "lesson", "Choose a shorter name."),
-    14: Words("literal too large", "The number is larger than 2147483647 or, with a point, larger than 2147483.647.", "lesson", "Write a smaller number, or compute the value from smaller ones; sums and products keep their low 32 bits."),
-    15: Words("too many tokens", "The lesson has more than 2,048 tokens: words, numbers and marks.", "lesson", "Shorten the lesson: a loop or a method says once what is repeated. Comments do not count."),
-    16: Words("syntax error", "This does not fit the grammar here: something is missing, out of place or too much.", "lesson", "Write what can stand at this place; the mistake may also lie just before it. What Java has and a lesson has not, such as an `if` without `else`, is written out."),
-    17: Words("too deep", "A statement or an expression is nested more than 64 levels deep.", "lesson", "Take the inner part out: into a local, a method or a statement of its own."),
-    20: Words("class repeated", "An earlier class has the same name.", "lesson", "Rename one of the two classes, or leave one out."),
-    21: Words("parent unknown", "No class has the name after `extends`; the main class cannot be extended.", "lesson", "Write the name as the class declares it, add the class, or leave `extends` out."),
-    22: Words("cyclic inheritance", "The class extends itself, or its chain of parents runs into a loop.", "lesson", "Leave out one `extends` of the loop: every chain ends at a class that extends none."),
-    23: Words("field repeated", "The class already has a field of this name.", "lesson", "Rename or leave out one of the two fields."),
-    24: Words("type unknown", "No class has this name; the main class cannot be used as a type.", "lesson", "Write the name as the class declares it, add the class, or use `int`, `boolean` or `fixed`."),
-    25: Words("method repeated", "The class already has a method of this name; methods cannot be overloaded.", "lesson", "Rename or leave out one of the two methods."),
-    26: Words("incompatible override", "The method of this name in a class above has other parameter types, or a result type that this one's does not fit.", "lesson", "Give the method the parameter types of the one above and a result that fits, or another name."),
-    27: Words("variable repeated", "The method already has a parameter or local of this name.", "lesson", "Rename or leave out one of the two."),
-    28: Words("too many variables", "The method has more than 32 parameters and locals in all.", "lesson", "Keep some of the values in fields or in an array, or split the method."),
-    30: Words("name unknown", "No local, parameter or field of this name is visible here; main sees none at all.", "lesson", "Write the name as it is declared, or declare it: a local at the beginning of the method, a field in the class. In main, call a method that does the work."),
-    31: Words("wrong type", "This expression has the wrong type here.", "lesson", "Write an expression of the type that the place needs, or change the type that is declared. There are no conversions between `int`, `boolean` and `fixed`."),
-    32: Words("method unknown", "Neither the class nor a class above it has a method of this name.", "lesson", "Write the name as the method declares it, or add the method to the class."),
-    33: Words("wrong number of arguments", "The call has another number of arguments than the method has parameters.", "lesson", "Give an argument for each parameter."),
-    34: Words("this in main", "Main belongs to no object, so it has no `this`.", "lesson", "Make an object in main, `new A()`, and call its method."),
-    40: Words("null reference", "The object or array that is used here is null.", "fault", "Assign an object or array first: fields, locals and elements begin as null."),
-    41: Words("index out of range", "The index is negative or not less than the array's length.", "fault", "Keep the index within 0 and the length less 1, for example by the condition of the loop."),
-    42: Words("negative size", "An array cannot have a negative length.", "fault", "Look at how the length is computed: it must be 0 or more."),
-    50: Words("budget spent", "The step budget is used up.", "limit", "Look for a loop whose condition stays true, or a method that calls itself too often; where the lesson needs more steps, or the frames cost more, give a larger budget."),
-    51: Words("heap full", "The heap strip has no room for this object or array.", "limit", "Make fewer or smaller objects and arrays, nothing is freed; or pass a larger heap strip, up to 16,384 words."),
-    52: Words("call limit reached", "As many calls are open as the call limit allows.", "limit", "Look for a method that calls itself without end: it needs a case in which it does not. At most 64 calls can be open; a loop needs none."),
-    53: Words("output full", "The output strip has no room for another number.", "limit", "Print fewer numbers, or pass a longer output strip."),
-    60: Words("leading zero", "The number begins with 0 and another digit; Java would read it as octal.", "lesson", "Leave out the leading zeros."),
-    61: Words("text too long", "The strip is too short for the printed lesson.", "call", "Pass a strip of 18,432 bytes, or of the lesson's length and 2,048: no printed text is longer."),
-    62: Words("registers not sixteen", "The register strip is not 16 bytes long.", "call", "Pass a register strip of 16 bytes."),
-    63: Words("register out of range", "The register number is not 0 to 15.", "fault", "Give `Port.get` and `Port.put` a register from 0 to 15."),
-    64: Words("value out of range", "The value that is put is not 0 to 255.", "fault", "Put a value from 0 to 255."),
-    65: Words("not three digits", "A number with a point needs exactly three digits after it.", "lesson", "Write three digits after the point: `12.500`."),
-    66: Words("library refused", "The library is something other than class declarations, or does not keep Read's rules and bounds.", "library", "Put the library right as Read's number for it says; `main` stands in lessons only."),
-    67: Words("joined too long", "The strip is too short for the lesson and the classes of the library.", "call", "Pass a strip of 33,281 bytes, or of the lengths of lesson and library and 513: no joined text is longer."),
-    68: Words("frames too short", "The strip is too short for the frames of the lesson, or the stack strip has fewer than 140,000 entries.", "call", "Pass 373,417 bytes for frames, and a stack strip of 140,000 entries."),
-    69: Words("other form", "The line is not ten lower-case hexadecimal digits and a line feed.", "frames", "Give the frames as `lesson frames` writes them."),
-    70: Words("frame fault", "The code table does not allow this frame, by its code, its operand or a value that it takes; or the stack strip is full, or the line is past the last.", "fault", "Give frames that `lesson frames` wrote, and a stack strip of 140,000 entries: these never end so."),
-    71: Words("record unfit", "The record does not fit the frames, the limits or the strips, or its counts and the new budget are together above 4294967295.", "call", "Go on with the same frames, tape, limits and strips, and with a budget that keeps the sum at 4294967295 or less."),
-    72: Words("price unfit", "The price of a call is neither 1 nor 10.", "call", "Give the price 1 or 10."),
+    1: Words("table too short", "The work table has fewer than 16,384 words.", "call"),
+    2: Words("call limit out of range", "The call limit is not 1 to 64.", "call"),
+    3: Words("heap too long", "The heap strip has more than 16,384 words.", "call"),
+    4: Words("strip too short", "The strip has fewer words than the lesson has classes beside main's.", "call"),
+    10: Words("source too long", "The lesson has more than 16,384 bytes.", "lesson"),
+    11: Words("no token", "No word, number or mark of the language begins with this byte.", "lesson"),
+    12: Words("comment not closed", "A block comment is opened and never closed; comments nest, so each opening needs its own closing.", "lesson"),
+    13: Words("name too long", "A name has more than 255 letters, digits and underscores.", "lesson"),
+    14: Words("literal too large", "A number is larger than 2147483647, or one with a point larger than 2147483.647.", "lesson"),
+    15: Words("too many tokens", "The lesson has more than 2,048 words, numbers and marks.", "lesson"),
+    16: Words("not in grammar", "No program goes on like this from here: something is missing, misplaced or too much.", "lesson"),
+    17: Words("too deep", "A statement or an expression lies inside more than 63 others.", "lesson"),
+    20: Words("class repeated", "Another class before this one has the same name.", "lesson"),
+    21: Words("parent unknown", "The lesson has no class of the name after `extends`; the main class cannot be extended.", "lesson"),
+    22: Words("chain endless", "The class extends itself, or its parents lead into a loop.", "lesson"),
+    23: Words("field repeated", "The class has another field of the same name.", "lesson"),
+    24: Words("type unknown", "The lesson has no class of this name; the main class is no type.", "lesson"),
+    25: Words("method repeated", "The class has another method of the same name.", "lesson"),
+    26: Words("bad redeclaration", "A method of this name in a class above has other parameter types, or a result that this one's does not fit.", "lesson"),
+    27: Words("variable repeated", "The method has another parameter or local of the same name.", "lesson"),
+    28: Words("too many variables", "The method has more than 32 parameters and locals together.", "lesson"),
+    30: Words("name unknown", "No local, parameter or field of this name can be seen here; main sees none at all.", "lesson"),
+    31: Words("wrong type", "This part has another type than its place needs.", "lesson"),
+    32: Words("method unknown", "Neither the class nor a class above it has a method of this name.", "lesson"),
+    33: Words("argument count", "The method takes another number of arguments.", "lesson"),
+    34: Words("this in main", "Main belongs to no object, so it has no `this`.", "lesson"),
+    40: Words("null reference", "There is no object or array here: the reference is null.", "fault"),
+    41: Words("index out of range", "The index is negative, or not below the array's length.", "fault"),
+    42: Words("negative size", "An array cannot have a negative length.", "fault"),
+    50: Words("budget spent", "The budget of steps or frames is spent, and another is due.", "limit"),
+    51: Words("heap full", "The heap strip has no room for this object or array.", "limit"),
+    52: Words("calls full", "As many calls are open as the call limit allows.", "limit"),
+    53: Words("output full", "The output strip has no room for another number.", "limit"),
+    60: Words("leading zero", "A number begins with 0 and another digit, which means another number in Java.", "lesson"),
+    61: Words("text too long", "The strip is too short for the printed lesson.", "call"),
+    62: Words("registers not sixteen", "The register strip has not exactly 16 bytes.", "call"),
+    63: Words("register out of range", "The cable has registers 0 to 15 only.", "fault"),
+    64: Words("value out of range", "A register takes 0 to 255 only.", "fault"),
+    65: Words("not three digits", "A number with a point has other than three digits behind it.", "lesson"),
+    66: Words("library refused", "The library has something other than class declarations, or Read's rules and bounds do not hold for it.", "library"),
+    67: Words("joined too long", "The strip is too short for the lesson and the classes of the library.", "call"),
+    68: Words("frames too short", "The strip is too short for the frames of the lesson, or the stack strip has fewer than 140,000 entries.", "call"),
+    69: Words("other form", "The line is something other than ten lower-case hexadecimal digits and a line feed.", "frames"),
+    70: Words("frame fault", "The code table does not allow this frame, by its code, its operand or a value that it takes; or the stack strip is full, or the line is past the last.", "fault"),
+    71: Words("record unfit", "The record does not fit the frames, the limits or the strips, or its counts and the new budget are together above 4294967295.", "call"),
+    72: Words("price unfit", "The price of a call is neither 1 nor 10.", "call"),
     # words/write]
 }
 
@@ -111,43 +103,20 @@ class Refusal(Exception):
     """Why a lesson, a library or a text of frames is refused, or how a run ended otherwise than by itself, and where: a position in bytes, from 0. Of number 66, and of what
     `read_library` refuses, it counts the bytes of the library; of a run of frames those of the frames."""
 
-    def __init__(self, number: int, position: int) -> None:
+    def __init__(self, number, position):
         super().__init__(number, position)
         self.number = number
         self.position = position
-        self.name, self.sentence, self.cause, self.remedy = WORDS[number]
+        self.name, self.sentence, self.cause = WORDS[number]
 
-    def __str__(self) -> str:
+    def __str__(self):
         return "%d %s, at byte %d: %s" % (self.number, self.name, self.position, self.sentence)
 
-    def __eq__(self, other: object) -> bool:
+    def __eq__(self, other):
         return isinstance(other, Refusal) and self.args == other.args
 
-    def __hash__(self) -> int:
+    def __hash__(self):
         return hash(self.args)
-
-
-@dataclasses.dataclass(frozen=True)
-class Replacement:
-    """What can be put in the place of the bytes from `start` to `end`."""
-
-    start: int
-    end: int
-    text: str
-
-    def applied(self, lesson: Bytes) -> bytes:
-        """The lesson with the replacement."""
-        return bytes(lesson[: self.start]) + self.text.encode() + bytes(lesson[self.end :])
-
-
-@dataclasses.dataclass(frozen=True)
-class Hint:
-    """What to do about a refusal or the end of a run. `position` is where a mark is better shown than at that of the refusal, `replacement` what an editor can offer to put in;
-    both may be None."""
-
-    message: str
-    position: typing.Optional[int]
-    replacement: typing.Optional[Replacement]
 
 
 @dataclasses.dataclass(frozen=True)
@@ -292,29 +261,16 @@ class FramesAnswer(ctypes.Structure):
 # words/write]
 
 
-def lent(kind: type) -> list:
+def lent(kind):
     """A strip to be written, of numbers of a kind: a pointer and a length."""
     return [ctypes.POINTER(kind), ctypes.c_size_t]
 
 
-def opened(name: str) -> ctypes.CDLL:
-    """A shared library: from the folder that the environment names; else from beside this module, where ./build of the repository writes it, or where the system's loader finds it.
-    Raises an ImportError where none has it."""
-    here = pathlib.Path(__file__).resolve().parent
-    named = os.environ.get("ENGINE_LIBRARY")
-    folders = [pathlib.Path(named)] if named else [here, here.parent.parent / "target" / "lib"]
-    for folder in folders:
-        if (folder / name).exists():
-            return ctypes.CDLL(str(folder / name))
-    for installed in () if named else ("%s.%d" % (name, VERSION), name):
-        with contextlib.suppress(OSError):
-            return ctypes.CDLL(installed)
-    raise ImportError("%s is not in %s: ./build of the repository writes it" % (name, " or ".join(map(str, folders))))
-
-
-def load() -> ctypes.CDLL:
+def load():
     """The library, with its functions declared."""
-    found = opened("liblessonengine.so")
+    here = pathlib.Path(__file__).resolve().parent
+    folder = pathlib.Path(os.environ.get("ENGINE_LIBRARY", here.parent.parent / "target" / "lib"))
+    found = ctypes.CDLL(str(folder / "libengine.so"))
     given = [ctypes.c_char_p, ctypes.c_size_t]
     found.engine_version.argtypes, found.engine_version.restype = [], ctypes.c_uint32
     # [words/write functions: what words/operations.txt says
@@ -338,43 +294,23 @@ def load() -> ctypes.CDLL:
     found.engine_continue_frames.restype = FramesAnswer
     # words/write]
     if found.engine_version() != VERSION:
-        raise ImportError("liblessonengine.so has version %d, not %d" % (found.engine_version(), VERSION))
+        raise ImportError("libengine.so has version %d, not %d" % (found.engine_version(), VERSION))
     return found
 
 
 LIBRARY = load()
 
 
-def octets(name: str, given: Bytes) -> bytes:
-    """What is given as bytes. Raises a TypeError for text and everything else, which names the argument.
-
-    >>> check("class A{}")
-    Traceback (most recent call last):
-    ...
-    TypeError: the lesson is str, and must be bytes: use .encode()
-    """
-    if isinstance(given, (bytes, bytearray, memoryview)):
-        return bytes(given)
-    raise TypeError("the %s is %s, and must be bytes%s" % (name, type(given).__name__, ": use .encode()" if isinstance(given, str) else ""))
-
-
-def passed(name: str, given: Bytes) -> tuple:
-    """What is given as bytes, and its length."""
-    text = octets(name, given)
-    return text, len(text)
-
-
-def strip(kind: type, length: int) -> tuple:
+def strip(kind, length):
     """Room for so many numbers of a kind, and the length; never null, as a pointer of ctypes to no elements could be."""
     return (kind * max(length, 1))(), length
 
 
-def table() -> tuple:
+def table():
     return strip(ctypes.c_uint32, TABLE_WORDS)
 
 
 def accepted(answer):
-    """The answer of an operation. Raises a Refusal where it is one."""
     if answer.number:
         raise Refusal(answer.number, answer.position)
     return answer
@@ -384,16 +320,13 @@ WORD_MOST = (1 << 32) - 1
 SIZE_MOST = (1 << 64) - 1
 
 
-def fit(word: int, limits: typing.Union[Limits, FrameLimits]) -> None:
-    """Raises a ValueError where a budget or a price is none of 32 bits, or a limit is below 0, and a TypeError where one is no whole number."""
-    for number in (word, limits.calls, limits.heap, limits.output):
-        if not isinstance(number, int):
-            raise TypeError("a limit is %s, and must be int" % type(number).__name__)
+def fit(word, limits):
+    """Raises a ValueError where a budget or a price is none of 32 bits, or a limit is below 0."""
     if not (0 <= word <= WORD_MOST and min(limits.calls, limits.heap, limits.output) >= 0):
         raise ValueError("a limit is below 0, or the budget or the price is above 4294967295")
 
 
-def ending(answer) -> typing.Optional[Refusal]:
+def ending(answer):
     """How a run ended; raises a Refusal where it never began."""
     end = Refusal(answer.number, answer.position) if answer.number else None
     if end and end.cause not in ("fault", "limit"):
@@ -401,53 +334,53 @@ def ending(answer) -> typing.Optional[Refusal]:
     return end
 
 
-def read(lesson: Bytes) -> Size:
+def read(lesson):
     """Is the lesson in the grammar, and within the bounds? Raises a Refusal where it is not.
 
     >>> read(b"class M{public static void main(String[] a){{}}}")
     Size(tokens=18, nodes=1)
     """
-    answer = accepted(LIBRARY.engine_read(*passed("lesson", lesson), *table()))
+    answer = accepted(LIBRARY.engine_read(lesson, len(lesson), *table()))
     return Size(answer.tokens, answer.nodes)
 
 
-def check(lesson: Bytes) -> int:
+def check(lesson):
     """May the lesson run? How many classes it has beside main's; raises a Refusal where it may not.
 
     >>> check(b"class M{public static void main(String[] a){{}}} class A{}")
     1
     """
-    return accepted(LIBRARY.engine_check(*passed("lesson", lesson), *table())).classes
+    return accepted(LIBRARY.engine_check(lesson, len(lesson), *table())).classes
 
 
-def menu(lesson: Bytes) -> typing.List[int]:
+def menu(lesson):
     """Where the names of the classes beside main's stand, a parent before the classes that extend it.
 
     >>> menu(b"class M{public static void main(String[] a){{}}} class B extends A{} class A{}")
     [75, 55]
     """
     positions, length = strip(ctypes.c_uint32, CLASSES_MOST)
-    answer = accepted(LIBRARY.engine_menu(*passed("lesson", lesson), *table(), positions, length))
+    answer = accepted(LIBRARY.engine_menu(lesson, len(lesson), *table(), positions, length))
     return positions[: answer.classes]
 
 
-def run(lesson: Bytes, limits: Limits = Limits(), tape: Bytes = b"") -> Run:
+def run(lesson, limits=Limits(), tape=b""):
     """Checks the lesson and runs it, with samples of a tape. Raises a Refusal where the lesson does not run; a run that began is answered, however it ended.
 
     >>> run(b"class M{public static void main(String[] a){while(true){}}}", Limits(budget=10)).end.name
     'budget spent'
     """
     fit(limits.budget, limits)
-    # One word more than is allowed is refused as any longer heap is; a printed number takes two steps, of the statement and of its expression.
+    # One word more than is allowed is refused as any longer heap is; no run prints more numbers than it has steps.
     heap = strip(ctypes.c_int32, min(limits.heap, HEAP_MOST + 1))
-    output = strip(ctypes.c_int32, min(limits.output, limits.budget // 2))
+    output = strip(ctypes.c_int32, min(limits.output, limits.budget))
     registers = strip(ctypes.c_uint8, REGISTERS)
     bounds = RunLimits(limits.budget, min(limits.calls, SIZE_MOST))
-    answer = LIBRARY.engine_run(*passed("lesson", lesson), *table(), bounds, *heap, *output, *registers, *passed("tape", tape))
+    answer = LIBRARY.engine_run(lesson, len(lesson), *table(), bounds, *heap, *output, *registers, tape, len(tape))
     return Run(ending(answer), answer.steps, answer.climbs, answer.words, output[0][: answer.printed], bytes(registers[0]))
 
 
-def join(lesson: Bytes, library: Bytes) -> bytes:
+def join(lesson, library):
     """Puts a library, which is zero or more class declarations, under a lesson: the lesson, a line feed, and each class of the library whose name no class of the lesson has.
     All other functions take that text. What is wrong with a library that is refused `read_library` says.
 
@@ -455,11 +388,11 @@ def join(lesson: Bytes, library: Bytes) -> bytes:
     b'class M{public static void main(String[] a){{}}} class A{}\\nclass B{}\\n'
     """
     text, length = strip(ctypes.c_uint8, JOIN_MOST)
-    answer = accepted(LIBRARY.engine_join(*passed("lesson", lesson), *table(), *passed("library", library), text, length))
+    answer = accepted(LIBRARY.engine_join(lesson, len(lesson), *table(), library, len(library), text, length))
     return bytes(text[: answer.count])
 
 
-def tidy(lesson: Bytes) -> bytes:
+def tidy(lesson):
     """Writes a lesson in the house layout: a line feed after each `;`, `{` and `}`, a space after every other token, no comments, and just the parentheses that its tree needs.
     A text of at most SOURCE_MOST bytes is accepted again, and tidy already.
 
@@ -471,20 +404,19 @@ def tidy(lesson: Bytes) -> bytes:
     }
     """
     text, length = strip(ctypes.c_uint8, PRINT_MOST)
-    answer = accepted(LIBRARY.engine_print(*passed("lesson", lesson), *table(), text, length))
+    answer = accepted(LIBRARY.engine_print(lesson, len(lesson), *table(), text, length))
     return bytes(text[: answer.count])
 
 
-def read_library(library: Bytes) -> None:
+def read_library(library):
     """Is a library in the grammar, and within the bounds? Raises a Refusal, with the number that Read gives a lesson for the same fault, where it is not.
 
     >>> try:
     ...     read_library(b"class A{} main")
     ... except Refusal as refusal:
     ...     print(refusal.number, refusal.position, refusal.name)
-    16 10 syntax error
+    16 10 not in grammar
     """
-    library = octets("library", library)
     position = refused_at(library)
     if position is None:
         return
@@ -497,62 +429,6 @@ def read_library(library: Bytes) -> None:
     raise Refusal(NOT_IN_GRAMMAR if is_ungrammatical(library, position) else TOO_DEEP, position)
 
 
-@functools.lru_cache(maxsize=None)
-def hints_library() -> ctypes.CDLL:
-    """The library of hints, with its functions declared."""
-    found = opened("liblesson_hints.so")
-    for function in (found.hints_of_lesson, found.hints_of_library):
-        function.argtypes = [ctypes.c_char_p, ctypes.c_size_t, ctypes.c_uint32, ctypes.c_size_t, *lent(ctypes.c_uint8)]
-        function.restype = ctypes.c_size_t
-    return found
-
-
-HINT_BYTES = 1024  # more than most hints have
-
-
-def hint_of(function, text: bytes, refusal: Refusal) -> typing.Optional[Hint]:
-    """The hint that a function of the library writes."""
-    room, length = strip(ctypes.c_uint8, HINT_BYTES)
-    needed = function(text, len(text), refusal.number, refusal.position, room, length)
-    if needed > length:
-        room, length = strip(ctypes.c_uint8, needed)
-        function(text, len(text), refusal.number, refusal.position, room, length)
-    if not needed:
-        return None
-    found = json.loads(bytes(room[:needed]).decode())
-    replacement = found["replacement"] and Replacement(**found["replacement"])
-    return Hint(found["message"], found["position"], replacement)
-
-
-def hint(lesson: Bytes, refusal: Refusal) -> typing.Optional[Hint]:
-    """What to do about a refusal of a lesson, or about the end of its run; None where there is nothing to say beside the sentence.
-
-    >>> lesson = b"class M{public static void main(String[] a){System.out.println(1)}}"
-    >>> try:
-    ...     check(lesson)
-    ... except Refusal as refusal:
-    ...     found = hint(lesson, refusal)
-    >>> found.message
-    'expected `;`'
-    >>> check(found.replacement.applied(lesson))
-    0
-    """
-    return hint_of(hints_library().hints_of_lesson, octets("lesson", lesson), refusal)
-
-
-def library_hint(library: Bytes, fault: Refusal) -> typing.Optional[Hint]:
-    """The same for what `read_library` raises.
-
-    >>> library = b"class A{int volts}"
-    >>> try:
-    ...     read_library(library)
-    ... except Refusal as fault:
-    ...     print(library_hint(library, fault).message)
-    expected `;`
-    """
-    return hint_of(hints_library().hints_of_library, octets("library", library), fault)
-
-
 SMALLEST = b"class M{public static void main(String[]a){{}}}"  # a lesson to which every library can be joined
 NOT_IN_GRAMMAR = 16
 TOO_DEEP = 17
@@ -560,7 +436,7 @@ TOO_DEEP = 17
 TOKEN = re.compile(rb"[A-Za-z0-9_.]+|&&|.", re.DOTALL)
 
 
-def refused_at(library: bytes) -> typing.Optional[int]:
+def refused_at(library):
     """Where Join refuses a library; None where it does not."""
     try:
         join(SMALLEST, library)
@@ -568,7 +444,7 @@ def refused_at(library: bytes) -> typing.Optional[int]:
         return refusal.position
 
 
-def is_ungrammatical(library: bytes, at: int) -> bool:
+def is_ungrammatical(library, at):
     """Whether a library all of whose tokens are good, and which is refused at a position, is not in the grammar; else it is too deep there.
 
     What is refused at its end is not in the grammar. Else it is cut off behind the token at that place. If no library begins with the tokens up to this one, it is refused at the
@@ -577,21 +453,21 @@ def is_ungrammatical(library: bytes, at: int) -> bool:
     return at == len(library) or refused_at(library[: TOKEN.match(library, at).end()]) == at
 
 
-def frames(lesson: Bytes) -> bytes:
+def frames(lesson):
     """Writes a lesson as frames: stack code for a reader, a frame a line (docs/FRAMES.md). `run_frames` and `parts` run them.
 
     >>> frames(b"class M{public static void main(String[] a){System.out.println(7);}}")
     b'000000002c\\n000000003f\\n0100000007\\n0f0000002c\\n0700000000\\n'
     """
     text, length = strip(ctypes.c_uint8, FRAMES_MOST)
-    answer = accepted(LIBRARY.engine_encode(*passed("lesson", lesson), *table(), text, length))
+    answer = accepted(LIBRARY.engine_encode(lesson, len(lesson), *table(), text, length))
     return bytes(text[: answer.count])
 
 
 class State:
     """A run of frames between two parts: what is lent to each, and the record of the last, None before the first."""
 
-    def __init__(self, calls: int, heap: int, output_most: int) -> None:
+    def __init__(self, calls, heap, output_most):
         self.calls = min(calls, SIZE_MOST)
         self.output_most = output_most
         self.record = None
@@ -601,7 +477,7 @@ class State:
         self.registers = strip(ctypes.c_uint8, REGISTERS)
         self.stack = strip(ctypes.c_uint64, STACK_ENTRIES)
 
-    def copy(self) -> "State":
+    def copy(self):
         made = State(self.calls, self.heap[1], self.output_most)
         made.record, made.printed = self.record, self.printed
         for name in ("heap", "registers", "stack"):
@@ -609,7 +485,7 @@ class State:
             setattr(made, name, (type(lent_strip).from_buffer_copy(lent_strip), length))
         return made
 
-    def part(self, text: bytes, budget: int, price: int, tape: bytes) -> FramesAnswer:
+    def part(self, text, budget, price, tape):
         """Carries a part out."""
         # No part prints more numbers than it can pay frames.
         room = min(self.output_most, len(self.printed) + budget + (self.record.unspent if self.record else 0))
@@ -626,18 +502,18 @@ class State:
         return answer
 
 
-def run_of(state: State, answer: FramesAnswer, text: bytes, tape: bytes) -> FrameRun:
+def run_of(state, answer, text, tape):
     """What is known after a part."""
     end = ending(answer)
     paused = Paused(state, hashed(text), hashed(tape)) if is_paused(end) else None
     return FrameRun(end, answer.frames, answer.words, state.printed, bytes(state.registers[0]), paused)
 
 
-def is_paused(end: typing.Optional[Refusal]) -> bool:
+def is_paused(end):
     return end is not None and end.number == BUDGET_SPENT
 
 
-def run_frames(text: Bytes, limits: FrameLimits = FrameLimits(), tape: Bytes = b"") -> FrameRun:
+def run_frames(text, limits=FrameLimits(), tape=b""):
     """Runs frames, with samples of a tape. Raises a Refusal where they do not run; a run that began is answered, however it ended.
 
     >>> run = run_frames(frames(b"class M{public static void main(String[] a){System.out.println(1+2);}}"))
@@ -646,7 +522,6 @@ def run_frames(text: Bytes, limits: FrameLimits = FrameLimits(), tape: Bytes = b
     """
     fit(limits.budget, limits)
     fit(limits.price, limits)
-    text, tape = octets("text of frames", text), octets("tape", tape)
     state = State(limits.calls, limits.heap, limits.output)
     return run_of(state, state.part(text, limits.budget, limits.price, tape), text, tape)
 
@@ -662,7 +537,7 @@ STORED_NUMBERS = "<16Q"  # the call limit, two lengths, two hashes, the record, 
 HASH_BYTES = 8
 
 
-def hashed(stored: bytes) -> int:
+def hashed(stored):
     """FNV-1a. It tells what was mistaken for something else, and protects against no one who means to deceive."""
     made = 0xCBF29CE484222325
     for byte in stored:
@@ -670,7 +545,7 @@ def hashed(stored: bytes) -> int:
     return made
 
 
-def without_last_zeros(numbers: typing.List[int]) -> typing.List[int]:
+def without_last_zeros(numbers):
     while numbers and not numbers[-1]:
         numbers.pop()
     return numbers
@@ -690,54 +565,52 @@ class Paused:
     lesson_engine.PauseError: is a pause of other frames
     """
 
-    def __init__(self, state: State, frames_hash: int, tape_hash: int) -> None:
+    def __init__(self, state, frames_hash, tape_hash):
         self.state = state
         self.frames_hash = frames_hash
         self.tape_hash = tape_hash
 
     @property
-    def record(self) -> FrameRecord:
+    def record(self):
         """Where the run is."""
         return self.state.record
 
     @property
-    def printed(self) -> typing.List[int]:
+    def printed(self):
         """The numbers that were printed so far."""
         return self.state.printed
 
     @property
-    def heap(self) -> typing.List[int]:
+    def heap(self):
         """What the heap strip holds."""
         return self.state.heap[0][: self.state.heap[1]]
 
     @property
-    def stack(self) -> typing.List[int]:
+    def stack(self):
         """What the stack strip holds."""
         return self.state.stack[0][:]
 
-    def check(self, text: bytes, tape: bytes) -> None:
+    def check(self, text, tape):
         """Raises a PauseError where it does not belong to these frames and this tape."""
         if self.frames_hash != hashed(text):
             raise PauseError("is a pause of other frames")
         if self.tape_hash != hashed(tape):
             raise PauseError("is a pause of a run with another tape")
 
-    def resume(self, text: Bytes, budget: int = FrameLimits.budget, price: int = FrameLimits.price, tape: Bytes = b"") -> FrameRun:
+    def resume(self, text, budget=FrameLimits.budget, price=FrameLimits.price, tape=b""):
         """Goes on with the run, with a further budget. What it counts, it counts over all parts."""
-        text, tape = octets("text of frames", text), octets("tape", tape)
         self.check(text, tape)
         fit(budget, FrameLimits())
         fit(price, FrameLimits())
         state = self.state.copy()
         return run_of(state, state.part(text, budget, price, tape), text, tape)
 
-    def parts(self, text: Bytes, budget: int, price: int = FrameLimits.price, tape: Bytes = b"") -> "Parts":
+    def parts(self, text, budget, price=FrameLimits.price, tape=b""):
         """Goes on with the run in parts of a budget each."""
-        text, tape = octets("text of frames", text), octets("tape", tape)
         self.check(text, tape)
         return Parts(self.state.copy(), text, budget, price, tape)
 
-    def to_bytes(self) -> bytes:
+    def to_bytes(self):
         """The bytes as which it can be stored; `from_bytes` reads them back. bindings/rust/src/paused.rs has their form."""
         state = self.state
         heap, stack = without_last_zeros(self.heap), without_last_zeros(self.stack)
@@ -749,9 +622,8 @@ class Paused:
         return made + struct.pack("<Q", hashed(made))
 
     @staticmethod
-    def from_bytes(stored: Bytes) -> "Paused":
+    def from_bytes(stored):
         """Reads back what was stored. Raises a PauseError where the bytes were changed."""
-        stored = octets("stored pause", stored)
         version = stored[len(STORED_NAME) : len(STORED_NAME) + 1]
         if stored.startswith(STORED_NAME) and version and version != STORED_VERSION:
             raise PauseError("is a pause that another version stored")
@@ -764,7 +636,7 @@ class Paused:
             raise PauseError("is no stored pause, or was changed") from wrong
 
 
-def paused_of(within: bytes) -> Paused:
+def paused_of(within):
     """The pause of what is stored between name and hash; a ValueError or struct.error where it is none."""
     calls, heap_length, output_most, frames_hash, tape_hash, *record, heap_count, stack_count = struct.unpack_from(STORED_NUMBERS, within)
     place = FrameRecord(*record)
@@ -788,7 +660,7 @@ class Parts:
     """A run of frames in parts of a budget each: an iterator whose last part ends otherwise than in number 50, or spends the last of 4294967295. Between two parts the caller can
     do something else, or end the run."""
 
-    def __init__(self, state: State, text: bytes, budget: int, price: int, tape: bytes) -> None:
+    def __init__(self, state, text, budget, price, tape):
         self.state = state
         self.text = text
         self.budget = budget
@@ -796,10 +668,10 @@ class Parts:
         self.tape = tape
         self.is_over = False
 
-    def __iter__(self) -> "Parts":
+    def __iter__(self):
         return self
 
-    def __next__(self) -> Part:
+    def __next__(self):
         record = self.state.record
         budget = min(self.budget, WORD_MOST - (record.frames + record.unspent if record else 0))
         # A part that costs nothing would be followed by others without end.
@@ -812,14 +684,14 @@ class Parts:
         self.is_over = not is_paused(end)
         return Part(end, answer.frames, self.state.printed[before:])
 
-    def pause(self) -> typing.Optional[Paused]:
+    def pause(self):
         """Where the run goes on; None before its first part, and where it came to an end."""
         if self.is_over or not self.state.record:
             return None
         return Paused(self.state.copy(), hashed(self.text), hashed(self.tape))
 
 
-def parts(text: Bytes, limits: FrameLimits = FrameLimits(), tape: Bytes = b"") -> Parts:
+def parts(text, limits=FrameLimits(), tape=b""):
     """Runs frames in parts, each with the budget of the limits. They end as one run with all these budgets does.
 
     >>> endless = frames(b"class M{public static void main(String[] a){while(true){System.out.println(7);}}}")
@@ -833,5 +705,4 @@ def parts(text: Bytes, limits: FrameLimits = FrameLimits(), tape: Bytes = b"") -
     """
     fit(limits.budget, limits)
     fit(limits.price, limits)
-    text, tape = octets("text of frames", text), octets("tape", tape)
     return Parts(State(limits.calls, limits.heap, limits.output), text, limits.budget, limits.price, tape)

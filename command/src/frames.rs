@@ -5,7 +5,7 @@ use crate::listing;
 use crate::show::name;
 use crate::source::Source;
 use crate::usage::{Asked, OfFrames};
-use crate::{good, name_at, numbers, refused, replace, written, wrong, Said, PAUSED};
+use crate::{good, name_at, numbers, refused, replace, wrong, written, Said, PAUSED};
 use lesson_engine::{FrameLimits, FrameRun, Limits, PauseError, Paused, Refusal};
 
 /// The names of the classes, in the order of the lesson.
@@ -45,7 +45,7 @@ fn part(asked: &Asked, of: &OfFrames, source: &Source, saved: Option<&Saved>, ta
         None => lesson_engine::run_frames(source.text(), &FrameLimits { budget, price, calls, heap, output }, tape).map_err(refusal),
         Some(saved) => saved.paused.resume(source.text(), budget, price, tape).map_err(|e| match e {
             PauseError::Refused(r) => refusal(r),
-            e => wrong(asked, &source.lesson.name, &format!("{}: {}", saved.name, e)),
+            e => wrong(&format!("{}: {}", saved.name, e)),
         }),
     }
 }
@@ -68,7 +68,7 @@ fn ended(asked: &Asked, of: &OfFrames, source: &Source, run: &FrameRun) -> Resul
         _ => return Ok(run.end.map_or_else(|| good(String::new()), |r| refused(asked, &source.finding(&r)))),
     };
     let save = name(&pause.save);
-    replace::save(&pause.save, &paused.to_bytes()).map_err(|e| wrong(asked, &source.lesson.name, &format!("{}: {}", save, e)))?;
+    replace::save(&pause.save, &paused.to_bytes()).map_err(|e| wrong(&format!("{}: {}", save, e)))?;
     let words = format!("{}: paused after {} frames, saved in {}\n", source.lesson.name, run.frames, save);
     Ok(Said { output: Vec::new(), errors: if asked.is_json { String::new() } else { words }, status: PAUSED })
 }

@@ -2,11 +2,26 @@
 
 use crate::place::place;
 use crate::source::Finding;
-use lesson_engine::hints::{quoted, Hint, Replacement};
 use std::fmt::Write;
 
 pub struct Object {
     text: String,
+}
+
+fn quoted(text: &str) -> String {
+    let mut made = String::from("\"");
+    for c in text.chars() {
+        match c {
+            '"' | '\\' => {
+                made.push('\\');
+                made.push(c);
+            }
+            c if c.is_control() => write!(made, "\\u{:04x}", c as u32).expect("a string takes all"),
+            c => made.push(c),
+        }
+    }
+    made.push('"');
+    made
 }
 
 impl Object {
@@ -23,44 +38,11 @@ impl Object {
         made.number_or_null::<usize>("line", None);
         made.number_or_null::<usize>("column", None);
         made.text("name", name);
-        made.text("sentence", "");
+        made.text("words", "");
         made
     }
 
-    /// Of a file with which nothing could be done, or of no file where the command is used wrongly: what is wrong, with null for the rest.
-    pub fn failed(file: Option<&str>, sentence: &str) -> Object {
-        let mut made = Object::empty();
-        made.raw("file", &file.map_or("null".to_owned(), quoted));
-        for key in ["number", "position", "line", "column"] {
-            made.number_or_null::<usize>(key, None);
-        }
-        made.text("name", "wrong use");
-        made.text("sentence", sentence);
-        made
-    }
-
-    /// Of a hint; its position, line and column are null where it is shown at the place of what was found.
-    fn hint(text: &[u8], hint: &Hint) -> Object {
-        let found = hint.position.map(|p| place(text, p));
-        let mut made = Object::empty();
-        made.text("message", &hint.message);
-        made.number_or_null("position", hint.position);
-        made.number_or_null("line", found.as_ref().map(|p| p.line));
-        made.number_or_null("column", found.as_ref().map(|p| p.column));
-        made.object_or_null("replacement", hint.replacement.as_ref().map(Object::replacement));
-        made
-    }
-
-    /// Of what can be put in the place of the bytes from `start` to `end`.
-    fn replacement(replacement: &Replacement) -> Object {
-        let mut made = Object::empty();
-        made.number("start", replacement.span.start);
-        made.number("end", replacement.span.end);
-        made.text("text", &replacement.text);
-        made
-    }
-
-    /// Of a refusal, a fault or a limit: number, position, line, column, name, sentence and hint.
+    /// Of a refusal, a fault or a limit: number, position, line, column and words.
     pub fn of(finding: &Finding) -> Object {
         let found = place(&finding.file.text, finding.position);
         let mut made = Object::empty();
@@ -70,8 +52,7 @@ impl Object {
         made.number("line", found.line);
         made.number("column", found.column);
         made.text("name", finding.kind.name());
-        made.text("sentence", &finding.sentence());
-        made.object_or_null("hint", finding.hint.as_ref().map(|h| Object::hint(&finding.file.text, h)));
+        made.text("words", &finding.words());
         if let Some(fault) = finding.fault() {
             made.number("fault", fault);
         }
@@ -112,10 +93,6 @@ impl Object {
     pub fn objects(&mut self, key: &str, values: Vec<Object>) {
         let listed: Vec<String> = values.into_iter().map(Object::closed).collect();
         self.raw(key, &format!("[{}]", listed.join(", ")));
-    }
-
-    fn object_or_null(&mut self, key: &str, value: Option<Object>) {
-        self.raw(key, &value.map_or("null".to_owned(), Object::closed));
     }
 
     fn closed(mut self) -> String {

@@ -2,7 +2,6 @@
 
 use crate::json::Object;
 use crate::place::place;
-use crate::show::counted;
 use crate::source::Source;
 
 /// Bytes of a line: two digits of the code, eight of the operand, a line feed.
@@ -60,7 +59,11 @@ pub struct Line {
     code: u32,
     name: &'static str,
     operand: u32,
-    meaning: String,
+    words: String,
+}
+
+fn counted(count: u32, name: &str) -> String {
+    format!("{} {}{}", count, name, if count == 1 { "" } else { "s" })
 }
 
 /// Where a position stands: the line and the column, after the file where that is the library's.
@@ -71,7 +74,7 @@ fn spot(source: &Source, position: usize) -> String {
     format!("{}{}:{}", name, found.line, found.column)
 }
 
-fn meaning(source: &Source, classes: &[String], says: Operand, operand: u32) -> String {
+fn words(source: &Source, classes: &[String], says: Operand, operand: u32) -> String {
     match says {
         Operand::Nothing => String::new(),
         Operand::Position => spot(source, operand as usize),
@@ -80,8 +83,8 @@ fn meaning(source: &Source, classes: &[String], says: Operand, operand: u32) -> 
         Operand::Place => format!("field {}", operand - PLACES),
         Operand::Operator => OPERATORS[operand as usize].to_owned(),
         Operand::Line => format!("line {}", operand),
-        Operand::Class => format!("{}, {}", classes[(operand >> 16) as usize], counted(operand as usize & 0xffff, "field")),
-        Operand::Call => format!("table at line {}, {}", operand >> 8, counted(operand as usize & 0xff, "argument")),
+        Operand::Class => format!("{}, {}", classes[(operand >> 16) as usize], counted(operand & 0xffff, "field")),
+        Operand::Call => format!("table at line {}, {}", operand >> 8, counted(operand & 0xff, "argument")),
     }
 }
 
@@ -92,7 +95,7 @@ fn line(source: &Source, classes: &[String], number: usize, text: &[u8]) -> Line
     };
     let (code, operand) = (digits(0, 2), digits(2, LINE - 1));
     let (name, says) = CODES[code as usize];
-    Line { number, code, name, operand, meaning: meaning(source, classes, says, operand) }
+    Line { number, code, name, operand, words: words(source, classes, says, operand) }
 }
 
 /// The lines of a lesson's frames; its classes are those of the class table, in the order of the lesson.
@@ -102,7 +105,7 @@ pub fn lines(source: &Source, classes: &[String], frames: &[u8]) -> Vec<Line> {
 
 impl Line {
     pub fn shown(&self) -> String {
-        format!("{:>5} {:<12} {}", self.number, self.name, self.meaning).trim_end().to_owned() + "\n"
+        format!("{:>5} {:<12} {}", self.number, self.name, self.words).trim_end().to_owned() + "\n"
     }
 
     pub fn object(&self) -> Object {
@@ -111,7 +114,7 @@ impl Line {
         made.number("code", self.code);
         made.text("name", self.name);
         made.number("operand", self.operand);
-        made.text("meaning", &self.meaning);
+        made.text("words", &self.words);
         made
     }
 }

@@ -2,9 +2,7 @@
 
 mod frames;
 mod json;
-mod limits;
 mod listing;
-mod lsp;
 mod mark;
 mod place;
 mod replace;
@@ -15,6 +13,7 @@ mod usage;
 use frames::Saved;
 use json::Object;
 use lesson_engine::{Cause, Paused, Refusal, Run};
+use mark::Ending;
 use place::place;
 use source::{File, Finding, Source};
 use std::env;
@@ -32,11 +31,8 @@ const PAUSED: i32 = 3;
 /// A byte more than a lesson or a library may have, so that the engine refuses a longer one; the rest of it need not be read.
 const LESSON_BYTES: u64 = lesson_engine::sys::SOURCE_MOST as u64 + 1;
 
-/// As many steps are charged from one sample of a tape to the next.
-const STEPS_A_SAMPLE: u32 = 100;
-
 /// What is written of one lesson, and the exit status that it asks for.
-pub struct Said {
+struct Said {
     output: Vec<u8>,
     errors: String,
     status: i32,
@@ -52,57 +48,38 @@ fn content(file: &OsStr, most: u64) -> io::Result<Vec<u8>> {
     Ok(bytes)
 }
 
-/// A file's content, or why it cannot be read.
-fn opened(file: &OsStr, most: u64) -> Result<Vec<u8>, String> {
-    content(file, most).map_err(|e| format!("{}: {}", show::name(file), e))
+/// A file's content, or what is to be said where it cannot be read.
+fn opened(file: &OsStr, most: u64) -> Result<Vec<u8>, Said> {
+    content(file, most).map_err(|e| wrong(&format!("{}: {}", show::name(file), e)))
 }
 
 /// A lesson, a library or frames.
-fn text_of(file: &OsString, most: u64) -> Result<File, String> {
+fn text_of(file: &OsString, most: u64) -> Result<File, Said> {
     Ok(File { path: file.clone(), name: show::name(file), text: opened(file, most)? })
 }
 
 /// What is lent to every lesson.
-pub struct Lent {
+struct Lent {
     library: Option<File>,
     tape: Vec<u8>,
-    /// What one file expects of each lesson.
-    expected: Option<Vec<u8>>,
+    expected: Vec<u8>,
     saved: Option<Saved>,
 }
 
-fn saved(file: &OsString) -> Result<Saved, String> {
+fn saved(file: &OsString) -> Result<Saved, Said> {
     let name = show::name(file);
-    let paused = Paused::from_bytes(&opened(file, u64::MAX)?).map_err(|e| format!("{}: {}", name, e))?;
+    let paused = Paused::from_bytes(&opened(file, u64::MAX)?).map_err(|e| wrong(&format!("{}: {}", name, e)))?;
     Ok(Saved { name, paused })
 }
 
-/// How many samples of a tape can come in: one as each hundredth step is charged. A run of frames may go on until all its budgets are the largest one, and a lesson that is marked
-/// may have a budget of its own.
-fn samples_most(asked: &Asked) -> u64 {
-    let steps = if asked.frames.is_some() || asked.task == Task::Mark { u32::MAX } else { asked.limits.budget };
-    u64::from(steps / STEPS_A_SAMPLE)
-}
-
-/// What is lent, or why it cannot be.
-fn lent(asked: &Asked) -> Result<Lent, String> {
+fn lent(asked: &Asked) -> Result<Lent, Said> {
+    let bytes = |file: &Option<OsString>| file.as_ref().map_or(Ok(Vec::new()), |f| opened(f, u64::MAX));
     let library = asked.library.as_ref().map(|file| text_of(file, LESSON_BYTES)).transpose()?;
     let resume = asked.frames.as_ref().and_then(|of| of.resume.as_ref());
-    let tape = asked.tape.as_ref().map_or(Ok(Vec::new()), |file| opened(file, samples_most(asked)))?;
-    let expected = asked.expected.as_ref().filter(|file| !mark::is_folder(file)).map(|file| opened(file, u64::MAX)).transpose()?;
-    Ok(Lent { library, tape, expected, saved: resume.map(saved).transpose()? })
+    Ok(Lent { library, tape: bytes(&asked.tape)?, expected: bytes(&asked.expected)?, saved: resume.map(saved).transpose()? })
 }
 
-/// Of a file with which nothing can be done.
-fn wrong(asked: &Asked, file: &str, message: &str) -> Said {
-    failed(Some(file), asked.is_json, message)
-}
-
-/// Of wrong use: as an object, or in words.
-fn failed(file: Option<&str>, is_json: bool, message: &str) -> Said {
-    if is_json {
-        return Said { output: Object::failed(file, message).line().into_bytes(), errors: String::new(), status: WRONG_USE };
-    }
+fn wrong(message: &str) -> Said {
     Said { output: Vec::new(), errors: format!("lesson: {}\n", message), status: WRONG_USE }
 }
 
@@ -112,9 +89,8 @@ fn good(output: String) -> Said {
 
 /// Of what was refused, or of a run that ended in a fault or at a limit.
 fn refused(asked: &Asked, finding: &Finding) -> Said {
-    let is_call = finding.kind.cause() == Cause::Call;
-    if is_call && !asked.is_json {
-        return failed(None, false, &format!("{} {}: {}", finding.kind.number(), finding.kind.name(), finding.sentence()));
+    if finding.kind.cause() == Cause::Call {
+        return wrong(&format!("{} {}: {}", finding.kind.number(), finding.kind.name(), finding.words()));
     }
     if !asked.is_json {
         return Said { output: Vec::new(), errors: show::diagnostic(finding), status: REFUSED };
@@ -123,7 +99,7 @@ fn refused(asked: &Asked, finding: &Finding) -> Said {
     if asked.task == Task::Mark {
         object.truth("right", false);
     }
-    Said { output: object.line().into_bytes(), errors: String::new(), status: if is_call { WRONG_USE } else { REFUSED } }
+    Said { output: object.line().into_bytes(), errors: String::new(), status: REFUSED }
 }
 
 fn check(asked: &Asked, source: &Source) -> Result<Said, Refusal> {
@@ -169,7 +145,7 @@ fn menu(asked: &Asked, source: &Source) -> Result<Said, Refusal> {
 
 /// The object of a run.
 fn run_object(source: &Source, run: &Run) -> Object {
-    let mut object = run.end.map_or_else(|| Object::good(&source.lesson.name, "finished"), |r| Object::of(&source.hinted(&r)));
+    let mut object = run.end.map_or_else(|| Object::good(&source.lesson.name, "finished"), |r| Object::of(&source.finding(&r)));
     object.number("steps", run.steps);
     object.number("climbs", run.climbs);
     object.number("heap_words", run.words);
@@ -185,7 +161,7 @@ fn numbers(printed: &[i32]) -> String {
 
 fn run(asked: &Asked, source: &Source, tape: &[u8]) -> Result<Said, Refusal> {
     let run = lesson_engine::run(source.text(), &asked.limits, tape)?;
-    let mut said = run.end.map_or_else(|| good(String::new()), |r| refused(asked, &source.hinted(&r)));
+    let mut said = run.end.map_or_else(|| good(String::new()), |r| refused(asked, &source.finding(&r)));
     said.output = if asked.is_json { run_object(source, &run).line() } else { numbers(&run.printed) }.into_bytes();
     Ok(said)
 }
@@ -214,7 +190,7 @@ fn replaced(asked: &Asked, source: &Source, text: &[u8]) -> Said {
     }
     match replace::replace(&source.lesson.path, text) {
         Ok(()) => laid_out(asked, source, "made tidy", GOOD),
-        Err(e) => wrong(asked, &source.lesson.name, &format!("{}: {}", source.lesson.name, e)),
+        Err(e) => wrong(&format!("{}: {}", source.lesson.name, e)),
     }
 }
 
@@ -229,6 +205,48 @@ fn tidy(asked: &Asked, source: &Source) -> Result<Said, Refusal> {
     })
 }
 
+/// How a run ended, as bayrun says it.
+fn ending(run: &Run) -> Ending {
+    Ending { number: run.end.map_or(0, |r| r.kind.number()), position: run.end.map_or(0, |r| r.position), steps: run.steps, words: run.words }
+}
+
+fn mark(asked: &Asked, source: &Source, lent: &Lent) -> Result<Said, Refusal> {
+    let expected = match mark::expected(&lent.expected) {
+        Err(word) => return Ok(wrong(&format!("what is expected has '{}', which is no number", word.escape_default()))),
+        Ok(expected) => expected,
+    };
+    let run = lesson_engine::run(source.text(), &asked.limits, &lent.tape)?;
+    let difference = mark::difference(&run.printed, &expected.numbers);
+    let ended = ending(&run);
+    let is_ended_right = expected.ending.map_or(run.end.is_none(), |e| e == ended);
+    let is_right = difference.is_none() && is_ended_right;
+    let mut said = Said { output: Vec::new(), errors: String::new(), status: if is_right { GOOD } else { REFUSED } };
+    if asked.is_json {
+        let mut object = run_object(source, &run);
+        object.truth("right", is_right);
+        object.number_or_null("first_difference", difference.map(|d| d.index));
+        object.number_or_null("expected", difference.and_then(|d| d.expected));
+        said.output = object.line().into_bytes();
+        return Ok(said);
+    }
+    let file = &source.lesson.name;
+    let mut lines = String::new();
+    if is_right {
+        lines = format!("{}: right, {} numbers\n", file, run.printed.len());
+    }
+    if let Some(d) = difference {
+        lines = format!("{}: {}\n", file, d.words());
+    }
+    if let (false, Some(e)) = (is_ended_right, expected.ending) {
+        lines += &format!("{}: ends {}, expected {}\n", file, ended.words(), e.words());
+    }
+    if let (false, Some(r)) = (is_ended_right, run.end) {
+        said.errors = show::diagnostic(&source.finding(&r));
+    }
+    said.output = lines.into_bytes();
+    Ok(said)
+}
+
 /// Answers for a text that the operations take.
 fn answer_source(asked: &Asked, source: &Source, lent: &Lent) -> Result<Said, Refusal> {
     match (asked.task, &asked.frames) {
@@ -236,7 +254,7 @@ fn answer_source(asked: &Asked, source: &Source, lent: &Lent) -> Result<Said, Re
         (Task::Run, None) => run(asked, source, &lent.tape),
         (Task::Run, Some(of)) => Ok(frames::run(asked, of, source, lent.saved.as_ref(), &lent.tape).unwrap_or_else(|said| said)),
         (Task::Menu, _) => menu(asked, source),
-        (Task::Mark, _) => unreachable!("lessons are marked by themselves"),
+        (Task::Mark, _) => mark(asked, source, lent),
         (Task::Join, _) => Ok(written(asked, source, "joined", source.text())),
         (Task::Tidy, _) => tidy(asked, source),
         (Task::Frames, _) => frames::show(asked, source),
@@ -245,10 +263,12 @@ fn answer_source(asked: &Asked, source: &Source, lent: &Lent) -> Result<Said, Re
 
 /// Answers for one lesson, or for one text of frames.
 fn answer(asked: &Asked, file: &OsString, lent: &Lent) -> Result<Said, Said> {
-    let most = if asked.frames.is_some() { u64::MAX } else { LESSON_BYTES };
-    let lesson = text_of(file, most).map_err(|message| wrong(asked, &show::name(file), &message))?;
-    let source = Source::of(&lesson, lent.library.as_ref()).map_err(|finding| refused(asked, &finding))?;
-    answer_source(asked, &source, lent).map_err(|refusal| refused(asked, &source.hinted(&refusal)))
+    let lesson = text_of(file, if asked.frames.is_some() { u64::MAX } else { LESSON_BYTES })?;
+    let source = match &lent.library {
+        Some(library) => Source::joined(&lesson, library).map_err(|finding| refused(asked, &finding))?,
+        None => Source::alone(&lesson),
+    };
+    answer_source(asked, &source, lent).map_err(|refusal| refused(asked, &source.finding(&refusal)))
 }
 
 /// Writes what is said. A reader that has gone away, as `head` does, is no fault.
@@ -265,27 +285,13 @@ fn write(said: &Said) -> i32 {
     said.status
 }
 
-/// Says that something cannot be lent: once, or as an object for each lesson.
-fn unlent(asked: &Asked, message: &str) -> i32 {
-    let files = if asked.is_json { &asked.files[..] } else { &asked.files[..1] };
-    for file in files {
-        write(&wrong(asked, &show::name(file), message));
-    }
-    WRONG_USE
-}
-
 fn main() {
     let asked = match usage::request(env::args_os().skip(1).collect()) {
         Request::Help => exit(write(&good(usage::HELP.to_owned()))),
-        Request::Version => exit(write(&good(format!("lesson {}, engine interface {}\n", env!("CARGO_PKG_VERSION"), lesson_engine::sys::VERSION)))),
-        Request::Wrong(message, is_json) => exit(write(&failed(None, is_json, &format!("{}; 'lesson --help' says what can be asked", message)))),
-        Request::Serve(library) => exit(lsp::serve(library).unwrap_or_else(|message| write(&failed(None, false, &message)))),
+        Request::Wrong(message) => exit(write(&wrong(&format!("{}; 'lesson --help' says what can be asked", message)))),
         Request::Do(asked) => asked,
     };
-    let lent = lent(&asked).unwrap_or_else(|message| exit(unlent(&asked, &message)));
-    if asked.task == Task::Mark {
-        exit(mark::mark(&asked, &lent));
-    }
+    let lent = lent(&asked).unwrap_or_else(|said| exit(write(&said)));
     let mut status = GOOD;
     for file in &asked.files {
         let said = answer(&asked, file, &lent).unwrap_or_else(|said| said);

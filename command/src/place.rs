@@ -29,8 +29,7 @@ struct Cell {
 
 /// Whether a terminal shows a character as it is, in one column. Of the others some change the direction of what follows, or take no column or two.
 fn is_plain(c: char) -> bool {
-    matches!(c, ' '..='~' | '\u{a1}'..='\u{ac}' | '\u{ae}'..='\u{17f}')
-        || (matches!(c, '\u{391}'..='\u{3c9}' | '\u{400}'..='\u{481}') && c.is_alphabetic())
+    matches!(c, ' '..='~' | '\u{a1}'..='\u{ac}' | '\u{ae}'..='\u{17f}') || (matches!(c, '\u{391}'..='\u{3c9}' | '\u{400}'..='\u{481}') && c.is_alphabetic())
 }
 
 fn cells(line: &[u8]) -> Vec<Cell> {

@@ -1,8 +1,5 @@
 //! A lesson, alone or with a library under it: the text that the operations take, and where a position of that text stands in the files.
 
-use crate::place::place;
-use lesson_engine::hints::{self, Hint, Replacement};
-use lesson_engine::tokens::tokens;
 use lesson_engine::{Kind, Refusal};
 use std::ffi::OsString;
 use std::ops::Range;
@@ -38,18 +35,16 @@ pub enum About {
     Library(Kind),
 }
 
-/// A refusal, a fault or a limit in the file where it stands, and what to do about it, where that can be said: its places are of the same file.
-#[derive(Clone)]
+/// A refusal, a fault or a limit in the file where it stands.
 pub struct Finding<'a> {
     pub file: &'a File,
     pub position: usize,
     pub kind: Kind,
-    pub hint: Option<Hint>,
     about: About,
 }
 
 impl Finding<'_> {
-    pub fn sentence(&self) -> String {
+    pub fn words(&self) -> String {
         match self.about {
             About::File => self.kind.sentence().to_owned(),
             About::Both => format!("{} The classes of the library count too.", self.kind.sentence()),
@@ -66,15 +61,41 @@ impl Finding<'_> {
     }
 }
 
+/// How many bytes the comment has with which a text begins; 0 where it begins with none. Block comments nest.
+fn comment(text: &[u8]) -> usize {
+    if text.starts_with(b"//") {
+        return text.iter().position(|&b| b == b'\n').unwrap_or(text.len());
+    }
+    if !text.starts_with(b"/*") {
+        return 0;
+    }
+    let mut at = 2;
+    let mut open = 1;
+    while open > 0 && at < text.len() {
+        let (change, step) = match &text[at..] {
+            [b'/', b'*', ..] => (1, 2),
+            [b'*', b'/', ..] => (-1, 2),
+            _ => (0, 1),
+        };
+        open += change;
+        at += step;
+    }
+    at
+}
+
 /// Where the classes of a library stand that Join takes: each begins with the word `class`, and ends with the last closing brace before the next.
 fn classes(library: &[u8]) -> Vec<Range<usize>> {
     let mut found: Vec<Range<usize>> = Vec::new();
-    for token in tokens(library) {
-        match (token.text, found.last_mut()) {
-            ("class", _) => found.push(token.span()),
-            ("}", Some(last)) => last.end = token.end,
+    let mut at = 0;
+    while at < library.len() {
+        let rest = &library[at..];
+        let word = rest.iter().take_while(|b| b.is_ascii_alphanumeric() || **b == b'_').count();
+        match (&rest[..word], found.last_mut()) {
+            (b"class", _) => found.push(at..at),
+            (b"", Some(last)) if rest[0] == b'}' => last.end = at + 1,
             _ => {}
         }
+        at += word.max(comment(rest)).max(1);
     }
     found
 }
@@ -96,16 +117,11 @@ fn kept(joined: &[u8], lesson: usize, library: &[u8]) -> Vec<Kept> {
 }
 
 impl<'a> Source<'a> {
-    /// A lesson, with a library under it where there is one.
-    pub fn of(lesson: &'a File, library: Option<&'a File>) -> Result<Source<'a>, Finding<'a>> {
-        library.map_or_else(|| Ok(Source::alone(lesson)), |library| Source::joined(lesson, library))
-    }
-
     pub fn alone(lesson: &'a File) -> Source<'a> {
         Source { lesson, library: None, joined: None, kept: Vec::new() }
     }
 
-    fn joined(lesson: &'a File, library: &'a File) -> Result<Source<'a>, Finding<'a>> {
+    pub fn joined(lesson: &'a File, library: &'a File) -> Result<Source<'a>, Finding<'a>> {
         match lesson_engine::join(&lesson.text, &library.text) {
             Ok(text) => {
                 let kept = kept(&text, lesson.text.len(), &library.text);
@@ -113,10 +129,9 @@ impl<'a> Source<'a> {
             }
             Err(Refusal { kind: Kind::LibraryRefused, position }) => {
                 let fault = lesson_engine::read_library(&library.text).expect_err("Join refuses it");
-                let hint = hints::library_hint(&library.text, &fault);
-                Err(Finding { file: library, position, kind: Kind::LibraryRefused, hint, about: About::Library(fault.kind) })
+                Err(Finding { file: library, position, kind: Kind::LibraryRefused, about: About::Library(fault.kind) })
             }
-            Err(refusal) => Err(Source::alone(lesson).hinted(&refusal)),
+            Err(Refusal { kind, position }) => Err(Finding { file: lesson, position, kind, about: About::File }),
         }
     }
 
@@ -138,38 +153,20 @@ impl<'a> Source<'a> {
         let (file, position) = self.spot(refusal.position);
         let is_bound = matches!(refusal.kind, Kind::SourceTooLong | Kind::TooManyTokens);
         let about = if is_bound && self.library.is_some() { About::Both } else { About::File };
-        Finding { file, position, kind: refusal.kind, hint: None, about }
-    }
-
-    /// The same with the hint, of a lesson and not of frames.
-    pub fn hinted(&self, refusal: &Refusal) -> Finding<'a> {
-        let finding = self.finding(refusal);
-        let named = |position| self.line(position, finding.file);
-        let hint = hints::hint_naming(self.text(), refusal, &named).map(|hint| self.placed(hint, finding.file));
-        Finding { hint, ..finding }
-    }
-
-    /// "line 7", or "line 7 of FILE" where that is another file than a finding's.
-    fn line(&self, position: usize, of: &File) -> String {
-        let (file, at) = self.spot(position);
-        let line = place(&file.text, at).line;
-        if file.name == of.name {
-            return format!("line {}", line);
-        }
-        format!("line {} of {}", line, file.name)
-    }
-
-    /// A hint with its places in a file; those that stand in another are left out.
-    fn placed(&self, hint: Hint, of: &File) -> Hint {
-        let spot = |position: usize| Some(self.spot(position)).filter(|(file, _)| file.name == of.name).map(|(_, at)| at);
-        let replaced = |r: Replacement| spot(r.span.start).map(|start| Replacement { span: start..start + r.span.len(), text: r.text });
-        Hint { message: hint.message, position: hint.position.and_then(spot), replacement: hint.replacement.and_then(replaced) }
+        Finding { file, position, kind: refusal.kind, about }
     }
 }
 
 #[cfg(test)]
 mod tests {
     use super::*;
+
+    #[test]
+    fn comments_end_where_the_language_ends_them() {
+        for (text, length) in [("x", 0), ("", 0), ("/", 0), ("//", 2), ("// /*\n*/", 5), ("/**/x", 4), ("/*/*/**/*/*/}", 12), ("/*//**/*/}", 9), ("*/", 0)] {
+            assert_eq!(comment(text.as_bytes()), length, "{}", text);
+        }
+    }
 
     #[test]
     fn classes_begin_and_end_where_their_tokens_do() {

@@ -1,6 +1,5 @@
 //! What is asked for: the words of the command line.
 
-use crate::limits::{number, Named};
 use lesson_engine::{FrameLimits, Limits};
 use std::ffi::OsString;
 
@@ -13,9 +12,6 @@ lesson: checks, runs, marks, joins and tidies MiniJava lessons, and writes and r
   lesson mark FILE EXPECTED [LIMITS]
                                  runs a lesson and says whether it prints the numbers of the file EXPECTED,
                                  and if not which is the first that differs
-  lesson mark FOLDER EXPECTED [LIMITS] [--csv | --html | --json]
-                                 marks each lesson NAME.java of a folder, a line each and a summary, by the file
-                                 NAME.expected of the folder EXPECTED, or by one file for all
   lesson join FILE LIBRARY       the lesson, and behind it each class of the library whose name no class of
                                  the lesson has
   lesson tidy FILE               the lesson in the house layout, without its comments
@@ -27,9 +23,6 @@ lesson: checks, runs, marks, joins and tidies MiniJava lessons, and writes and r
                                  a position is shown as LINE:COLUMN of the lesson
   lesson run --frames FILE [LIMITS] [PAUSE]
                                  runs frames and prints their numbers, one a line
-
-  lesson lsp [--library FILE]    a language server for editors, on standard input and output; editors/ says how to use
-                                 it, and --stdio, which some editors add, changes nothing
 
   FILE is a file, or - for standard input.
   EXPECTED has numbers, separated by blanks or line feeds. Where its last line is one that bayrun prints,
@@ -50,27 +43,15 @@ PAUSE:
   --resume SAVE  goes on with the run that is saved there, with the same frames, tape and limits but for the budget
                  and the price, and prints the numbers that come
 
-MARKING:
-  NAME.limits    beside NAME.java, or else beside its NAME.expected: the limits of this lesson, one a line, named as
-                 the options are: 'budget 5000'; an empty line, or one that begins with #, says nothing
-  NAME.tape      in the same places: its tape, as --tape takes it; LIMITS of the command line go before both files
-  --csv          a table for spreadsheets, a row a lesson
-  --html         the same as a page, to be read or printed
-  The lessons of a folder are those that stand in it itself, in the order of their names. One without its expectation
-  is told and not marked, and so is an expectation without its lesson.
-
   --library FILE the library is joined to each lesson first; what stands in one of its classes is shown there
-  --json         one object a lesson, on a line of its own, on standard output; also of one that cannot be read, and
-                 one with a null file where the command is used wrongly
-  --version      the version of this command, and that of the engine's interface
-  --help         this text, as 'lesson help' writes it too
+  --json         one object a lesson, on a line of its own, on standard output
+  --help         this text
 
 A refusal, fault or limit is shown on standard error as FILE:LINE:COLUMN: NUMBER NAME: SENTENCE, with the line and
-a mark under the place, and a hint where there is one; where something is missing at the end of a line, the mark
-stands there. A column counts bytes, from 1. docs/REFUSALS.md has all numbers.
+a mark under the place. A column counts bytes, from 1. docs/REFUSALS.md has all numbers.
 
-Exit status: 0 accepted, finished, right or tidy; 1 refused, a fault, a limit, wrong numbers, something missing in a
-folder that is marked, or not tidy; 2 wrong use, or a file that cannot be read or written; 3 paused and saved.
+Exit status: 0 accepted, finished, right or tidy; 1 refused, a fault, a limit, wrong numbers or not tidy; 2 wrong
+use, or a file that cannot be read or written; 3 paused and saved.
 ";
 
 /// What to do with the lessons.
@@ -92,13 +73,6 @@ pub enum Layout {
     Show,
     Check,
     Write,
-}
-
-/// How lessons that are marked are written, where as a table.
-#[derive(Clone, Copy, PartialEq, Eq)]
-pub enum Table {
-    Csv,
-    Html,
 }
 
 impl Task {
@@ -151,37 +125,27 @@ pub struct Asked {
     pub files: Vec<OsString>,
     pub expected: Option<OsString>,
     pub limits: Limits,
-    /// Of the limits those that the command line has.
-    pub named: Named,
     pub tape: Option<OsString>,
     pub library: Option<OsString>,
     pub layout: Layout,
     /// There where the file has frames.
     pub frames: Option<OfFrames>,
     pub is_list: bool,
-    pub table: Option<Table>,
     pub is_json: bool,
 }
 
 pub enum Request {
     Help,
-    Version,
-    Do(Box<Asked>),
-    /// A language server, with a library under every lesson.
-    Serve(Option<OsString>),
-    /// What is wrong, and whether it is to be said as an object.
-    Wrong(String, bool),
+    Do(Asked),
+    Wrong(String),
 }
-
-const HELP_WORD: &str = "help";
-const SERVER_WORD: &str = "lsp";
-const JSON: &str = "--json";
 
 /// The words of a command line: those that are no options, and what the options say.
 #[derive(Default)]
 struct Words {
     plain: Vec<OsString>,
-    named: Named,
+    limits: Limits,
+    budget: Option<u32>,
     tape: Option<OsString>,
     library: Option<OsString>,
     layout: Layout,
@@ -191,19 +155,13 @@ struct Words {
     resume: Option<OsString>,
     is_frames: bool,
     is_list: bool,
-    table: Option<Table>,
     is_json: bool,
-    is_stdio: bool,
     is_help: bool,
-    is_version: bool,
     /// An option that a run takes, one that a run keeps over a pause, and one that a run of frames takes.
     of_run: Option<String>,
     of_whole: Option<String>,
     of_frames: Option<String>,
 }
-
-/// Options that stand alone.
-const ALONE: [&str; 12] = ["--help", "-h", "--version", "-V", JSON, "--csv", "--html", "--check", "--write", "--list", "--frames", "--stdio"];
 
 /// The value of an option, which stands after `=` or is the next word.
 fn value(name: &str, inline: Option<&str>, rest: &mut dyn Iterator<Item = OsString>) -> Result<OsString, String> {
@@ -213,29 +171,32 @@ fn value(name: &str, inline: Option<&str>, rest: &mut dyn Iterator<Item = OsStri
     }
 }
 
+fn number<T: std::str::FromStr>(name: &str, text: OsString) -> Result<T, String> {
+    let shown = text.to_string_lossy().into_owned();
+    let is_decimal = !shown.is_empty() && shown.bytes().all(|b| b.is_ascii_digit());
+    shown.parse().ok().filter(|_| is_decimal).ok_or_else(|| format!("{} takes a number in its range, not '{}'", name, shown))
+}
+
 impl Words {
     /// Takes an option, and the next words where its value is one.
     fn take(&mut self, name: &str, inline: Option<&str>, rest: &mut dyn Iterator<Item = OsString>) -> Result<(), String> {
         match name {
-            _ if inline.is_some() && ALONE.contains(&name) => return Err(format!("{} takes no value", name)),
             "--help" | "-h" => self.is_help = true,
-            "--version" | "-V" => self.is_version = true,
-            JSON => self.is_json = true,
-            "--stdio" => self.is_stdio = true,
+            "--json" => self.is_json = true,
             "--check" | "--write" if self.layout != Layout::Show => return Err("--check or --write is given, and once".to_owned()),
             "--check" => self.layout = Layout::Check,
             "--write" => self.layout = Layout::Write,
             "--library" => self.library = Some(value(name, inline, rest)?),
             "--list" => self.is_list = true,
             "--frames" => self.is_frames = true,
-            "--csv" | "--html" if self.table.is_some() => return Err("--csv or --html is given, and once".to_owned()),
-            "--csv" => self.table = Some(Table::Csv),
-            "--html" => self.table = Some(Table::Html),
-            "--price" => self.price = Some(number(name, &value(name, inline, rest)?.to_string_lossy())?),
-            "--pause-after" => self.pause_after = Some(number(name, &value(name, inline, rest)?.to_string_lossy())?),
+            "--price" => self.price = Some(number(name, value(name, inline, rest)?)?),
+            "--pause-after" => self.pause_after = Some(number(name, value(name, inline, rest)?)?),
             "--save" => self.save = Some(value(name, inline, rest)?),
             "--resume" => self.resume = Some(value(name, inline, rest)?),
-            "--budget" | "--calls" | "--heap" | "--output" => self.named.take(name, &value(name, inline, rest)?.to_string_lossy())?,
+            "--budget" => self.budget = Some(number(name, value(name, inline, rest)?)?),
+            "--calls" => self.limits.calls = number(name, value(name, inline, rest)?)?,
+            "--heap" => self.limits.heap = number(name, value(name, inline, rest)?)?,
+            "--output" => self.limits.output = number(name, value(name, inline, rest)?)?,
             "--tape" => self.tape = Some(value(name, inline, rest)?),
             _ => return Err(format!("there is no option {}", name)),
         }
@@ -262,7 +223,7 @@ impl Words {
                 let (name, inline) = text.split_once('=').map_or((text.as_str(), None), |(name, value)| (name, Some(value)));
                 made.take(name, inline, &mut rest)?;
             }
-            if made.is_help || made.is_version {
+            if made.is_help {
                 break;
             }
         }
@@ -277,10 +238,7 @@ impl Words {
             (_, Layout::Check | Layout::Write) if task != Task::Tidy => format!("'lesson {}' takes neither --check nor --write", name),
             (_, Layout::Check | Layout::Write) if self.library.is_some() => "--check and --write are about a lesson without a library".to_owned(),
             (_, Layout::Write) if is_input => "standard input cannot be written to".to_owned(),
-            _ if self.is_stdio => format!("'lesson {}' takes no --stdio", name),
             _ if task == Task::Join && self.library.is_some() => "'lesson join' takes its library as the second file".to_owned(),
-            _ if task != Task::Mark && self.table.is_some() => format!("'lesson {}' marks nothing, so it takes neither --csv nor --html", name),
-            _ if self.table.is_some() && self.is_json => "--json is not given with --csv or --html".to_owned(),
             _ => return Ok(()),
         };
         Err(message)
@@ -293,7 +251,7 @@ impl Words {
             (Some(option), _) if !self.is_frames => format!("{} is about a run of frames: --frames is given with it", option),
             (Some(_), _) if self.library.is_some() => "frames take no library".to_owned(),
             _ if self.pause_after.is_some() != self.save.is_some() => "--pause-after and --save are given together".to_owned(),
-            _ if self.pause_after.is_some() && self.named.has_budget() => "--pause-after is a budget, so --budget is not given".to_owned(),
+            _ if self.pause_after.is_some() && self.budget.is_some() => "--pause-after is a budget, so --budget is not given".to_owned(),
             _ if self.save.as_ref().map_or(false, |file| file == "-") => "a run is saved in a file".to_owned(),
             (_, Some(option)) if self.resume.is_some() => format!("a run keeps its limits over a pause, so --resume takes no {}", option),
             _ if self.is_list && task != Task::Frames => format!("'lesson {}' takes no --list", name),
@@ -309,25 +267,8 @@ impl Words {
     }
 
     fn limits(&self) -> Limits {
-        let budget = if self.is_frames { FrameLimits::default().budget } else { Limits::default().budget };
-        self.named.over(&Limits { budget, ..Limits::default() })
-    }
-
-    fn is_server(&self) -> bool {
-        self.plain.first().map_or(false, |word| word == SERVER_WORD)
-    }
-
-    /// The library of a language server.
-    fn served(self) -> Result<Option<OsString>, String> {
-        let is_of_run = self.of_run.is_some() || self.of_frames.is_some();
-        let is_of_lessons = self.layout != Layout::Show || self.table.is_some() || self.is_list || self.is_json;
-        if self.plain.len() > 1 || is_of_run || is_of_lessons {
-            return Err("'lesson lsp' takes nothing but --library".to_owned());
-        }
-        if self.library.as_ref().map_or(false, |file| file == "-") {
-            return Err("standard input is the editor's, so the library of 'lesson lsp' is a file".to_owned());
-        }
-        Ok(self.library)
+        let usual = if self.is_frames { FrameLimits::default().budget } else { Limits::default().budget };
+        Limits { budget: self.budget.unwrap_or(usual), ..self.limits }
     }
 
     fn asked(mut self) -> Result<Asked, String> {
@@ -353,18 +294,15 @@ impl Words {
         if inputs > 1 {
             return Err("standard input can be read once only".to_owned());
         }
-        let Words { named, tape, layout, is_list, table, is_json, .. } = self;
-        Ok(Asked { task, files, expected, limits, named, tape, library, layout, frames, is_list, table, is_json })
+        let Words { tape, layout, is_list, is_json, .. } = self;
+        Ok(Asked { task, files, expected, limits, tape, library, layout, frames, is_list, is_json })
     }
 }
 
 pub fn request(words: Vec<OsString>) -> Request {
-    let is_json = words.iter().take_while(|word| *word != "--").any(|word| word == JSON);
     match Words::of(words) {
-        Ok(words) if words.is_version => Request::Version,
-        Ok(words) if words.is_help || words.plain.first().map_or(false, |word| word == HELP_WORD) => Request::Help,
-        Ok(words) if words.is_server() => words.served().map_or_else(|message| Request::Wrong(message, is_json), Request::Serve),
-        Ok(words) => words.asked().map_or_else(|message| Request::Wrong(message, is_json), |asked| Request::Do(Box::new(asked))),
-        Err(message) => Request::Wrong(message, is_json),
+        Ok(words) if words.is_help => Request::Help,
+        Ok(words) => words.asked().map_or_else(Request::Wrong, Request::Do),
+        Err(message) => Request::Wrong(message),
     }
 }

@@ -98,7 +98,13 @@ impl State {
     pub fn part(&mut self, frames: &[u8], budget: u32, price: u32, tape: &[u8]) -> FramesAnswer {
         self.make_room(budget);
         let limits = sys::FrameLimits { budget, calls: self.calls, price };
-        let lent = LentToFrames { heap: &mut self.heap, output: &mut self.output, registers: &mut self.registers, tape, stack: &mut self.stack };
+        let lent = LentToFrames {
+            heap: &mut self.heap,
+            output: &mut self.output,
+            registers: &mut self.registers,
+            tape,
+            stack: &mut self.stack,
+        };
         let a = match self.record {
             None => strips::run_frames(frames, limits, lent),
             Some(record) => strips::continue_frames(frames, record, limits, lent),

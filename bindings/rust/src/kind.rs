@@ -20,67 +20,66 @@ pub enum Cause {
 // [words/write numbers
 /// Why a lesson or a text of frames is refused, or how a run ended otherwise than by itself.
 #[derive(Clone, Copy, Debug, PartialEq, Eq, Hash)]
-#[non_exhaustive]
 pub enum Kind {
     /// 1: The work table has fewer than 16,384 words.
     TableTooShort,
-    /// 2: The call limit is not between 1 and 64.
+    /// 2: The call limit is not 1 to 64.
     CallLimitOutOfRange,
     /// 3: The heap strip has more than 16,384 words.
     HeapTooLong,
-    /// 4: The strip has fewer words than the lesson has classes, the main class not counted.
+    /// 4: The strip has fewer words than the lesson has classes beside main's.
     StripTooShort,
     /// 10: The lesson has more than 16,384 bytes.
     SourceTooLong,
-    /// 11: No name, number or mark of the language begins with this character.
+    /// 11: No word, number or mark of the language begins with this byte.
     NoToken,
     /// 12: A block comment is opened and never closed; comments nest, so each opening needs its own closing.
     CommentNotClosed,
-    /// 13: The name has more than 255 letters, digits and underscores.
+    /// 13: A name has more than 255 letters, digits and underscores.
     NameTooLong,
-    /// 14: The number is larger than 2147483647 or, with a point, larger than 2147483.647.
+    /// 14: A number is larger than 2147483647, or one with a point larger than 2147483.647.
     LiteralTooLarge,
-    /// 15: The lesson has more than 2,048 tokens: words, numbers and marks.
+    /// 15: The lesson has more than 2,048 words, numbers and marks.
     TooManyTokens,
-    /// 16: This does not fit the grammar here: something is missing, out of place or too much.
+    /// 16: No program goes on like this from here: something is missing, misplaced or too much.
     NotInGrammar,
-    /// 17: A statement or an expression is nested more than 64 levels deep.
+    /// 17: A statement or an expression lies inside more than 63 others.
     TooDeep,
-    /// 20: An earlier class has the same name.
+    /// 20: Another class before this one has the same name.
     ClassRepeated,
-    /// 21: No class has the name after `extends`; the main class cannot be extended.
+    /// 21: The lesson has no class of the name after `extends`; the main class cannot be extended.
     ParentUnknown,
-    /// 22: The class extends itself, or its chain of parents runs into a loop.
+    /// 22: The class extends itself, or its parents lead into a loop.
     ChainEndless,
-    /// 23: The class already has a field of this name.
+    /// 23: The class has another field of the same name.
     FieldRepeated,
-    /// 24: No class has this name; the main class cannot be used as a type.
+    /// 24: The lesson has no class of this name; the main class is no type.
     TypeUnknown,
-    /// 25: The class already has a method of this name; methods cannot be overloaded.
+    /// 25: The class has another method of the same name.
     MethodRepeated,
-    /// 26: The method of this name in a class above has other parameter types, or a result type that this one's does not fit.
+    /// 26: A method of this name in a class above has other parameter types, or a result that this one's does not fit.
     BadRedeclaration,
-    /// 27: The method already has a parameter or local of this name.
+    /// 27: The method has another parameter or local of the same name.
     VariableRepeated,
-    /// 28: The method has more than 32 parameters and locals in all.
+    /// 28: The method has more than 32 parameters and locals together.
     TooManyVariables,
-    /// 30: No local, parameter or field of this name is visible here; main sees none at all.
+    /// 30: No local, parameter or field of this name can be seen here; main sees none at all.
     NameUnknown,
-    /// 31: This expression has the wrong type here.
+    /// 31: This part has another type than its place needs.
     WrongType,
     /// 32: Neither the class nor a class above it has a method of this name.
     MethodUnknown,
-    /// 33: The call has another number of arguments than the method has parameters.
+    /// 33: The method takes another number of arguments.
     ArgumentCount,
     /// 34: Main belongs to no object, so it has no `this`.
     ThisInMain,
-    /// 40: The object or array that is used here is null.
+    /// 40: There is no object or array here: the reference is null.
     NullReference,
-    /// 41: The index is negative or not less than the array's length.
+    /// 41: The index is negative, or not below the array's length.
     IndexOutOfRange,
     /// 42: An array cannot have a negative length.
     NegativeSize,
-    /// 50: The step budget is used up.
+    /// 50: The budget of steps or frames is spent, and another is due.
     BudgetSpent,
     /// 51: The heap strip has no room for this object or array.
     HeapFull,
@@ -88,25 +87,25 @@ pub enum Kind {
     CallsFull,
     /// 53: The output strip has no room for another number.
     OutputFull,
-    /// 60: The number begins with 0 and another digit; Java would read it as octal.
+    /// 60: A number begins with 0 and another digit, which means another number in Java.
     LeadingZero,
     /// 61: The strip is too short for the printed lesson.
     TextTooLong,
-    /// 62: The register strip is not 16 bytes long.
+    /// 62: The register strip has not exactly 16 bytes.
     RegistersNotSixteen,
-    /// 63: The register number is not 0 to 15.
+    /// 63: The cable has registers 0 to 15 only.
     RegisterOutOfRange,
-    /// 64: The value that is put is not 0 to 255.
+    /// 64: A register takes 0 to 255 only.
     ValueOutOfRange,
-    /// 65: A number with a point needs exactly three digits after it.
+    /// 65: A number with a point has other than three digits behind it.
     NotThreeDigits,
-    /// 66: The library is something other than class declarations, or does not keep Read's rules and bounds.
+    /// 66: The library has something other than class declarations, or Read's rules and bounds do not hold for it.
     LibraryRefused,
     /// 67: The strip is too short for the lesson and the classes of the library.
     JoinedTooLong,
     /// 68: The strip is too short for the frames of the lesson, or the stack strip has fewer than 140,000 entries.
     FramesTooShort,
-    /// 69: The line is not ten lower-case hexadecimal digits and a line feed.
+    /// 69: The line is something other than ten lower-case hexadecimal digits and a line feed.
     OtherForm,
     /// 70: The code table does not allow this frame, by its code, its operand or a value that it takes; or the stack strip is full, or the line is past the last.
     FrameFault,
@@ -280,33 +279,33 @@ impl Kind {
             Kind::HeapTooLong => "heap too long",
             Kind::StripTooShort => "strip too short",
             Kind::SourceTooLong => "source too long",
-            Kind::NoToken => "invalid character",
+            Kind::NoToken => "no token",
             Kind::CommentNotClosed => "comment not closed",
             Kind::NameTooLong => "name too long",
             Kind::LiteralTooLarge => "literal too large",
             Kind::TooManyTokens => "too many tokens",
-            Kind::NotInGrammar => "syntax error",
+            Kind::NotInGrammar => "not in grammar",
             Kind::TooDeep => "too deep",
             Kind::ClassRepeated => "class repeated",
             Kind::ParentUnknown => "parent unknown",
-            Kind::ChainEndless => "cyclic inheritance",
+            Kind::ChainEndless => "chain endless",
             Kind::FieldRepeated => "field repeated",
             Kind::TypeUnknown => "type unknown",
             Kind::MethodRepeated => "method repeated",
-            Kind::BadRedeclaration => "incompatible override",
+            Kind::BadRedeclaration => "bad redeclaration",
             Kind::VariableRepeated => "variable repeated",
             Kind::TooManyVariables => "too many variables",
             Kind::NameUnknown => "name unknown",
             Kind::WrongType => "wrong type",
             Kind::MethodUnknown => "method unknown",
-            Kind::ArgumentCount => "wrong number of arguments",
+            Kind::ArgumentCount => "argument count",
             Kind::ThisInMain => "this in main",
             Kind::NullReference => "null reference",
             Kind::IndexOutOfRange => "index out of range",
             Kind::NegativeSize => "negative size",
             Kind::BudgetSpent => "budget spent",
             Kind::HeapFull => "heap full",
-            Kind::CallsFull => "call limit reached",
+            Kind::CallsFull => "calls full",
             Kind::OutputFull => "output full",
             Kind::LeadingZero => "leading zero",
             Kind::TextTooLong => "text too long",
@@ -328,103 +327,51 @@ impl Kind {
     pub fn sentence(self) -> &'static str {
         match self {
             Kind::TableTooShort => "The work table has fewer than 16,384 words.",
-            Kind::CallLimitOutOfRange => "The call limit is not between 1 and 64.",
+            Kind::CallLimitOutOfRange => "The call limit is not 1 to 64.",
             Kind::HeapTooLong => "The heap strip has more than 16,384 words.",
-            Kind::StripTooShort => "The strip has fewer words than the lesson has classes, the main class not counted.",
+            Kind::StripTooShort => "The strip has fewer words than the lesson has classes beside main's.",
             Kind::SourceTooLong => "The lesson has more than 16,384 bytes.",
-            Kind::NoToken => "No name, number or mark of the language begins with this character.",
+            Kind::NoToken => "No word, number or mark of the language begins with this byte.",
             Kind::CommentNotClosed => "A block comment is opened and never closed; comments nest, so each opening needs its own closing.",
-            Kind::NameTooLong => "The name has more than 255 letters, digits and underscores.",
-            Kind::LiteralTooLarge => "The number is larger than 2147483647 or, with a point, larger than 2147483.647.",
-            Kind::TooManyTokens => "The lesson has more than 2,048 tokens: words, numbers and marks.",
-            Kind::NotInGrammar => "This does not fit the grammar here: something is missing, out of place or too much.",
-            Kind::TooDeep => "A statement or an expression is nested more than 64 levels deep.",
-            Kind::ClassRepeated => "An earlier class has the same name.",
-            Kind::ParentUnknown => "No class has the name after `extends`; the main class cannot be extended.",
-            Kind::ChainEndless => "The class extends itself, or its chain of parents runs into a loop.",
-            Kind::FieldRepeated => "The class already has a field of this name.",
-            Kind::TypeUnknown => "No class has this name; the main class cannot be used as a type.",
-            Kind::MethodRepeated => "The class already has a method of this name; methods cannot be overloaded.",
-            Kind::BadRedeclaration => "The method of this name in a class above has other parameter types, or a result type that this one's does not fit.",
-            Kind::VariableRepeated => "The method already has a parameter or local of this name.",
-            Kind::TooManyVariables => "The method has more than 32 parameters and locals in all.",
-            Kind::NameUnknown => "No local, parameter or field of this name is visible here; main sees none at all.",
-            Kind::WrongType => "This expression has the wrong type here.",
+            Kind::NameTooLong => "A name has more than 255 letters, digits and underscores.",
+            Kind::LiteralTooLarge => "A number is larger than 2147483647, or one with a point larger than 2147483.647.",
+            Kind::TooManyTokens => "The lesson has more than 2,048 words, numbers and marks.",
+            Kind::NotInGrammar => "No program goes on like this from here: something is missing, misplaced or too much.",
+            Kind::TooDeep => "A statement or an expression lies inside more than 63 others.",
+            Kind::ClassRepeated => "Another class before this one has the same name.",
+            Kind::ParentUnknown => "The lesson has no class of the name after `extends`; the main class cannot be extended.",
+            Kind::ChainEndless => "The class extends itself, or its parents lead into a loop.",
+            Kind::FieldRepeated => "The class has another field of the same name.",
+            Kind::TypeUnknown => "The lesson has no class of this name; the main class is no type.",
+            Kind::MethodRepeated => "The class has another method of the same name.",
+            Kind::BadRedeclaration => "A method of this name in a class above has other parameter types, or a result that this one's does not fit.",
+            Kind::VariableRepeated => "The method has another parameter or local of the same name.",
+            Kind::TooManyVariables => "The method has more than 32 parameters and locals together.",
+            Kind::NameUnknown => "No local, parameter or field of this name can be seen here; main sees none at all.",
+            Kind::WrongType => "This part has another type than its place needs.",
             Kind::MethodUnknown => "Neither the class nor a class above it has a method of this name.",
-            Kind::ArgumentCount => "The call has another number of arguments than the method has parameters.",
+            Kind::ArgumentCount => "The method takes another number of arguments.",
             Kind::ThisInMain => "Main belongs to no object, so it has no `this`.",
-            Kind::NullReference => "The object or array that is used here is null.",
-            Kind::IndexOutOfRange => "The index is negative or not less than the array's length.",
+            Kind::NullReference => "There is no object or array here: the reference is null.",
+            Kind::IndexOutOfRange => "The index is negative, or not below the array's length.",
             Kind::NegativeSize => "An array cannot have a negative length.",
-            Kind::BudgetSpent => "The step budget is used up.",
+            Kind::BudgetSpent => "The budget of steps or frames is spent, and another is due.",
             Kind::HeapFull => "The heap strip has no room for this object or array.",
             Kind::CallsFull => "As many calls are open as the call limit allows.",
             Kind::OutputFull => "The output strip has no room for another number.",
-            Kind::LeadingZero => "The number begins with 0 and another digit; Java would read it as octal.",
+            Kind::LeadingZero => "A number begins with 0 and another digit, which means another number in Java.",
             Kind::TextTooLong => "The strip is too short for the printed lesson.",
-            Kind::RegistersNotSixteen => "The register strip is not 16 bytes long.",
-            Kind::RegisterOutOfRange => "The register number is not 0 to 15.",
-            Kind::ValueOutOfRange => "The value that is put is not 0 to 255.",
-            Kind::NotThreeDigits => "A number with a point needs exactly three digits after it.",
-            Kind::LibraryRefused => "The library is something other than class declarations, or does not keep Read's rules and bounds.",
+            Kind::RegistersNotSixteen => "The register strip has not exactly 16 bytes.",
+            Kind::RegisterOutOfRange => "The cable has registers 0 to 15 only.",
+            Kind::ValueOutOfRange => "A register takes 0 to 255 only.",
+            Kind::NotThreeDigits => "A number with a point has other than three digits behind it.",
+            Kind::LibraryRefused => "The library has something other than class declarations, or Read's rules and bounds do not hold for it.",
             Kind::JoinedTooLong => "The strip is too short for the lesson and the classes of the library.",
             Kind::FramesTooShort => "The strip is too short for the frames of the lesson, or the stack strip has fewer than 140,000 entries.",
-            Kind::OtherForm => "The line is not ten lower-case hexadecimal digits and a line feed.",
+            Kind::OtherForm => "The line is something other than ten lower-case hexadecimal digits and a line feed.",
             Kind::FrameFault => "The code table does not allow this frame, by its code, its operand or a value that it takes; or the stack strip is full, or the line is past the last.",
             Kind::RecordUnfit => "The record does not fit the frames, the limits or the strips, or its counts and the new budget are together above 4294967295.",
             Kind::PriceUnfit => "The price of a call is neither 1 nor 10.",
-        }
-    }
-
-    /// How to put it right, in a sentence or two.
-    pub fn remedy(self) -> &'static str {
-        match self {
-            Kind::TableTooShort => "Pass a work table of at least 16,384 words.",
-            Kind::CallLimitOutOfRange => "Give a call limit from 1 to 64.",
-            Kind::HeapTooLong => "Pass a heap strip of at most 16,384 words.",
-            Kind::StripTooShort => "Pass a strip of 2,048 words: no lesson has more classes.",
-            Kind::SourceTooLong => "Shorten the lesson: comments and indentation count too. What many lessons share can stand in a library, but the joined text has the same bound.",
-            Kind::NoToken => "Take the character out, or write what the language has in its place. Strings, other alphabets and further operators stand in comments only.",
-            Kind::CommentNotClosed => "Close the comment, once for each time that it is opened: an opening inside a comment counts too.",
-            Kind::NameTooLong => "Choose a shorter name.",
-            Kind::LiteralTooLarge => "Write a smaller number, or compute the value from smaller ones; sums and products keep their low 32 bits.",
-            Kind::TooManyTokens => "Shorten the lesson: a loop or a method says once what is repeated. Comments do not count.",
-            Kind::NotInGrammar => "Write what can stand at this place; the mistake may also lie just before it. What Java has and a lesson has not, such as an `if` without `else`, is written out.",
-            Kind::TooDeep => "Take the inner part out: into a local, a method or a statement of its own.",
-            Kind::ClassRepeated => "Rename one of the two classes, or leave one out.",
-            Kind::ParentUnknown => "Write the name as the class declares it, add the class, or leave `extends` out.",
-            Kind::ChainEndless => "Leave out one `extends` of the loop: every chain ends at a class that extends none.",
-            Kind::FieldRepeated => "Rename or leave out one of the two fields.",
-            Kind::TypeUnknown => "Write the name as the class declares it, add the class, or use `int`, `boolean` or `fixed`.",
-            Kind::MethodRepeated => "Rename or leave out one of the two methods.",
-            Kind::BadRedeclaration => "Give the method the parameter types of the one above and a result that fits, or another name.",
-            Kind::VariableRepeated => "Rename or leave out one of the two.",
-            Kind::TooManyVariables => "Keep some of the values in fields or in an array, or split the method.",
-            Kind::NameUnknown => "Write the name as it is declared, or declare it: a local at the beginning of the method, a field in the class. In main, call a method that does the work.",
-            Kind::WrongType => "Write an expression of the type that the place needs, or change the type that is declared. There are no conversions between `int`, `boolean` and `fixed`.",
-            Kind::MethodUnknown => "Write the name as the method declares it, or add the method to the class.",
-            Kind::ArgumentCount => "Give an argument for each parameter.",
-            Kind::ThisInMain => "Make an object in main, `new A()`, and call its method.",
-            Kind::NullReference => "Assign an object or array first: fields, locals and elements begin as null.",
-            Kind::IndexOutOfRange => "Keep the index within 0 and the length less 1, for example by the condition of the loop.",
-            Kind::NegativeSize => "Look at how the length is computed: it must be 0 or more.",
-            Kind::BudgetSpent => "Look for a loop whose condition stays true, or a method that calls itself too often; where the lesson needs more steps, or the frames cost more, give a larger budget.",
-            Kind::HeapFull => "Make fewer or smaller objects and arrays, nothing is freed; or pass a larger heap strip, up to 16,384 words.",
-            Kind::CallsFull => "Look for a method that calls itself without end: it needs a case in which it does not. At most 64 calls can be open; a loop needs none.",
-            Kind::OutputFull => "Print fewer numbers, or pass a longer output strip.",
-            Kind::LeadingZero => "Leave out the leading zeros.",
-            Kind::TextTooLong => "Pass a strip of 18,432 bytes, or of the lesson's length and 2,048: no printed text is longer.",
-            Kind::RegistersNotSixteen => "Pass a register strip of 16 bytes.",
-            Kind::RegisterOutOfRange => "Give `Port.get` and `Port.put` a register from 0 to 15.",
-            Kind::ValueOutOfRange => "Put a value from 0 to 255.",
-            Kind::NotThreeDigits => "Write three digits after the point: `12.500`.",
-            Kind::LibraryRefused => "Put the library right as Read's number for it says; `main` stands in lessons only.",
-            Kind::JoinedTooLong => "Pass a strip of 33,281 bytes, or of the lengths of lesson and library and 513: no joined text is longer.",
-            Kind::FramesTooShort => "Pass 373,417 bytes for frames, and a stack strip of 140,000 entries.",
-            Kind::OtherForm => "Give the frames as `lesson frames` writes them.",
-            Kind::FrameFault => "Give frames that `lesson frames` wrote, and a stack strip of 140,000 entries: these never end so.",
-            Kind::RecordUnfit => "Go on with the same frames, tape, limits and strips, and with a budget that keeps the sum at 4294967295 or less.",
-            Kind::PriceUnfit => "Give the price 1 or 10.",
         }
     }
 

@@ -15,22 +15,19 @@
 //! let refusal = lesson_engine::check(b"class M{public static void main(String[] a){x=1;}}").unwrap_err();
 //! assert_eq!(refusal.kind, lesson_engine::Kind::NameUnknown);
 //! assert_eq!((refusal.kind.number(), refusal.position), (30, 44));
-//! assert_eq!(refusal.to_string(), "30 name unknown, at byte 44: No local, parameter or field of this name is visible here; main sees none at all.");
+//! assert_eq!(refusal.to_string(), "30 name unknown, at byte 44: No local, parameter or field of this name can be seen here; main sees none at all.");
 //! ```
 //!
-//! What to do about a refusal, [`hints`] say. A lesson can also be written as [`frames`], stack code for readers, whose runs go on in [`parts`] and can be stored between them ([`Paused`]).
+//! A lesson can also be written as [`frames`], stack code for readers, whose runs go on in [`parts`] and can be stored between them ([`Paused`]).
 //!
 //! A call needs up to [`sys::STACK_BYTES`] of stack beside the caller's own: threads of Rust's standard size have it. Any number of threads may call at once.
 
 mod frames;
-pub mod hints;
 mod kind;
 mod library;
-pub mod outline;
 mod paused;
 pub mod strips;
 pub mod sys;
-pub mod tokens;
 
 pub use frames::{parts, run_frames, FrameLimits, FrameRun, Part, Parts};
 pub use kind::{Cause, Kind};
@@ -171,9 +168,9 @@ pub fn menu(lesson: &[u8]) -> Result<Vec<usize>, Refusal> {
 /// # Ok::<(), lesson_engine::Refusal>(())
 /// ```
 pub fn run(lesson: &[u8], limits: &Limits, tape: &[u8]) -> Result<Run, Refusal> {
-    // One word more than is allowed is refused as any longer heap is; a printed number takes two steps, of the statement and of its expression.
+    // One word more than is allowed is refused as any longer heap is; no run prints more numbers than it has steps.
     let mut heap = vec![0; limits.heap.min(sys::HEAP_MOST + 1)];
-    let mut output = vec![0; limits.output.min(limits.budget as usize / 2)];
+    let mut output = vec![0; limits.output.min(limits.budget as usize)];
     let mut registers = [0; sys::REGISTERS];
     let bounds = sys::Limits { budget: limits.budget, calls: limits.calls };
     let lent = strips::Lent { heap: &mut heap, output: &mut output, registers: &mut registers, tape };

@@ -3,7 +3,7 @@
 use crate::{join, Kind, Refusal};
 
 /// A lesson to which every library can be joined.
-pub(crate) const SMALLEST: &[u8] = b"class M{public static void main(String[]a){{}}}";
+const SMALLEST: &[u8] = b"class M{public static void main(String[]a){{}}}";
 
 /// Where Join refuses a library.
 fn refused_at(library: &[u8]) -> Option<usize> {
@@ -78,8 +78,7 @@ mod tests {
 
     #[test]
     fn what_is_wrong_with_the_grammar() {
-        for marked in ["@x", "@1.500", "class@", "class A{}@}", "class A{int a;@", "class A{}@&&", "class A{} class @class", "class A{int @1.500.x;}"]
-        {
+        for marked in ["@x", "@1.500", "class@", "class A{}@}", "class A{int a;@", "class A{}@&&", "class A{} class @class", "class A{int @1.500.x;}"] {
             assert_refused(marked, Kind::NotInGrammar);
         }
         assert_refused("class M{public @static void main(String[] a){{}}}", Kind::NotInGrammar);

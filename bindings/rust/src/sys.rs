@@ -1,24 +1,5 @@
 //! What include/engine.h declares, as it stands there: for a caller that lends its own strips. The header says what a caller owes.
 
-/// A record as C passes it by value: in WebAssembly that is by its address, which rustc before 1.89 does not do of itself.
-#[cfg(target_arch = "wasm32")]
-pub type Passed<T> = *const T;
-/// A record as C passes it by value.
-#[cfg(not(target_arch = "wasm32"))]
-pub type Passed<T> = T;
-
-/// What is passed for a record, which must not go before the call is done.
-#[cfg(target_arch = "wasm32")]
-pub fn passed<T>(record: &T) -> Passed<T> {
-    record
-}
-
-/// What is passed for a record.
-#[cfg(not(target_arch = "wasm32"))]
-pub fn passed<T: Copy>(record: &T) -> Passed<T> {
-    *record
-}
-
 // [words/write operations: what words/operations.txt says
 /// The version of these declarations; it goes up when one of them or its meaning changes.
 pub const VERSION: u32 = 5;
@@ -161,8 +142,8 @@ extern "C" {
     /// May the lesson run: are its names and types right too? Refuses as Read does, and with 20 to 34.
     pub fn engine_check(source: *const u8, source_length: usize, table: *mut u32, table_length: usize) -> CheckAnswer;
     /// Where do the names of the classes stand? After success `strip` begins with the position of the name of each class beside main's,
-    /// each once, in this order: again and again the earliest class in the lesson that is not yet written and whose parent is written or
-    /// absent; its rest is unchanged, and so is all of it after a refusal. Refuses as Check does, and with 4.
+    /// each once, a parent before the classes that extend it and otherwise as they stand in the lesson; its rest is unchanged, and so is
+    /// all of it after a refusal. Refuses as Check does, and with 4.
     pub fn engine_menu(
         source: *const u8,
         source_length: usize,
@@ -178,7 +159,7 @@ extern "C" {
         source_length: usize,
         table: *mut u32,
         table_length: usize,
-        limits: Passed<Limits>,
+        limits: Limits,
         heap: *mut i32,
         heap_length: usize,
         output: *mut i32,
@@ -230,7 +211,7 @@ extern "C" {
     pub fn engine_run_frames(
         frames: *const u8,
         frames_length: usize,
-        limits: Passed<FrameLimits>,
+        limits: FrameLimits,
         heap: *mut i32,
         heap_length: usize,
         output: *mut i32,
@@ -250,8 +231,8 @@ extern "C" {
     pub fn engine_continue_frames(
         frames: *const u8,
         frames_length: usize,
-        from: Passed<FrameRecord>,
-        limits: Passed<FrameLimits>,
+        from: FrameRecord,
+        limits: FrameLimits,
         heap: *mut i32,
         heap_length: usize,
         output: *mut i32,

@@ -1,5 +1,8 @@
 // Standard input, read to its end. What there is no room for is read and dropped.
-use libc::STDIN_FILENO;
+use std::io::Read;
+
+// How many bytes one read takes at most.
+const CHUNK: usize = 4096;
 
 // How many bytes of a lesson there are, at most as many as there was room for; or the input cannot be read.
 #[derive(Drop)]
@@ -37,26 +40,22 @@ fn push_all(chunk: &[u8], space: &mut [u8], n: usize) -> usize {
 }
 
 // Reads once, and puts what came behind the first `n` bytes of `space`.
-fn take_some(space: &mut [u8], n: usize) -> Taken {
-    let mut chunk = io::buffer();
-    let got = libc::read(STDIN_FILENO, &mut chunk);
-    if got < 0 {
-        return Taken::Failed;
+fn take_some<R: Read>(input: &mut R, space: &mut [u8], n: usize) -> Taken {
+    let mut chunk = [0u8; CHUNK];
+    match input.read(&mut chunk) {
+        Ok(0) => Taken::End,
+        Ok(count) => Taken::Some(push_all(&chunk[..count], space, n)),
+        Err(_) => Taken::Failed,
     }
-    if got == 0 {
-        return Taken::End;
-    }
-    let count = io::count(got, &chunk);
-    Taken::Some(push_all(&chunk[..count], space, n))
 }
 
 // Reads to the end. Nothing says that the input ends, so the loop counts its turns down, from a number that no run uses up.
-pub fn read_all(space: &mut [u8]) -> Lesson {
+pub fn read_all<R: Read>(input: &mut R, space: &mut [u8]) -> Lesson {
     let mut count: usize = 0;
     let mut turns = u64::MAX;
     while turns > 0 {
         turns -= 1;
-        let t = take_some(space, count);
+        let t = take_some(input, space, count);
         match t {
             Taken::Some(n) => {
                 count = n;

@@ -1,10 +1,13 @@
 // Runs the lesson on standard input under the limits of document 01: prints each number that the lesson prints on a line, then how the
 // run ended.
+#![tactic(auto)]
+
 mod input;
 mod output;
 
 use crate::input::Lesson;
 use runner::run::run;
+use std::io::{self, BufWriter, Write};
 
 // Room for the longest lesson, 16,384 bytes, and a byte by which a longer one shows.
 const SPACE: usize = 16385;
@@ -26,7 +29,7 @@ const OUTPUT: usize = 256;
 const REGISTERS: usize = 16;
 
 // Runs a lesson with an empty tape, and prints what came of it.
-fn answer(lesson: &[u8]) {
+fn answer<W: Write>(out: &mut W, lesson: &[u8]) -> io::Result<()> {
     let mut table = [0u32; TABLE];
     let mut heap = [0i32; HEAP];
     let mut printed = [0i32; OUTPUT];
@@ -41,25 +44,28 @@ fn answer(lesson: &[u8]) {
         &mut registers,
         b"",
     );
-    output::lines(&printed, a.printed);
-    output::ending(a);
+    output::lines(out, &printed, a.printed)?;
+    output::ending(out, a)
 }
 
 // Answers the first `n` bytes of `space`; all of them, which are too many for a lesson, where it is full.
-fn answer_first(space: &[u8], n: usize) {
+fn answer_first<W: Write>(out: &mut W, space: &[u8], n: usize) -> io::Result<()> {
     if n < space.len() {
-        answer(&space[..n]);
-        return;
+        return answer(out, &space[..n]);
     }
-    answer(space);
+    answer(out, space)
 }
 
 // Reads the lesson, and answers it.
-fn main() {
+fn main(rt: HostRuntime) -> io::Result<()> {
     let mut space = [0u8; SPACE];
-    let l = input::read_all(&mut space);
+    let l = input::read_all(&mut rt.stdin(), &mut space);
     match l {
-        Lesson::Bytes(n) => answer_first(&space, n),
-        Lesson::Unread => output::unread(),
+        Lesson::Bytes(n) => {
+            let mut out = BufWriter::new(rt.alloc(), rt.stdout())?;
+            answer_first(&mut out, &space, n)?;
+            out.flush()
+        }
+        Lesson::Unread => output::unread(&rt),
     }
 }

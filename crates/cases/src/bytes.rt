@@ -1,5 +1,6 @@
 // Strips of bytes that are lent to an operation: filled beforehand, looked at and written afterwards.
-use crate::{output, page};
+use crate::page;
+use std::io::{self, Write};
 
 // What a strip holds beforehand at an index: never 0, so that a byte that is set to 0 shows.
 fn mark(i: usize) -> u8 {
@@ -34,7 +35,7 @@ pub fn is_marked(bytes: &[u8], from: usize) -> bool {
 }
 
 // Writes bytes, two hexadecimal digits each.
-pub fn write(bytes: &[u8]) {
+pub fn write<W: Write>(out: &mut W, bytes: &[u8]) -> io::Result<()> {
     let mut digits = [0u8; page::BYTES];
-    page::write_bytes(&mut digits, bytes);
+    page::write_bytes(out, &mut digits, bytes)
 }

@@ -1,5 +1,7 @@
 // Answers cases from standard input, a line each: the first word of a line names an operation, the others are what it is given.
 // A line that is no case is answered by what is wrong with it, an empty line is passed over.
+#![tactic(auto)]
+
 mod bytes;
 mod fields;
 mod join_case;
@@ -20,7 +22,10 @@ mod text;
 
 use crate::operation::Name;
 use crate::output::Wrong;
-use libc::STDIN_FILENO;
+use std::io::{self, BufWriter, Read, Write};
+
+// How many bytes one read takes at most.
+const CHUNK: usize = 4096;
 
 // Room for a line, and a byte by which a longer one shows. A lesson and a library of 16,384 bytes each take 65,536 digits; what is longer
 // is refused, which is a case too.
@@ -38,25 +43,29 @@ enum Taken {
 }
 
 // Answers a line.
-fn answer(line: &mut [u8], table: &mut [u32]) {
+fn answer<W: Write>(out: &mut W, line: &mut [u8], table: &mut [u32]) -> io::Result<()> {
     if line.len() == 0 {
-        return;
+        return Ok(());
     }
     let n = operation::named(line);
     match n {
-        Name::Of(o) => lent::answer(o, line, table),
-        Name::Help => output::usage(),
-        Name::Unknown => output::refuse(Wrong::Operation),
+        Name::Of(o) => lent::answer(out, o, line, table),
+        Name::Help => output::usage(out),
+        Name::Unknown => output::refuse(out, Wrong::Operation),
     }
 }
 
 // Answers the line whose bytes are the first `n` of `line`. Where the buffer is full, the rest of the line may be lost.
-fn answer_first(line: &mut [u8], n: usize, table: &mut [u32]) {
+fn answer_first<W: Write>(
+    out: &mut W,
+    line: &mut [u8],
+    n: usize,
+    table: &mut [u32],
+) -> io::Result<()> {
     if n < line.len() {
-        answer(&mut line[..n], table);
-        return;
+        return answer(out, &mut line[..n], table);
     }
-    output::refuse(Wrong::LineLength);
+    output::refuse(out, Wrong::LineLength)
 }
 
 // Puts a byte behind the first `n` of `line`, where there is room, and answers how many there are then.
@@ -69,51 +78,78 @@ fn push(line: &mut [u8], n: usize, b: u8) -> usize {
 }
 
 // Takes one byte of the input: it belongs to the line, or ends it. Answers how many bytes of a line wait then.
-fn take(b: u8, line: &mut [u8], n: usize, table: &mut [u32]) -> usize {
+fn take<W: Write>(
+    out: &mut W,
+    b: u8,
+    line: &mut [u8],
+    n: usize,
+    table: &mut [u32],
+) -> io::Result<usize> {
     if b == b'\n' {
-        answer_first(line, n, table);
-        return 0;
+        answer_first(out, line, n, table)?;
+        return Ok(0);
     }
-    push(line, n, b)
+    Ok(push(line, n, b))
 }
 
 // Takes all bytes of `chunk`.
-fn take_all(chunk: &[u8], line: &mut [u8], n: usize, table: &mut [u32]) -> usize {
+fn take_all<W: Write>(
+    out: &mut W,
+    chunk: &[u8],
+    line: &mut [u8],
+    n: usize,
+    table: &mut [u32],
+) -> io::Result<usize> {
     let mut waiting = n;
     let mut i: usize = 0;
     while i < chunk.len() {
-        waiting = take(chunk[i], line, waiting, table);
+        waiting = take(out, chunk[i], line, waiting, table)?;
         i += 1;
     }
-    waiting
+    Ok(waiting)
 }
 
-// Reads once, and takes what came. At the end of the input the last line may lack its line feed; where the input fails, a line that has
-// only begun is no case.
-fn take_some(line: &mut [u8], n: usize, table: &mut [u32]) -> Taken {
-    let mut chunk = io::buffer();
-    let got = libc::read(STDIN_FILENO, &mut chunk);
-    if got < 0 {
-        output::refuse(Wrong::Input);
-        return Taken::End;
+// Reads once, and takes what came; then what was written goes out. At the end of the input the last line may lack its line feed; where
+// the input fails, a line that has only begun is no case.
+fn take_some<R: Read, W: Write>(
+    input: &mut R,
+    out: &mut W,
+    line: &mut [u8],
+    n: usize,
+    table: &mut [u32],
+) -> io::Result<Taken> {
+    let mut chunk = [0u8; CHUNK];
+    match input.read(&mut chunk) {
+        Ok(0) => {
+            answer_first(out, line, n, table)?;
+            Ok(Taken::End)
+        }
+        Ok(count) => {
+            let waiting = take_all(out, &chunk[..count], line, n, table)?;
+            out.flush()?;
+            Ok(Taken::Some(waiting))
+        }
+        Err(_) => {
+            output::refuse(out, Wrong::Input)?;
+            Ok(Taken::End)
+        }
     }
-    if got == 0 {
-        answer_first(line, n, table);
-        return Taken::End;
-    }
-    let count = io::count(got, &chunk);
-    Taken::Some(take_all(&chunk[..count], line, n, table))
 }
 
 // Answers every line of the input; one that is empty from the begin is given the usage. Nothing says that the input ends, so the loop
 // counts its turns down, from a number that no run uses up.
-fn serve(line: &mut [u8], table: &mut [u32]) {
+fn serve<R: Read, W: Write>(
+    input: &mut R,
+    out: &mut W,
+    line: &mut [u8],
+    table: &mut [u32],
+) -> io::Result<()> {
     let mut waiting: usize = 0;
     let mut turns = u64::MAX;
     let mut given = false;
     while turns > 0 {
         turns -= 1;
-        let t = take_some(line, waiting, table);
+        let t = take_some(input, out, line, waiting, table)?;
         match t {
             Taken::Some(n) => {
                 waiting = n;
@@ -125,13 +161,15 @@ fn serve(line: &mut [u8], table: &mut [u32]) {
         }
     }
     if !given {
-        output::usage();
+        output::usage(out)?;
     }
+    out.flush()
 }
 
 // What every case is lent stands here, once.
-fn main() {
+fn main(rt: HostRuntime) -> io::Result<()> {
     let mut line = [0u8; LINE_MOST];
     let mut table = [0u32; TABLE_MOST];
-    serve(&mut line, &mut table);
+    let mut out = BufWriter::new(rt.alloc(), rt.stdout())?;
+    serve(&mut rt.stdin(), &mut out, &mut line, &mut table)
 }

@@ -3,6 +3,7 @@
 use crate::{bytes, numbers, output, page, strip};
 use base::codes;
 use runner::run::{RunAnswer, run};
+use std::io::{self, Write};
 
 // The limits of a case that are no lengths.
 #[derive(Drop)]
@@ -12,12 +13,12 @@ pub struct Limits {
 }
 
 // Writes how a run ended, and its meters.
-fn write_end(a: RunAnswer) {
-    output::number(a.number as u64);
-    output::next_number(a.position as u64);
-    output::next_number(a.steps as u64);
-    output::next_number(a.climbs);
-    output::next_number(a.words as u64);
+fn write_end<W: Write>(out: &mut W, a: RunAnswer) -> io::Result<()> {
+    output::number(out, a.number as u64)?;
+    output::next_number(out, a.position as u64)?;
+    output::next_number(out, a.steps as u64)?;
+    output::next_number(out, a.climbs)?;
+    output::next_number(out, a.words as u64)
 }
 
 // Whether this number ends a run: all others refuse the call.
@@ -38,33 +39,33 @@ fn is_run(number: u32) -> bool {
 }
 
 // Writes a list of numbers, where it has any.
-fn write_numbers(numbers: &[i32]) {
+fn write_numbers<W: Write>(out: &mut W, numbers: &[i32]) -> io::Result<()> {
     if numbers.len() == 0 {
-        return;
+        return Ok(());
     }
-    output::text(b" :");
+    output::text(out, b" :")?;
     let mut bytes = [0u8; page::BYTES];
-    page::write_signed(&mut bytes, numbers);
+    page::write_signed(out, &mut bytes, numbers)
 }
 
 // Writes the first `n` numbers of the output strip, and answers whether there are as many and the rest is as it was beforehand.
-fn write_printed(numbers: &[i32], n: usize) -> bool {
+fn write_printed<W: Write>(out: &mut W, numbers: &[i32], n: usize) -> io::Result<bool> {
     if numbers.len() < n {
-        return false;
+        return Ok(false);
     }
-    write_numbers(&numbers[..n]);
-    numbers::is_marked(numbers, n)
+    write_numbers(out, &numbers[..n])?;
+    Ok(numbers::is_marked(numbers, n))
 }
 
 // Writes the registers that a run leaves, or `-` where the call was refused; and answers whether a refusal left the strip as it was.
-fn write_registers(registers: &[u8], is_run: bool) -> bool {
-    output::text(b" ");
+fn write_registers<W: Write>(out: &mut W, registers: &[u8], is_run: bool) -> io::Result<bool> {
+    output::text(out, b" ")?;
     if is_run {
-        bytes::write(registers);
-        return true;
+        bytes::write(out, registers)?;
+        return Ok(true);
     }
-    output::text(b"-");
-    bytes::is_marked(registers, 0)
+    output::text(out, b"-")?;
+    Ok(bytes::is_marked(registers, 0))
 }
 
 // Fills all that is lent to a run.
@@ -76,18 +77,29 @@ fn fill(table: &mut [u32], heap: &mut [i32], printed: &mut [i32], registers: &mu
 }
 
 // Writes the answer of a run, and looks at all that was lent to it.
-fn write(a: RunAnswer, table: &[u32], heap: &[i32], printed: &[i32], registers: &[u8]) {
-    write_end(a);
+fn write<W: Write>(
+    out: &mut W,
+    a: RunAnswer,
+    table: &[u32],
+    heap: &[i32],
+    printed: &[i32],
+    registers: &[u8],
+) -> io::Result<()> {
+    write_end(out, a)?;
     let number = a.number;
-    let are_registers_right = write_registers(registers, is_run(number));
-    let is_output_right = write_printed(printed, a.printed);
+    let are_registers_right = write_registers(out, registers, is_run(number))?;
+    let is_output_right = write_printed(out, printed, a.printed)?;
     let is_heap_right = numbers::is_heap_right(heap, number);
     let are_strips_right = are_registers_right && is_output_right && is_heap_right;
-    output::end(are_strips_right && strip::is_table_right(table, number));
+    output::end(
+        out,
+        are_strips_right && strip::is_table_right(table, number),
+    )
 }
 
 // Runs the source with a table, limits, a heap strip, an output strip, a register strip and a tape, and writes the answer.
-pub fn answer(
+pub fn answer<W: Write>(
+    out: &mut W,
     text: &[u8],
     table: &mut [u32],
     limits: Limits,
@@ -95,10 +107,10 @@ pub fn answer(
     printed: &mut [i32],
     registers: &mut [u8],
     tape: &[u8],
-) {
+) -> io::Result<()> {
     fill(table, heap, printed, registers);
     let budget = limits.budget;
     let calls = limits.calls;
     let a = run(text, table, budget, calls, heap, printed, registers, tape);
-    write(a, table, heap, printed, registers);
+    write(out, a, table, heap, printed, registers)
 }

@@ -4,6 +4,7 @@ use crate::fields::Number;
 use crate::output::Wrong;
 use crate::run_case::Limits;
 use crate::{fields, lengths, output, run_case, source};
+use std::io::{self, Write};
 
 // The longest heap strip. Document 01 takes up to 16,384 words; what is longer it refuses, which is a case too.
 const HEAP_MOST: usize = 17000;
@@ -51,7 +52,8 @@ fn limits_of(line: &[u8]) -> Named {
 }
 
 // Runs the source that stands behind a tape of `n` bytes in `text`.
-fn run(
+fn run<W: Write>(
+    out: &mut W,
     text: &[u8],
     n: usize,
     table: &mut [u32],
@@ -59,67 +61,83 @@ fn run(
     heap: &mut [i32],
     printed: &mut [i32],
     registers: &mut [u8],
-) {
+) -> io::Result<()> {
     if text.len() < n {
-        return;
+        return Ok(());
     }
-    run_case::answer(&text[n..], table, l, heap, printed, registers, &text[..n]);
+    run_case::answer(
+        out,
+        &text[n..],
+        table,
+        l,
+        heap,
+        printed,
+        registers,
+        &text[..n],
+    )
 }
 
 // Decodes the tape and the source, and runs it.
-fn with_strips(
+fn with_strips<W: Write>(
+    out: &mut W,
     line: &mut [u8],
     table: &mut [u32],
     l: Limits,
     heap: &mut [i32],
     printed: &mut [i32],
     registers: &mut [u8],
-) {
+) -> io::Result<()> {
     let tape = fields::word(line, TAPE_WORD);
     let text = fields::word(line, SOURCE_WORD);
-    let n = source::decoded(line, tape, 0);
+    let n = source::decoded(out, line, tape, 0)?;
     if line.len() < n {
-        return;
+        return Ok(());
     }
-    let end = source::decoded(line, text, n);
+    let end = source::decoded(out, line, text, n)?;
     if line.len() < end {
-        return;
+        return Ok(());
     }
-    run(&line[..end], n, table, l, heap, printed, registers);
+    run(out, &line[..end], n, table, l, heap, printed, registers)
 }
 
 // Answers a case with its table and its limits. The strips stand here, once.
-fn with_limits(line: &mut [u8], table: &mut [u32], l: Limits) {
+fn with_limits<W: Write>(
+    out: &mut W,
+    line: &mut [u8],
+    table: &mut [u32],
+    l: Limits,
+) -> io::Result<()> {
     let mut heap = [0i32; HEAP_MOST];
     let mut printed = [0i32; OUTPUT_MOST];
     let mut registers = [0u8; REGISTERS_MOST];
-    let h = lengths::length_at(line, 4, HEAP_MOST, Wrong::HeapLength);
+    let h = lengths::length_at(out, line, 4, HEAP_MOST, Wrong::HeapLength)?;
     if HEAP_MOST < h {
-        return;
+        return Ok(());
     }
-    let o = lengths::length_at(line, 5, OUTPUT_MOST, Wrong::OutputLength);
+    let o = lengths::length_at(out, line, 5, OUTPUT_MOST, Wrong::OutputLength)?;
     if OUTPUT_MOST < o {
-        return;
+        return Ok(());
     }
-    let g = lengths::length_at(line, 6, REGISTERS_MOST, Wrong::RegistersLength);
+    let g = lengths::length_at(out, line, 6, REGISTERS_MOST, Wrong::RegistersLength)?;
     if REGISTERS_MOST < g {
-        return;
+        return Ok(());
     }
     with_strips(
+        out,
         line,
         table,
         l,
         &mut heap[..h],
         &mut printed[..o],
         &mut registers[..g],
-    );
+    )
 }
 
 // Answers a case with its table.
-pub fn answer(line: &mut [u8], table: &mut [u32]) {
+pub fn answer<W: Write>(out: &mut W, line: &mut [u8], table: &mut [u32]) -> io::Result<()> {
     let n = limits_of(line);
     match n {
-        Named::Are(l) => with_limits(line, table, l),
-        Named::Malformed => output::refuse(Wrong::Number),
+        Named::Are(l) => with_limits(out, line, table, l),
+        Named::Malformed => output::refuse(out, Wrong::Number),
     }
 }

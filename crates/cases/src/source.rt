@@ -5,6 +5,7 @@ ghost use Rattle.std.specs.Prelude.{◌≤◌};
 use crate::fields::Span;
 use crate::output::Wrong;
 use crate::{fields, output};
+use std::io::{self, Write};
 
 // No place: it lies behind the end of every line.
 const NOWHERE: usize = 4294967296;
@@ -92,26 +93,32 @@ fn decode(line: &mut [u8], start: usize, n: usize, to: usize) -> usize {
 }
 
 // What is wrong with a word is written.
-fn refused(wrong: Wrong) -> usize {
-    output::refuse(wrong);
-    NOWHERE
+fn refused<W: Write>(out: &mut W, wrong: Wrong) -> io::Result<usize> {
+    output::refuse(out, wrong)?;
+    Ok(NOWHERE)
 }
 
 // The end of `n` bytes from `to` on, decoded from the digits at `start`. Where one of these is none, that is written.
-fn with_size(line: &mut [u8], start: usize, n: usize, to: usize) -> usize {
+fn with_size<W: Write>(
+    out: &mut W,
+    line: &mut [u8],
+    start: usize,
+    n: usize,
+    to: usize,
+) -> io::Result<usize> {
     let end = decode(line, start, n, to);
     if line.len() < end {
-        return refused(Wrong::Digit);
+        return refused(out, Wrong::Digit);
     }
-    end
+    Ok(end)
 }
 
 // Decodes a word to `to`, and answers where its bytes end: nowhere where something is wrong with it, which is written.
-pub fn decoded(line: &mut [u8], word: Span, to: usize) -> usize {
+pub fn decoded<W: Write>(out: &mut W, line: &mut [u8], word: Span, to: usize) -> io::Result<usize> {
     let start = word.start;
     let s = size_of(line, start, word.end);
     match s {
-        Size::Bytes(n) => with_size(line, start, n, to),
-        Size::Refused(wrong) => refused(wrong),
+        Size::Bytes(n) => with_size(out, line, start, n, to),
+        Size::Refused(wrong) => refused(out, wrong),
     }
 }

@@ -2,50 +2,51 @@
 // `check TABLE HEX` by `NUMBER POSITION CLASSES`.
 use crate::{fields, output, source, strip};
 use reader::read::read;
+use std::io::{self, Write};
 use typecheck::check::check;
 
 // Which word is the source.
 const SOURCE_WORD: usize = 2;
 
 // Reads the source with a table, and writes the answer.
-fn write_read(text: &[u8], table: &mut [u32]) {
+fn write_read<W: Write>(out: &mut W, text: &[u8], table: &mut [u32]) -> io::Result<()> {
     strip::fill(table, strip::MARK);
     let a = read(text, table);
     let number = a.number;
-    output::number(number as u64);
-    output::next_number(a.position as u64);
-    output::next_number(a.tokens as u64);
-    output::next_number(a.nodes as u64);
-    output::end(strip::is_table_right(table, number));
+    output::number(out, number as u64)?;
+    output::next_number(out, a.position as u64)?;
+    output::next_number(out, a.tokens as u64)?;
+    output::next_number(out, a.nodes as u64)?;
+    output::end(out, strip::is_table_right(table, number))
 }
 
 // Checks the source with a table, and writes the answer.
-fn write_check(text: &[u8], table: &mut [u32]) {
+fn write_check<W: Write>(out: &mut W, text: &[u8], table: &mut [u32]) -> io::Result<()> {
     strip::fill(table, strip::MARK);
     let a = check(text, table);
     let number = a.number;
-    output::number(number as u64);
-    output::next_number(a.position as u64);
-    output::next_number(a.classes as u64);
-    output::end(strip::is_table_right(table, number));
+    output::number(out, number as u64)?;
+    output::next_number(out, a.position as u64)?;
+    output::next_number(out, a.classes as u64)?;
+    output::end(out, strip::is_table_right(table, number))
 }
 
 // Answers a case of read.
-pub fn answer_read(line: &mut [u8], table: &mut [u32]) {
+pub fn answer_read<W: Write>(out: &mut W, line: &mut [u8], table: &mut [u32]) -> io::Result<()> {
     let word = fields::word(line, SOURCE_WORD);
-    let n = source::decoded(line, word, 0);
+    let n = source::decoded(out, line, word, 0)?;
     if line.len() < n {
-        return;
+        return Ok(());
     }
-    write_read(&line[..n], table);
+    write_read(out, &line[..n], table)
 }
 
 // Answers a case of check.
-pub fn answer_check(line: &mut [u8], table: &mut [u32]) {
+pub fn answer_check<W: Write>(out: &mut W, line: &mut [u8], table: &mut [u32]) -> io::Result<()> {
     let word = fields::word(line, SOURCE_WORD);
-    let n = source::decoded(line, word, 0);
+    let n = source::decoded(out, line, word, 0)?;
     if line.len() < n {
-        return;
+        return Ok(());
     }
-    write_check(&line[..n], table);
+    write_check(out, &line[..n], table)
 }

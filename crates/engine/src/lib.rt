@@ -1,4 +1,6 @@
 // The operations for programs in other languages: include/engine.h declares them to C. Each promises what its operation promises.
+#![tactic(auto)]
+
 ghost use Rattle.std.specs.Prelude.{◌≡◌};
 ghost use Rattle.parser.specs.Read.{Reads};
 ghost use Rattle.typesystem.specs.Check.{Checks};

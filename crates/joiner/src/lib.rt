@@ -1,4 +1,6 @@
 // The operation Join of document 02, (x): a course library joined to a lesson.
+#![tactic(auto)]
+
 pub mod join;
 pub mod library;
 pub mod names;

@@ -1,4 +1,6 @@
 // The lexer: from the bytes of a source to a row of the work table for each token.
+#![tactic(auto)]
+
 ghost use Rattle.std.specs.Prelude.{◌≡◌, ◌≤◌, ◌<◌, length};
 ghost use Rattle.base.specs.Codes.{table_least, source_most};
 ghost use Rattle.lexer.specs.Tokens.{tokens};

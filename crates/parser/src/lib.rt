@@ -1,4 +1,6 @@
 // From tokens to the tree, both in the work table.
+#![tactic(auto)]
+
 pub mod answer;
 pub mod columns;
 pub mod decl;

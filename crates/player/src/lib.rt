@@ -1,4 +1,6 @@
 // The runner of frames.
+#![tactic(auto)]
+
 pub mod call;
 pub mod fill;
 pub mod heap;

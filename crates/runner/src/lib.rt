@@ -1,2 +1,4 @@
 // The operation Run of document 01.
+#![tactic(auto)]
+
 pub mod run;

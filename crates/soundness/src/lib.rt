@@ -1,1 +1,2 @@
 // Theorems only, in specs/: an accepted program never gets stuck, its runs end, and larger limits change nothing.
+#![tactic(auto)]

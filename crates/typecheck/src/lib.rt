@@ -1,3 +1,5 @@
 // The operation Check.
+#![tactic(auto)]
+
 pub mod check;
 pub mod method;

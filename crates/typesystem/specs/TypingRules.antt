@@ -8,7 +8,7 @@ use Rattle.base.specs.Codes.{variables_most}
 use Rattle.parser.specs.Tree.{Place, Name, Operator, Numeral, Part, Expression, Statement, Variable}
 use Rattle.parser.specs.Tree.{Element, Element.int, Element.boolean, Element.class, ElementUse, Ty, Ty.plain, Ty.array_of}
 use Rattle.parser.specs.Tree.{Method, Class, Program}
-use Rattle.parser.specs.Tree.{Sort.arguments, Sort.statement, Sort.statements}
+use Rattle.parser.specs.Tree.{Sort.arguments, Sort.statements}
 use Rattle.parser.specs.Tree.{Part.literal, Part.truth, Part.variable, Part.this, Part.new_array_lem, Part.new_object_lem, Part.negation, Part.binary}
 use Rattle.parser.specs.Tree.{Part.element, Part.array_length, Part.call, Part.port_get_lem, Part.no_arguments, Part.argument}
 use Rattle.parser.specs.Tree.{Part.block, Part.conditional, Part.loop, Part.print, Part.assign, Part.assign_element_lem, Part.port_put_lem}

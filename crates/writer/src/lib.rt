@@ -1,4 +1,6 @@
 // The code writer: what checking leaves in the work table becomes words of code.
+#![tactic(auto)]
+
 pub mod classes;
 pub mod code;
 pub mod expr;

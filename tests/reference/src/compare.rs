@@ -27,11 +27,7 @@ fn is_untouched(number: u32) -> bool {
 
 /// Whether a table or the heap strip is as it must be after this answer.
 fn is_cleared<T: crate::lent::Filling>(strip: &Strip<T>, number: u32) -> bool {
-    if is_untouched(number) {
-        strip.is_unchanged()
-    } else {
-        strip.is_zero()
-    }
+    if is_untouched(number) { strip.is_unchanged() } else { strip.is_zero() }
 }
 
 fn refused<T>(answer: &Result<T, Refusal>) -> (u32, usize) {
@@ -83,14 +79,7 @@ fn is_run_right(source: &[u8], table: usize, limits: Limits, registers: usize, t
     let answer = strips::run(source, words.lent(), bounds, lent);
     let (due, are_strips_right) = match expected {
         Ok(r) => (
-            sys::RunAnswer {
-                number: r.number,
-                position: r.at,
-                steps: r.steps as usize,
-                climbs: r.climbs,
-                words: r.words as usize,
-                printed: r.printed.len(),
-            },
+            sys::RunAnswer { number: r.number, position: r.at, steps: r.steps as usize, climbs: r.climbs, words: r.words as usize, printed: r.printed.len() },
             output.begins(r.printed.into_iter()) && shown.begins(r.registers.into_iter()),
         ),
         Err(r) => (
@@ -136,11 +125,7 @@ fn size(random: &mut Random) -> Size {
 
 /// A length or limit that is mostly one of those that are allowed.
 pub fn mostly(random: &mut Random, allowed: &[usize], others: &[usize]) -> usize {
-    if random.once_in(20) {
-        random.pick(others)
-    } else {
-        random.pick(allowed)
-    }
+    if random.once_in(20) { random.pick(others) } else { random.pick(allowed) }
 }
 
 /// How long a strip is lent for a text: too short by one, just long enough, long. Any length where no text is due.
@@ -150,17 +135,13 @@ pub fn strip_for(random: &mut Random, due: &Result<Vec<u8>, Refusal>) -> usize {
 }
 
 /// A library, as it is or damaged: classes of which some have names that the lesson has, main's among them.
-pub fn library(random: &mut Random) -> Vec<u8> {
+fn library(random: &mut Random) -> Vec<u8> {
     let wanted = size(random);
     let mut sound = generator::library(random, wanted);
     if random.once_in(4) {
         sound = format!("class {}{{}}// before all others\n{}", generator::MAIN, sound);
     }
-    if random.once_in(2) {
-        sound.into_bytes()
-    } else {
-        damaged(random, sound.as_bytes())
-    }
+    if random.once_in(2) { sound.into_bytes() } else { damaged(random, sound.as_bytes()) }
 }
 
 pub fn limits(random: &mut Random) -> Limits {
@@ -174,21 +155,6 @@ pub fn limits(random: &mut Random) -> Limits {
 
 pub fn tape(random: &mut Random) -> Vec<u8> {
     (0..random.pick(&[0, 1, 5, 60])).map(|_| random.below(256) as u8).collect()
-}
-
-/// A lesson, as it is or damaged.
-pub fn source(random: &mut Random) -> Vec<u8> {
-    let wanted = size(random);
-    let sound = lesson(random, wanted).into_bytes();
-    if random.once_in(3) {
-        sound
-    } else {
-        damaged(random, &sound)
-    }
-}
-
-pub fn table_words(random: &mut Random) -> usize {
-    mostly(random, &[16384, 16384, 16385, 20000], &[0, 1, 16383])
 }
 
 fn print_lesson(name: &str, seed: u64, source: &[u8]) {
@@ -223,8 +189,10 @@ fn print_results(random: &mut Random, source: &[u8], table: usize, met: &mut Met
 /// Compares all operations on the lesson of one seed; how many differ.
 fn lesson_differences(seed: u64, met: &mut Met) -> usize {
     let mut random = Random::new(seed);
-    let source = source(&mut random);
-    let table = table_words(&mut random);
+    let wanted = size(&mut random);
+    let sound = lesson(&mut random, wanted).into_bytes();
+    let source = if random.once_in(3) { sound } else { damaged(&mut random, &sound) };
+    let table = mostly(&mut random, &[16384, 16384, 16385, 20000], &[0, 1, 16383]);
     let strip = random.pick(&[0, 1, 3, 40, 2048, 2048]);
     let mut results = vec![
         ("read", is_read_right(&source, table, met)),

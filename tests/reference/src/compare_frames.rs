@@ -13,10 +13,6 @@ use lesson_engine::{strips, sys};
 
 const PARTS_MOST: usize = 5;
 
-/// How long the stack strip is, mostly, and otherwise.
-pub const STACKS: [usize; 3] = [STACK_LEAST, STACK_LEAST, STACK_LEAST + 1];
-pub const STACKS_TOO_SHORT: [usize; 2] = [0, STACK_LEAST - 1];
-
 /// Enough for the frames of every lesson that ends within the most steps of `limits`.
 const LAST_PART: Part = (100000, 1);
 
@@ -66,7 +62,14 @@ impl Lent {
 fn due(ended: Result<FrameReport, Refusal>) -> sys::FramesAnswer {
     let refused = |r: Refusal| FrameReport { number: r.number, at: r.at, frames: 0, words: 0, printed: 0, record: Record::default() };
     let r = ended.unwrap_or_else(refused);
-    sys::FramesAnswer { number: r.number, position: r.at as u64, frames: r.frames, words: r.words, printed: r.printed, pause: given(r.record) }
+    sys::FramesAnswer {
+        number: r.number,
+        position: r.at as u64,
+        frames: r.frames,
+        words: r.words,
+        printed: r.printed,
+        pause: given(r.record),
+    }
 }
 
 /// What is lent for a run: of lengths that are mostly allowed, and not 0.
@@ -75,11 +78,11 @@ fn lent(random: &mut Random, heap: usize, output: usize) -> Strips {
         heap: vec![7; heap],
         output: vec![7; output],
         registers: vec![7; mostly(random, &[16], &[0, 15, 17])],
-        stack: vec![7; mostly(random, &STACKS, &STACKS_TOO_SHORT)],
+        stack: vec![7; mostly(random, &[STACK_LEAST, STACK_LEAST, STACK_LEAST + 1], &[0, STACK_LEAST - 1])],
     }
 }
 
-pub fn parts(random: &mut Random) -> Vec<Part> {
+fn parts(random: &mut Random) -> Vec<Part> {
     let budgets = [0, 1, 2, 5, 9, 10, 11, 20, 100, 101, 300, 1000, 5000, 20000];
     (0..1 + random.below(PARTS_MOST)).map(|_| (random.pick(&budgets), random.pick(&[1, 10]))).collect()
 }
@@ -125,8 +128,10 @@ fn property_results(random: &mut Random, text: &[u8], lesson: Option<&[u8]>) -> 
     let setting = Setting { text, limits: limits(random), tape: &tape };
     let parts = parts(random);
     let budgets: Vec<u32> = parts.iter().map(|part| part.0).collect();
-    let mut results =
-        vec![("frames in parts", setting.are_parts_right(&budgets, parts[0].1)), ("frames at both prices", setting.are_prices_right(&parts))];
+    let mut results = vec![
+        ("frames in parts", setting.are_parts_right(&budgets, parts[0].1)),
+        ("frames at both prices", setting.are_prices_right(&parts)),
+    ];
     if let Some(source) = lesson {
         results.push(("frames beside run", setting.is_run_kept(source, &[&parts[..], &[LAST_PART]].concat())));
         results.push(("frames by steps", setting.are_frames_bounded(source)));

@@ -11,16 +11,15 @@ const NAME_MOST: usize = 255;
 
 /// What an edit may put in: words and marks of the language, and what is none.
 const PIECES: [&str; 65] = [
-    "class", "extends", "public", "static", "void", "main", "String", "return", "if", "else", "while", "System", "out", "println", "length", "new",
-    "this", "true", "false", "int", "boolean", "Port", "get", "put", "&&", "<", "+", "-", "*", "!", "=", ".", ",", ";", "(", ")", "[", "]", "{", "}",
-    "a", "b", "C0", "C1", "Main", "x1", "0", "1", "00", "007", "2147483647", "2147483648", "99999999999999999999", "fixed", "1.500", "1.5", "#", "&",
-    "/", "/*", "*/", "//", "_", "\u{b}", "\u{e4}",
+    "class", "extends", "public", "static", "void", "main", "String", "return", "if", "else", "while", "System", "out", "println", "length", "new", "this", "true", "false", "int",
+    "boolean", "Port", "get", "put", "&&", "<", "+", "-", "*", "!", "=", ".", ",", ";", "(", ")", "[", "]", "{", "}", "a", "b", "C0", "C1", "Main", "x1", "0", "1", "00", "007",
+    "2147483647", "2147483648", "99999999999999999999", "fixed", "1.500", "1.5", "#", "&", "/", "/*", "*/", "//", "_", "\u{b}", "\u{e4}",
 ];
 
 /// Literals of both types, and what comes near to one.
 const LITERALS: [&str; 20] = [
-    "0", "1", "2147483647", "2147483648", "00", "007", "0.000", "1.500", "2147483.647", "2147483.648", "01.500", "00.5", "1.5", "1.5000",
-    "2147483648.5", "1.", "1.length", "1.500.500", "1 .500", "99999999999999999999.999",
+    "0", "1", "2147483647", "2147483648", "00", "007", "0.000", "1.500", "2147483.647", "2147483.648", "01.500", "00.5", "1.5", "1.5000", "2147483648.5", "1.", "1.length",
+    "1.500.500", "1 .500", "99999999999999999999.999",
 ];
 
 const TYPE_WORDS: [&str; 3] = ["int", "boolean", "fixed"];
@@ -162,8 +161,7 @@ fn edit_classes(random: &mut Random, lesson: &[u8]) -> Vec<u8> {
     let parent = random.below(4);
     match random.below(6) {
         0 => [lesson, format!("class C{}{{}}", class).as_bytes()].concat(),
-        1 => [lesson, format!("class N extends C{}{{public int b(int p){{return p;}}public boolean out(){{return true;}}}}", parent).as_bytes()]
-            .concat(),
+        1 => [lesson, format!("class N extends C{}{{public int b(int p){{return p;}}public boolean out(){{return true;}}}}", parent).as_bytes()].concat(),
         2 => [lesson, format!("class N extends N{} {{}}class N2 extends N{}{{}}class N3 extends N2{{}}", 1 + class, parent).as_bytes()].concat(),
         3 => [lesson, format!("class N extends C{}{{public int n(){{return 0;}}public int n(){{return 0;}}}}", parent).as_bytes()].concat(),
         4 => put_in(random, lesson, "println(", "this.b()+"),

@@ -10,11 +10,7 @@ const CALLS_ENTRIES: usize = 2176;
 const WORDS: [u32; 12] = [0, 1, 2, 3, 15, 16, 31, 33, 255, 256, 1 << 31, u32::MAX];
 
 fn word(random: &mut Random) -> u32 {
-    if random.once_in(3) {
-        random.below(64) as u32
-    } else {
-        random.pick(&WORDS)
-    }
+    if random.once_in(3) { random.below(64) as u32 } else { random.pick(&WORDS) }
 }
 
 /// An operand near another, or one that a frame may take: a line, a place, a table and a count.

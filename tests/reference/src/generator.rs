@@ -63,19 +63,14 @@ pub struct Generator<'a> {
 /// Few names, so that fields are hidden, methods redeclared, and names shared by fields, methods, locals and classes.
 const NAMES: [&str; 8] = ["a", "b", "out", "get", "x1", "length_", "println", "put"];
 const LITERALS: [&str; 14] = ["0", "1", "2", "3", "7", "15", "16", "99", "255", "256", "46341", "65536", "2147483647", "1000000007"];
-const FIXED_LITERALS: [&str; 12] =
-    ["0.000", "0.001", "0.002", "0.500", "0.999", "1.000", "1.001", "1.500", "12.600", "46.341", "1465.000", "2147483.647"];
+const FIXED_LITERALS: [&str; 12] = ["0.000", "0.001", "0.002", "0.500", "0.999", "1.000", "1.001", "1.500", "12.600", "46.341", "1465.000", "2147483.647"];
 
 /// The name of every main class.
 pub const MAIN: &str = "Main";
 
 impl Generator<'_> {
     fn ty(&mut self) -> Type {
-        if self.random.once_in(6) {
-            FIXED
-        } else {
-            self.storable()
-        }
+        if self.random.once_in(6) { FIXED } else { self.storable() }
     }
 
     /// A type that the grammar gives arrays of, or such an array.
@@ -90,11 +85,7 @@ impl Generator<'_> {
 
     /// The type of something that is printed, compared or calculated with.
     fn number_type(&mut self) -> Type {
-        if self.random.once_in(4) {
-            FIXED
-        } else {
-            INT
-        }
+        if self.random.once_in(4) { FIXED } else { INT }
     }
 
     fn type_text(&self, ty: Type) -> String {
@@ -122,9 +113,7 @@ impl Generator<'_> {
 
     fn fits(&self, ty: Type, wanted: Type) -> bool {
         match (ty, wanted) {
-            (Type { element: Element::Class(a), is_array: false }, Type { element: Element::Class(b), is_array: false }) => {
-                self.chain(a).contains(&b)
-            }
+            (Type { element: Element::Class(a), is_array: false }, Type { element: Element::Class(b), is_array: false }) => self.chain(a).contains(&b),
             _ => ty == wanted,
         }
     }
@@ -262,11 +251,7 @@ impl Generator<'_> {
         let left = self.expr(scope, ty, depth - 1);
         let right = self.expr(scope, ty, depth - 1);
         let mark = self.random.pick(&["+", "-", "*"]);
-        if self.random.once_in(3) {
-            format!("{}{}({})", left, mark, right)
-        } else {
-            format!("({}){}{}", left, mark, right)
-        }
+        if self.random.once_in(3) { format!("{}{}({})", left, mark, right) } else { format!("({}){}{}", left, mark, right) }
     }
 
     /// Mostly one of the registers that do something.
@@ -274,11 +259,7 @@ impl Generator<'_> {
         if self.random.once_in(12) {
             return self.expr(scope, INT, depth);
         }
-        if self.random.once_in(4) {
-            self.random.below(16).to_string()
-        } else {
-            self.random.below(3).to_string()
-        }
+        if self.random.once_in(4) { self.random.below(16).to_string() } else { self.random.below(3).to_string() }
     }
 
     fn boolean(&mut self, scope: &Scope, depth: usize) -> String {

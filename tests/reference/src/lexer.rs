@@ -10,8 +10,7 @@ const LITERAL_MOST: u64 = 2147483647;
 const FRACTION_DIGITS: usize = 3;
 
 const RESERVED: [&str; 19] = [
-    "boolean", "class", "else", "extends", "false", "if", "int", "length", "main", "new", "public", "return", "static", "String", "System", "this",
-    "true", "void", "while",
+    "boolean", "class", "else", "extends", "false", "if", "int", "length", "main", "new", "public", "return", "static", "String", "System", "this", "true", "void", "while",
 ];
 /// Reserved since requests (viii) and (ix).
 const RESERVED_LATER: [&str; 2] = ["Port", "fixed"];

@@ -1,7 +1,6 @@
 //! An independent implementation of documents 01 and 02, and of docs/FRAMES.md, written from these papers alone, and its comparison with the library.
 //!
 //! `reference compare [SEED [COUNT]]` compares the two on lessons from seeds, valid and damaged, long and short: what each operation answers and what every strip holds afterwards.
-//! `reference lines [SEED [COUNT]]` writes such lessons as lines of cases.
 //! `reference answer` answers lines on standard input as the program `cases` does, and `reference binding` does so through the safe binding in bindings/rust.
 
 mod cases;
@@ -20,7 +19,6 @@ mod generator;
 mod lent;
 mod lexer;
 mod library_frames;
-mod lines;
 mod machine;
 mod operations;
 mod parser;
@@ -50,11 +48,6 @@ fn answers(who: Answerer) -> bool {
     true
 }
 
-fn write_lines(first: u64, count: u64) -> bool {
-    (first..first + count).flat_map(lines::of).for_each(|line| println!("{}", line));
-    true
-}
-
 fn work() -> bool {
     let words: Vec<String> = env::args().skip(1).collect();
     let number = |k: usize, default: u64| words.get(k).map_or(Some(default), |w| w.parse().ok());
@@ -62,11 +55,8 @@ fn work() -> bool {
         (Some("answer"), ..) => answers(Answerer::Reference),
         (Some("binding"), ..) => answers(Answerer::Binding),
         (Some("compare"), Some(seed), Some(count)) => compare::compare(seed, count),
-        (Some("lines"), Some(seed), Some(count)) => write_lines(seed, count),
         _ => {
-            eprintln!(
-                "usage: reference compare [SEED [COUNT]] | reference lines [SEED [COUNT]] | reference answer < CASES | reference binding < CASES"
-            );
+            eprintln!("usage: reference compare [SEED [COUNT]] | reference answer < CASES | reference binding < CASES");
             exit(2);
         }
     }

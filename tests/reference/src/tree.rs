@@ -81,20 +81,13 @@ pub enum ExprKind {
     Truth(bool),
     Name(Name),
     This,
-    NewArray {
-        elements: Elements,
-        size: Box<Expr>,
-    },
+    NewArray { elements: Elements, size: Box<Expr> },
     NewObject(Id),
     Not(Box<Expr>),
     Binary(Operator, Box<Expr>, Box<Expr>),
     Index(Box<Expr>, Box<Expr>),
     Length(Box<Expr>),
-    Call {
-        receiver: Box<Expr>,
-        method: Id,
-        arguments: Vec<Expr>,
-    },
+    Call { receiver: Box<Expr>, method: Id, arguments: Vec<Expr> },
     Get(Box<Expr>),
 }
 

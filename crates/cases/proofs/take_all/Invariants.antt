@@ -5,7 +5,7 @@ use lib.ListN.{length}
 use Rattle.cases.proofs.take_all.Given as goal
 
 abbrev pub invariant-loop-i : goal.invariant-loop-i
-invariant-loop-i l = (length l.line ≡ length l.initial.line) × (length l.table ≡ length l.initial.table)
+invariant-loop-i g l = (length l.line ≡ length l.initial.line) × (length l.table ≡ length l.initial.table)
 
 abbrev pub decreases-loop-i : goal.decreases-loop-i
-decreases-loop-i l = length l.chunk - l.i
+decreases-loop-i g l = length l.chunk - l.i

@@ -1,7 +1,6 @@
 -- `lexer::lex` meets its contract: each turn is a turn of the definition, and the table holds the tokens read so far.
 use native.Mathlib.Omega.{arith}
-use mathlib.Core.Path.{◌≡◌, refl, sym, ◌∙◌}
-use lib.ListN.{length}
+use mathlib.Core.Path.{refl, sym, ◌∙◌}
 use Rattle.lexer.proofs.Lexing.{lexing-start, gap-to, token-to, lexing-gap, lexing-token, unclosed-refused, nothing-refused, token-refused, answers-refused, answers-tokens}
 use Rattle.lexer.proofs.lex.Goals as goal
 
@@ -22,18 +21,18 @@ loop-at-preserved-in-Gap c =
     (lexing-gap c.loop-at-test.true c.loop-at.invariant.0 g, c.loop-at.invariant.1)
 
 pub shape_of-table-in-Unclosed : goal.shape_of-table-in-Unclosed
-shape_of-table-in-Unclosed c = (let it : length c.loop-at.table ≡ length c.args.table.now = omega (arith, c.loop-at.invariant.1, c.clear_buckets.auto.table) in it)
+shape_of-table-in-Unclosed c = omega (arith, c.loop-at.invariant.1, c.clear_buckets.auto.table)
 
 pub returns-in-Unclosed : goal.returns-in-Unclosed
 returns-in-Unclosed c =
-    ((let it : length c.loop-at.table ≡ length c.args.table.now = omega (arith, c.loop-at.invariant.1, c.clear_buckets.auto.table) in it), answers-refused _ c.loop-at.table (unclosed-refused c.loop-at-test.true c.loop-at.invariant.0 (sym c.in-Unclosed.is ∙ c.piece_at.ensures)))
+    (omega (arith, c.loop-at.invariant.1, c.clear_buckets.auto.table), answers-refused _ c.loop-at.table (unclosed-refused c.loop-at-test.true c.loop-at.invariant.0 (sym c.in-Unclosed.is ∙ c.piece_at.ensures)))
 
 pub shape_of-table-in-Nothing : goal.shape_of-table-in-Nothing
-shape_of-table-in-Nothing c = (let it : length c.loop-at.table ≡ length c.args.table.now = omega (arith, c.loop-at.invariant.1, c.clear_buckets.auto.table) in it)
+shape_of-table-in-Nothing c = omega (arith, c.loop-at.invariant.1, c.clear_buckets.auto.table)
 
 pub returns-in-Nothing : goal.returns-in-Nothing
 returns-in-Nothing c =
-    ((let it : length c.loop-at.table ≡ length c.args.table.now = omega (arith, c.loop-at.invariant.1, c.clear_buckets.auto.table) in it), answers-refused _ c.loop-at.table (nothing-refused c.loop-at-test.true c.loop-at.invariant.0 (sym c.in-Nothing.is ∙ c.piece_at.ensures)))
+    (omega (arith, c.loop-at.invariant.1, c.clear_buckets.auto.table), answers-refused _ c.loop-at.table (nothing-refused c.loop-at-test.true c.loop-at.invariant.0 (sym c.in-Nothing.is ∙ c.piece_at.ensures)))
 
 pub add-requires : goal.add-requires
 add-requires c =
@@ -58,16 +57,16 @@ loop-at-preserved c =
     (lexing-token c.loop-at-test.true c.loop-at.invariant.0 g c.add.ensures c.in-Done.is, omega (arith, c.loop-at.invariant.1, c.add.auto.table))
 
 pub shape_of-table-in-Refused : goal.shape_of-table-in-Refused
-shape_of-table-in-Refused c = omega (arith, (let it : length c.loop-at.table ≡ length c.args.table.now = omega (arith, c.loop-at.invariant.1, c.clear_buckets.auto.table) in it), c.add.auto.table)
+shape_of-table-in-Refused c = omega (arith, c.loop-at.invariant.1, c.clear_buckets.auto.table, c.add.auto.table)
 
 pub returns-in-Refused : goal.returns-in-Refused
 returns-in-Refused c =
     let g = token-to c.loop-at-test.true c.loop-at.invariant.0 (sym c.in-Token.is ∙ c.piece_at.ensures) in
     let q = token-refused c.loop-at-test.true c.loop-at.invariant.0 g c.add.ensures c.in-Refused.is in
-    (omega (arith, (let it : length c.loop-at.table ≡ length c.args.table.now = omega (arith, c.loop-at.invariant.1, c.clear_buckets.auto.table) in it), c.add.auto.table), answers-refused _ _ q)
+    (omega (arith, c.loop-at.invariant.1, c.clear_buckets.auto.table, c.add.auto.table), answers-refused _ _ q)
 
 pub shape_of-table : goal.shape_of-table
-shape_of-table c = (let it : length c.loop-at.table ≡ length c.args.table.now = omega (arith, c.loop-at.invariant.1, c.clear_buckets.auto.table) in it)
+shape_of-table c = omega (arith, c.loop-at.invariant.1, c.clear_buckets.auto.table)
 
 pub returns : goal.returns
-returns c = ((let it : length c.loop-at.table ≡ length c.args.table.now = omega (arith, c.loop-at.invariant.1, c.clear_buckets.auto.table) in it), answers-tokens c.loop-at-test.false c.loop-at.invariant.0)
+returns c = (omega (arith, c.loop-at.invariant.1, c.clear_buckets.auto.table), answers-tokens c.loop-at-test.false c.loop-at.invariant.0)

@@ -273,6 +273,11 @@ module _ {G : List Class} (T : All (ClassTyped G) G) (L : All (λ k. All MethodF
     unfolding go
     show-ok p (all2-cons (v-number _) W) numeric-int R = typed H C W R
     show-ok p (all2-cons (v-thousandths _) W) numeric-fixed R = typed H C W R
+    show-ok p (all2-cons v-flag W) n R = elim n [ ]
+    show-ok p (all2-cons v-no-array W) n R = elim n [ ]
+    show-ok p (all2-cons v-no-object W) n R = elim n [ ]
+    show-ok p (all2-cons (v-array _) W) n R = elim n [ ]
+    show-ok p (all2-cons (v-object _ _) W) n R = elim n [ ]
 
     fetch-ok : {us : List Ty} {ts : List Task} {vs : List Value} {s : Element} {t : Ty} (p : Place)
         → All2 (ValueTyped G σ) vs (plain int ∷ array_of s ∷ us) → Sub G (plain s) t → TasksTyped G Γs (t ∷ us) ts

@@ -1,7 +1,7 @@
 -- The judging function and the typing rules agree: each test decides its relation, an expression is given exactly the types that the
 -- rules give it, and a program is accepted exactly where the rules hold of it. What the table must satisfy is that its chains end,
 -- `Acyclic`; a program that is accepted or typed has such a table.
-use Rattle.std.specs.Prelude.{ℕ, ◌≡◌, ◌↔◌, List, [], ◌∷◌, map, true, length}
+use Rattle.std.specs.Prelude.{ℕ, ◌≡◌, ◌↔◌, List, map, true, length}
 use Rattle.std.proofs.Common.{sym, ap, ◌∙◌, subst}
 use Rattle.std.proofs.Math.Option
 use Rattle.std.proofs.Math.Option.{some, map-eq-some_iff}

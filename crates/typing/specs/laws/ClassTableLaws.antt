@@ -7,7 +7,7 @@ use Rattle.std.proofs.Common.{sym, ap, ◌∙◌, subst, append_assoc, append-ni
 use Rattle.std.proofs.Math.Option.{Option, none, some}
 use Rattle.base.specs.All.{All, all_nil}
 use Rattle.base.specs.laws.Lists.{all-at, all_append}
-use Rattle.parser.specs.Tree.{Operator, Numeral, Numeral.int_literal, Numeral.fixed_literal, Expression, Element.class, Ty, Ty.plain, Variable, Method, Class}
+use Rattle.parser.specs.Tree.{Operator, Numeral, Numeral.int_literal, Numeral.fixed_literal, Expression, Element.class, Ty, Variable, Method, Class}
 use Rattle.typesystem.specs.ClassTable.{Slot, Found, Context, context_of, class_named, method_named_lem, chain, numeral_type, underlying, known, layout, fields_of}
 use Rattle.typesystem.specs.TypingRules.{Extends, extends, sub_same, sub_trans, HasMethod, own-method, inherited-method, HasField, own-field, inherited-field, HasName, of-variable, of_field, HasType, Known, Redeclares, MethodTyped, ClassTyped, method_name, class_name}
 use Rattle.typesystem.specs.TypingRules.{t-literal, t-truth, t-variable, t-this, t-new-array, t-new-object, t-negation, t-binary, t-element, t-length, t_call, t-port-get}

@@ -1,8 +1,7 @@
 -- What the table of operators says, line by line: the left operand has the type that the line names, and the result the type beside it.
 use Rattle.std.specs.Prelude.{◌≡◌, refl, List, [], ◌∷◌, true}
 use Rattle.std.proofs.Common.{subst, inl, inr}
-use Rattle.std.proofs.Math.Option.{none, some, some-injective}
-use Rattle.base.specs.Choice.{if◌then◌else◌}
+use Rattle.std.proofs.Math.Option.{some, some-injective}
 use Rattle.base.specs.laws.Tests.{or-either}
 use Rattle.parser.specs.Tree.{Operator, Operator.and, Operator.less, Operator.plus, Operator.minus, Operator.times}
 use Rattle.parser.specs.Tree.{Element.int, Element.boolean, Element.fixed, Ty, Ty.plain}

@@ -5,7 +5,7 @@ use lib.ListN.{length}
 use Rattle.cases.proofs.page.write_signed.Given as goal
 
 abbrev pub invariant-loop-i : goal.invariant-loop-i
-invariant-loop-i l = (length l.page ≡ length l.initial.page) × (l.used ≤ length l.page)
+invariant-loop-i g l = (length l.page ≡ length l.initial.page) × (l.used ≤ length l.page)
 
 abbrev pub decreases-loop-i : goal.decreases-loop-i
-decreases-loop-i l = length l.numbers - l.i
+decreases-loop-i g l = length l.numbers - l.i

@@ -1,5 +1,4 @@
 -- The measure is what is left. Each return is a law of `ClimbLaws`.
-use Prim.Native.Nat.{◌-◌}
 use Rattle.lookup.proofs.ClimbLaws.{count-no-more, count-no-class, count-here, count_next}
 use Rattle.lookup.proofs.chain.+count_visits.Goals as goal
 

@@ -1,5 +1,4 @@
 -- The measure is what is left. Each return is a law of `ClimbLaws`.
-use Prim.Native.Nat.{◌-◌}
 use Rattle.lookup.proofs.chain.+count_visits.Given as goal
 
 abbrev pub decreases-count_visits : goal.decreases-count_visits

@@ -1,5 +1,4 @@
 -- The measure is what is left. Each return is a law of `ClimbLaws`.
-use Prim.Native.Nat.{◌-◌}
 use Rattle.lookup.proofs.ClimbLaws.{find-no-more, find-no-class, find-here, find-next}
 use Rattle.lookup.proofs.chain.+find_method.Goals as goal
 

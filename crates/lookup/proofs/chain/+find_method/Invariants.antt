@@ -1,5 +1,4 @@
 -- The measure is what is left. Each return is a law of `ClimbLaws`.
-use Prim.Native.Nat.{◌-◌}
 use Rattle.lookup.proofs.chain.+find_method.Given as goal
 
 abbrev pub decreases-find_method : goal.decreases-find_method

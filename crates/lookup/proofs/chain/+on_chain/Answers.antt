@@ -1,5 +1,4 @@
 -- The measure is what is left. Each return is a law of `ClimbLaws`.
-use Prim.Native.Nat.{◌-◌}
 use Rattle.lookup.proofs.ClimbLaws.{chain-no-more, chain-no-class, chain-here, chain_next}
 use Rattle.lookup.proofs.chain.+on_chain.Goals as goal
 

@@ -1,5 +1,4 @@
 -- The measure is what is left. Each return is a law of `ClimbLaws`.
-use Prim.Native.Nat.{◌-◌}
 use Rattle.lookup.proofs.chain.+on_chain.Given as goal
 
 abbrev pub decreases-on_chain : goal.decreases-on_chain

@@ -1,5 +1,4 @@
 -- After i turns the first i names have no field, and the words behind are as they were.
-use Prim.Native.Nat.{◌-◌}
 use Rattle.lookup.proofs.FieldLaws.{cleared-none, cleared_more, cleared-all}
 use Rattle.lookup.proofs.fields.clear.Goals as goal
 

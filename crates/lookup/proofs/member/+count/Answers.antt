@@ -1,5 +1,4 @@
 -- The measure is what is left. Each return is a law of `MemberLaws`.
-use Prim.Native.Nat.{◌-◌}
 use Rattle.lookup.proofs.MemberLaws.{count-none-left, count-absent, count_next}
 use Rattle.lookup.proofs.member.+count.Goals as goal
 

@@ -1,5 +1,4 @@
 -- The measure is what is left. Each return is a law of `MemberLaws`.
-use Prim.Native.Nat.{◌-◌}
 use Rattle.lookup.proofs.member.+count.Given as goal
 
 abbrev pub decreases-count : goal.decreases-count

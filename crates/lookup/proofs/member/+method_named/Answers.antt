@@ -1,5 +1,4 @@
 -- The measure is what is left. Each return is a law of `MemberLaws`.
-use Prim.Native.Nat.{◌-◌}
 use Rattle.lookup.proofs.MemberLaws.{method-none-left, method-absent, method-here, method-next}
 use Rattle.lookup.proofs.member.+method_named.Goals as goal
 

@@ -1,5 +1,4 @@
 -- The measure is what is left. Each return is a law of `MemberLaws`.
-use Prim.Native.Nat.{◌-◌}
 use Rattle.lookup.proofs.MemberLaws.{repeated-none, repeated-here, repeated-next}
 use Rattle.lookup.proofs.member.+repeated.Goals as goal
 

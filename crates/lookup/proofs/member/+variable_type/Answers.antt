@@ -1,5 +1,4 @@
 -- The measure is what is left. Each return is a law of `MemberLaws`.
-use Prim.Native.Nat.{◌-◌}
 use Rattle.lookup.proofs.MemberLaws.{variable-none-left, variable-absent, variable-here, variable-next}
 use Rattle.lookup.proofs.member.+variable_type.Goals as goal
 

@@ -9,10 +9,10 @@ use Rattle.parser.proofs.Variables.{parameter-bad, parameter-last, parameter-oth
 use Rattle.parser.proofs.decl.+some_parameters.Goals as goal
 
 pub link-requires : goal.link-requires
-link-requires t c = omega (arith, (let it : (c.args.i + 2 ≤ c.in-At.next) × (c.in-At.next ≤ c.args.n) × (c.in-At.row < c.args.n) = within-ok c.in-At.is c.variable-a.ensures.0.within in it))
+link-requires t c = omega (arith, within-ok c.in-At.is c.variable-a.ensures.0.within)
 
 pub overflow_add-result : goal.overflow_add-result
-overflow_add-result t c = omega (arith, (let it : (c.args.i + 2 ≤ c.in-At.next) × (c.in-At.next ≤ c.args.n) × (c.in-At.row < c.args.n) = within-ok c.in-At.is c.variable-a.ensures.0.within in it))
+overflow_add-result t c = omega (arith, within-ok c.in-At.is c.variable-a.ensures.0.within)
 
 pub returns-then-k-eq-CLOSE : goal.returns-then-k-eq-CLOSE
 returns-then-k-eq-CLOSE t c =
@@ -21,18 +21,18 @@ returns-then-k-eq-CLOSE t c =
     c.if-k-eq-CLOSE.true c.link.ensures
 
 pub overflow_add-next : goal.overflow_add-next
-overflow_add-next t c = omega (arith, (let it : (c.args.i + 2 ≤ c.in-At.next) × (c.in-At.next ≤ c.args.n) × (c.in-At.row < c.args.n) = within-ok c.in-At.is c.variable-a.ensures.0.within in it))
+overflow_add-next t c = omega (arith, within-ok c.in-At.is c.variable-a.ensures.0.within)
 
 pub some_parameters-b-requires : goal.some_parameters-b-requires
 some_parameters-b-requires t c =
     let l = there c.variable-a.new.table
     c.args.n c.in-At.next _ k_comma
     c.kind-k.ensures c.if-k-eq-COMMA.true (lit< tt) in
-    omega (arith, (let it : (c.args.i + 2 ≤ c.in-At.next) × (c.in-At.next ≤ c.args.n) × (c.in-At.row < c.args.n) = within-ok c.in-At.is c.variable-a.ensures.0.within in it))
+    omega (arith, within-ok c.in-At.is c.variable-a.ensures.0.within)
 
 pub linked-requires : goal.linked-requires
 linked-requires t c =
-    let w = (let it : (c.args.i + 2 ≤ c.in-At.next) × (c.in-At.next ≤ c.args.n) × (c.in-At.row < c.args.n) = within-ok c.in-At.is c.variable-a.ensures.0.within in it) in
+    let w : (c.args.i + 2 ≤ c.in-At.next) × (c.in-At.next ≤ c.args.n) × (c.in-At.row < c.args.n) = within-ok c.in-At.is c.variable-a.ensures.0.within in
     (omega arith, omega arith, declared-fits c.some_parameters-b.ensures (omega arith))
 
 pub returns-then-k-eq-COMMA : goal.returns-then-k-eq-COMMA

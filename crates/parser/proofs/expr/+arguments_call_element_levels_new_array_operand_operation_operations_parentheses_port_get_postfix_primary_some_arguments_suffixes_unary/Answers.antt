@@ -1,45 +1,18 @@
 -- The proof of the cycle of calls on expressions. The measure is 16 for each token left, and the rank of the function.
 -- What a return shows is a law of `Expressions` or `Postfix`; what a call or a sum asks is arithmetic, from `there` (a token is there) and `within-ok` (bounds of a callee's answer).
 use borrow.Author.Rules.{rules}
-use Rattle.parser.proofs.Postfix.{arguments-none, arguments-some}
-use Prim.Native.Nat.{◌+◌}
-use Prim.Native.Nat.{◌<◌}
-use Rattle.lexer.specs.Kinds.{k_open}
-use Prim.Native.Nat.{◌+◌}
+use Rattle.parser.proofs.Postfix.{arguments-none, arguments-some, call_ok, call-bad, call-open, call-name, element-ok, element-bad, array_ok, array-bad, array-open, parentheses-ok, parentheses-close, parentheses-bad, get-head, get-ok, atom-there, an-atom, no-primary, argument-bad, argument-last, argument-other, arguments-more, suffix-element, suffix-closed, suffix-length, suffix-none}
+use Prim.Native.Nat.{◌+◌, ◌<◌, ◌≤◌}
+use Rattle.lexer.specs.Kinds.{k_open, k_open_bracket, k_port, k_comma, k_length, k_dot, k_not}
 use native.Mathlib.Omega.{arith}
 use lib.Dec.{lit<}
 use Rattle.parser.proofs.Laws.{there, within-ok}
-use Rattle.parser.proofs.Postfix.{call_ok, call-bad, call-open, call-name}
-use Prim.Native.Nat.{◌+◌, ◌≤◌, ◌<◌}
 use Rattle.base.specs.Codes.{tokens_most}
-use Rattle.lexer.specs.Kinds.{k_open_bracket}
-use mathlib.Core.Path.{refl}
-use Rattle.parser.proofs.Laws.{there}
-use Rattle.parser.proofs.Pieces.{follows-ok}
-use Rattle.parser.proofs.Postfix.{element-ok, element-bad}
-use Rattle.parser.proofs.Laws.{within-ok}
-use Rattle.parser.proofs.Expressions.{levels-more, levels-last, levels-bad}
-use Rattle.parser.proofs.Postfix.{array_ok, array-bad, array-open}
-use Rattle.parser.proofs.Expressions.{operand-next, operand-last}
-use Rattle.parser.proofs.Expressions.{levels-ok, unary-bad}
-use Rattle.parser.proofs.Expressions.{operator-there, operations-ok, operations-bad, operations-none}
-use Rattle.parser.proofs.Postfix.{parentheses-ok, parentheses-close, parentheses-bad}
-use Rattle.lexer.specs.Kinds.{k_port}
+use mathlib.Core.Path.{refl, sym, ◌∙◌}
+use Rattle.parser.proofs.Pieces.{follows-ok, mode-fits, follows-fits, arguments-fit}
+use Rattle.parser.proofs.Expressions.{levels-more, levels-last, levels-bad, operand-next, operand-last, levels-ok, unary-bad, operator-there, operations-ok, operations-bad, operations-none, postfix-ok, postfix-bad, negation-is, to-postfix}
 use Rattle.parser.specs.Parse.{get_head}
-use Rattle.parser.proofs.Pieces.{mode-fits, follows-fits}
 use Rattle.parser.proofs.Heads.{head-there}
-use Rattle.parser.proofs.Postfix.{get-head, get-ok}
-use mathlib.Core.Path.{sym, ◌∙◌}
-use Rattle.parser.proofs.Expressions.{postfix-ok, postfix-bad}
-use Rattle.parser.proofs.Postfix.{atom-there, an-atom, no-primary}
-use Rattle.lexer.specs.Kinds.{k_comma}
-use Rattle.parser.proofs.Pieces.{arguments-fit}
-use Rattle.parser.proofs.Postfix.{argument-bad, argument-last, argument-other, arguments-more}
-use Rattle.lexer.specs.Kinds.{k_length, k_dot}
-use Rattle.parser.proofs.Postfix.{suffix-element, suffix-closed, suffix-length, suffix-none}
-use Rattle.lexer.specs.Kinds.{k_not}
-use Rattle.parser.proofs.Pieces.{mode-fits}
-use Rattle.parser.proofs.Expressions.{negation-is, to-postfix}
 use Rattle.parser.proofs.expr.+arguments_call_element_levels_new_array_operand_operation_operations_parentheses_port_get_postfix_primary_some_arguments_suffixes_unary.Goals as goal
 
 pub arguments-returns-then-kind-eq-CLOSE : goal.arguments-returns-then-kind-eq-CLOSE
@@ -203,7 +176,7 @@ pub parentheses-returns-in-Bad : goal.parentheses-returns-in-Bad
 parentheses-returns-in-Bad t c = search parentheses-bad
 
 pub port_get-member_head-m-requires : goal.port_get-member_head-m-requires
-port_get-member_head-m-requires t c = omega (arith, (let it : c.args.i < c.args.n = there c.args.table.now c.args.n c.args.i _ k_port refl c.requires.1 (lit< tt) in it), c.requires)
+port_get-member_head-m-requires t c = omega (arith, there c.args.table.now c.args.n c.args.i _ k_port refl c.requires.1 (lit< tt), c.requires)
 
 pub port_get-returns-then-m-lt3 : goal.port_get-returns-then-m-lt3
 port_get-returns-then-m-lt3 t c =
@@ -216,7 +189,7 @@ port_get-operation-a-requires t c =
 
 pub port_get-one_part-requires : goal.port_get-one_part-requires
 port_get-one_part-requires t c =
-    let w = (let it : c.args.i < c.args.n = there c.args.table.now c.args.n c.args.i _ k_port refl c.requires.1 (lit< tt) in it) in (
+    let w : c.args.i < c.args.n = there c.args.table.now c.args.n c.args.i _ k_port refl c.requires.1 (lit< tt) in (
       omega arith,
       omega arith,
       follows-fits c.followed-b.ensures
@@ -250,10 +223,10 @@ pub primary-returns : goal.primary-returns
 primary-returns t c = search no-primary
 
 pub some_arguments-link-requires : goal.some_arguments-link-requires
-some_arguments-link-requires t c = omega (arith, (let it : (c.args.i + 1 ≤ c.in-At.next) × (c.in-At.next ≤ c.args.n) × (c.in-At.row < c.args.n) = within-ok c.in-At.is c.operation-a.ensures.within in it))
+some_arguments-link-requires t c = omega (arith, within-ok c.in-At.is c.operation-a.ensures.within)
 
 pub some_arguments-overflow_add-result : goal.some_arguments-overflow_add-result
-some_arguments-overflow_add-result t c = omega (arith, (let it : (c.args.i + 1 ≤ c.in-At.next) × (c.in-At.next ≤ c.args.n) × (c.in-At.row < c.args.n) = within-ok c.in-At.is c.operation-a.ensures.within in it))
+some_arguments-overflow_add-result t c = omega (arith, within-ok c.in-At.is c.operation-a.ensures.within)
 
 pub some_arguments-returns-then-k-eq-CLOSE : goal.some_arguments-returns-then-k-eq-CLOSE
 some_arguments-returns-then-k-eq-CLOSE t c =
@@ -262,18 +235,18 @@ some_arguments-returns-then-k-eq-CLOSE t c =
     c.if-k-eq-CLOSE.true c.link.ensures
 
 pub some_arguments-overflow_add-next : goal.some_arguments-overflow_add-next
-some_arguments-overflow_add-next t c = omega (arith, (let it : (c.args.i + 1 ≤ c.in-At.next) × (c.in-At.next ≤ c.args.n) × (c.in-At.row < c.args.n) = within-ok c.in-At.is c.operation-a.ensures.within in it))
+some_arguments-overflow_add-next t c = omega (arith, within-ok c.in-At.is c.operation-a.ensures.within)
 
 pub some_arguments-some_arguments-b-requires : goal.some_arguments-some_arguments-b-requires
 some_arguments-some_arguments-b-requires t c =
     let l = there c.operation-a.new.table
     c.args.n c.in-At.next _ k_comma
     c.kind-k.ensures c.if-k-eq-COMMA.true (lit< tt) in
-    omega (arith, (let it : (c.args.i + 1 ≤ c.in-At.next) × (c.in-At.next ≤ c.args.n) × (c.in-At.row < c.args.n) = within-ok c.in-At.is c.operation-a.ensures.within in it))
+    omega (arith, within-ok c.in-At.is c.operation-a.ensures.within)
 
 pub some_arguments-linked-requires : goal.some_arguments-linked-requires
 some_arguments-linked-requires t c =
-    let w = (let it : (c.args.i + 1 ≤ c.in-At.next) × (c.in-At.next ≤ c.args.n) × (c.in-At.row < c.args.n) = within-ok c.in-At.is c.operation-a.ensures.within in it) in
+    let w : (c.args.i + 1 ≤ c.in-At.next) × (c.in-At.next ≤ c.args.n) × (c.in-At.row < c.args.n) = within-ok c.in-At.is c.operation-a.ensures.within in
     (omega arith, omega arith, arguments-fit c.some_arguments-b.ensures)
 
 pub some_arguments-returns-then-k-eq-COMMA : goal.some_arguments-returns-then-k-eq-COMMA
@@ -313,11 +286,11 @@ pub suffixes-returns : goal.suffixes-returns
 suffixes-returns t c = search suffix-none
 
 pub unary-unary-a-requires : goal.unary-unary-a-requires
-unary-unary-a-requires t c = omega (arith, (let it : c.args.i < c.args.n = there c.args.table.now c.args.n c.args.i _ k_not c.kind.ensures c.if-kind-eq-NOT.true (lit< tt) in it))
+unary-unary-a-requires t c = omega (arith, there c.args.table.now c.args.n c.args.i _ k_not c.kind.ensures c.if-kind-eq-NOT.true (lit< tt))
 
 pub unary-one_part-requires : goal.unary-one_part-requires
 unary-one_part-requires t c =
-    let w = (let it : c.args.i < c.args.n = there c.args.table.now c.args.n c.args.i _ k_not c.kind.ensures c.if-kind-eq-NOT.true (lit< tt) in it) in
+    let w : c.args.i < c.args.n = there c.args.table.now c.args.n c.args.i _ k_not c.kind.ensures c.if-kind-eq-NOT.true (lit< tt) in
     (omega arith, omega arith, mode-fits c.requires.few c.unary-a.ensures)
 
 pub unary-returns-then-kind-eq-NOT : goal.unary-returns-then-kind-eq-NOT

@@ -1,36 +1,23 @@
 -- The proof of the cycle of calls on statements. The measure is 16 for each token left, and the rank of the function.
 -- What a return shows is a law of `Statements`; what a call asks is arithmetic, from `there` (a token is there) and `within-ok` and `follows-ok` (bounds of a callee's answer).
-use Prim.Native.Nat.{◌+◌}
-use Prim.Native.Nat.{◌<◌}
-use Rattle.lexer.specs.Kinds.{k_open_brace}
-use mathlib.Core.Path.{refl}
+use Prim.Native.Nat.{◌+◌, ◌<◌, ◌≤◌}
+use Rattle.lexer.specs.Kinds.{k_open_brace, is_name_lem}
+use mathlib.Core.Path.{refl, sym, ap, ◌∙◌}
 use borrow.Author.Rules.{rules}
 use native.Mathlib.Omega.{arith}
 use lib.Dec.{lit<}
-use Rattle.parser.proofs.Laws.{there}
-use Rattle.parser.proofs.Statements.{block-is}
-use Rattle.parser.proofs.Pieces.{list-fits, follows-fits}
-use Prim.Native.Nat.{◌+◌, ◌≤◌, ◌<◌}
+use Rattle.parser.proofs.Laws.{there, within-ok}
+use Rattle.parser.proofs.Statements.{block-is, yes-bad, no-bad, branches-ok, after_test, conditional-bad, conditional-ok, list-end, list-bad, list-more, no-statement, while-bad, while-ok}
+use Rattle.parser.proofs.Pieces.{list-fits, follows-fits, follows-ok, mode-fits}
 use Rattle.base.specs.Codes.{tokens_most}
-use Rattle.parser.proofs.Laws.{within-ok}
-use Rattle.parser.proofs.Statements.{yes-bad, no-bad, branches-ok}
-use Rattle.parser.proofs.Pieces.{follows-ok}
-use Rattle.parser.proofs.Statements.{after_test, conditional-bad, conditional-ok}
-use Rattle.parser.proofs.Statements.{list-end, list-bad, list-more}
-use Rattle.parser.proofs.Pieces.{list-fits}
-use mathlib.Core.Path.{sym, ap, ◌∙◌}
-use Rattle.lexer.specs.Kinds.{is_name_lem}
-use Rattle.parser.proofs.Statements.{no-statement}
-use Rattle.parser.proofs.Statements.{after_test, while-bad, while-ok}
-use Rattle.parser.proofs.Pieces.{mode-fits}
 use Rattle.parser.proofs.stmt.+block_branches_conditional_list_single_while_loop.Goals as goal
 
 pub block-list-a-requires : goal.block-list-a-requires
-block-list-a-requires t c = omega (arith, (let it : c.args.i < c.args.n = there c.args.table.now c.args.n c.args.i _ k_open_brace refl c.requires.1 (lit< tt) in it), c.requires)
+block-list-a-requires t c = omega (arith, there c.args.table.now c.args.n c.args.i _ k_open_brace refl c.requires.1 (lit< tt), c.requires)
 
 pub block-one_part-requires : goal.block-one_part-requires
 block-one_part-requires t c =
-    let w = (let it : c.args.i < c.args.n = there c.args.table.now c.args.n c.args.i _ k_open_brace refl c.requires.1 (lit< tt) in it) in (
+    let w : c.args.i < c.args.n = there c.args.table.now c.args.n c.args.i _ k_open_brace refl c.requires.1 (lit< tt) in (
       omega arith,
       omega arith,
       follows-fits c.followed-b.ensures

@@ -12,7 +12,7 @@ use Rattle.parser.proofs.Statements.{put-head, register-bad, put-ok}
 use Rattle.parser.proofs.stmt.port_put.Goals as goal
 
 pub member_head-m-requires : goal.member_head-m-requires
-member_head-m-requires c = omega (arith, (let it : c.args.i < c.args.n = there c.args.table.now c.args.n c.args.i _ k_port refl c.requires.1 (lit< tt) in it), c.requires.0)
+member_head-m-requires c = omega (arith, there c.args.table.now c.args.n c.args.i _ k_port refl c.requires.1 (lit< tt), c.requires.0)
 
 pub returns-then-m-lt3 : goal.returns-then-m-lt3
 returns-then-m-lt3 c =
@@ -30,7 +30,7 @@ operation-c-requires c =
 
 pub two_parts-requires : goal.two_parts-requires
 two_parts-requires c =
-    let w = (let it : c.args.i < c.args.n = there c.args.table.now c.args.n c.args.i _ k_port refl c.requires.1 (lit< tt) in it) in
+    let w : c.args.i < c.args.n = there c.args.table.now c.args.n c.args.i _ k_port refl c.requires.1 (lit< tt) in
     let w₂ = within-ok c.in-At.is (follows-within _ _ _ c.followed-b.ensures (lit< tt) c.operation-a.ensures.within) in (
       omega arith,
       omega arith,

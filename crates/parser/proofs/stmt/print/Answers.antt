@@ -12,7 +12,7 @@ use Rattle.parser.proofs.Pieces.{mode-fits, follows-fits}
 use Rattle.parser.proofs.stmt.print.Goals as goal
 
 pub matched-m-requires : goal.matched-m-requires
-matched-m-requires c = omega (arith, (let it : c.args.i < c.args.n = there c.args.table.now c.args.n c.args.i _ k_system refl c.requires.1 (lit< tt) in it), c.requires.0)
+matched-m-requires c = omega (arith, there c.args.table.now c.args.n c.args.i _ k_system refl c.requires.1 (lit< tt), c.requires.0)
 
 pub returns-then-m-lt5 : goal.returns-then-m-lt5
 returns-then-m-lt5 c = search print-head
@@ -25,7 +25,7 @@ operation-a-requires c =
 
 pub one_part-requires : goal.one_part-requires
 one_part-requires c =
-    let w = (let it : c.args.i < c.args.n = there c.args.table.now c.args.n c.args.i _ k_system refl c.requires.1 (lit< tt) in it) in (
+    let w : c.args.i < c.args.n = there c.args.table.now c.args.n c.args.i _ k_system refl c.requires.1 (lit< tt) in (
       omega arith,
       omega arith,
       follows-fits c.followed-c.ensures
