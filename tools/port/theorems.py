@@ -19,6 +19,8 @@ MOVED = {
     "printing": ["laws", "Tidy"],
     "menu": ["laws", "Order"],
 }
+# A file beside a module of src/ that differs from it in case alone has another name there.
+RENAMED = {("menu", "Order"): "Ordered"}
 
 
 def read(path):
@@ -37,14 +39,15 @@ for crate, modules in MOVED.items():
         if not os.path.isfile(f"{specs}/{module}.antt"):
             continue
         os.makedirs(proofs, exist_ok=True)
-        shutil.move(f"{specs}/{module}.antt", f"{proofs}/{module}.antt")
+        name = RENAMED.get((crate, module), module)
+        shutil.move(f"{specs}/{module}.antt", f"{proofs}/{name}.antt")
         if os.path.isdir(f"{specs}/{module}"):
             shutil.move(f"{specs}/{module}", f"{proofs}/{module}")
         write(f"{specs}/Lib.antt", re.sub(rf"(?m)^pub mod {module}\n?", "", read(f"{specs}/Lib.antt")))
         root = read(f"{proofs}/Lib.antt") if os.path.isfile(f"{proofs}/Lib.antt") else "-- Theorems, and the laws that they rest on.\n"
-        write(f"{proofs}/Lib.antt", root.rstrip("\n") + f"\npub mod {module}\n")
+        write(f"{proofs}/Lib.antt", root.rstrip("\n") + f"\npub mod {name}\n")
 
-PATHS = [(re.compile(rf"\bRattle\.{crate}\.specs\.{module}(?=[.\s;])"), f"Rattle.{crate}.proofs.{module}") for crate, modules in MOVED.items() for module in modules]
+PATHS = [(re.compile(rf"\bRattle\.{crate}\.specs\.{module}(?=[.\s;])"), f"Rattle.{crate}.proofs.{RENAMED.get((crate, module), module)}") for crate, modules in MOVED.items() for module in modules]
 for folder, dirs, names in os.walk("crates"):
     dirs[:] = [d for d in dirs if d != "out"]
     for name in names:
@@ -57,6 +60,6 @@ for folder, dirs, names in os.walk("crates"):
         if name.endswith(".edit"):
             crate = path.split(os.sep)[1]
             for module in MOVED.get(crate, ()):
-                turned = re.sub(rf"(?m)^file: specs/{module}(?=[./])", f"file: proofs/{module}", turned)
+                turned = re.sub(rf"(?m)^file: specs/{module}(?=[./])", f"file: proofs/{RENAMED.get((crate, module), module)}", turned)
         if turned != text:
             write(path, turned)

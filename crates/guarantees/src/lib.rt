@@ -1,2 +1,2 @@
-// Theorems only, in specs/: what holds of every source, in the terms of document 01.
+// Theorems only, in proofs/: what holds of every source, in the terms of document 01.
 #![tactic(auto)]

@@ -3,4 +3,4 @@ pub mod LeastLaws
 pub mod OrderLaws
 pub mod MenuLaws
 pub mod laws
-pub mod Order
+pub mod Ordered
