@@ -1,7 +1,7 @@
 -- What making the index returns meets the contracts. Clearing and entering write only to `c_class` of rows that are no `if` token's, so
 -- the tokens and the tree stay; names have one number just where they are equal, so a name is in the index just where a class of that
 -- name was entered.
-use Prim.Native.Nat.{ℕ, zero, suc, ◌+◌, ◌-◌, ◌*◌, ◌≤◌, ◌<◌}
+use Prim.Native.Nat.{ℕ, zero, suc, ◌+◌, ◌-◌, ◌≤◌, ◌<◌}
 use native.Mathlib.Omega.{arith}
 use native.Mathlib.Decide.{ℕ_discrete}
 use mathlib.Core.Path.{◌≡◌, refl, sym, ap, ◌∙◌, subst}

@@ -7,7 +7,7 @@ use native.Mathlib.Omega.{arith}
 use lib.ListN.{length}
 use Rattle.lexer.specs.Tokens.{Token}
 use Rattle.parser.specs.Measure.{nodes}
-use Rattle.parser.specs.Tree.{Sort.statement, Variable, Method, Class, Program}
+use Rattle.parser.specs.Tree.{Variable, Method, Class, Program}
 use Rattle.parser.specs.promises.Layout.{row_of, main_row}
 use Rattle.parser.specs.Grammar.{DerivesMethod, DerivesMethods, DerivesClass, DerivesClasses, DerivesProgram}
 use Rattle.parser.specs.Grammar.{DerivesMethod.a-method, DerivesMethods.no-method, DerivesMethods.more-methods, DerivesClass.a-class-declaration, DerivesClasses.no-class, DerivesClasses.more-classes, DerivesProgram.a_program}

@@ -1,7 +1,6 @@
 -- The cycle of calls on expressions. The measure is 8 for each token of the range, and the rank of the function. Each return is a law of
 -- `ExpressionLaws`.
 use borrow.Author.Rules.{rules}
-use Prim.Native.Nat.{◌-◌}
 use Rattle.bodies.proofs.ExpressionLaws.{arguments-end, arguments-next, arguments-refused, operand_low, operand-high}
 use Rattle.bodies.proofs.ExpressionLaws.{of-binary, of-call, left-refused, binary-right, binary-wrong, call-object, call-plain}
 use Rattle.bodies.proofs.ExpressionLaws.{creation-array, creation-object, dotted-call, dotted-length, element-first}

@@ -1,5 +1,4 @@
 -- The measure is what is left. Each return is a law of `ExpressionLaws`.
-use Prim.Native.Nat.{◌-◌}
 use Rattle.bodies.proofs.ExpressionLaws.{count_none, count-ends, count-short, count_next}
 use Rattle.bodies.proofs.expr.+same_count.Goals as goal
 

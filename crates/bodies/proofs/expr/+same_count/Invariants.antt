@@ -1,5 +1,4 @@
 -- The measure is what is left. Each return is a law of `ExpressionLaws`.
-use Prim.Native.Nat.{◌-◌}
 use Rattle.bodies.proofs.expr.+same_count.Given as goal
 
 abbrev pub decreases-same_count : goal.decreases-same_count

@@ -1,6 +1,5 @@
 -- The cycle of calls on statements. The measure is 4 for each token of the range, and the rank of the function. Each return is a law of
 -- `StatementLaws`.
-use Prim.Native.Nat.{◌-◌}
 use Rattle.bodies.proofs.StatementLaws.{branches-first, branches-second, conditional-branches, conditional-refused}
 use Rattle.bodies.proofs.StatementLaws.{statement-low, statement-high, list-end, list-next, list-refused, loop-body, loop-refused}
 use Rattle.bodies.proofs.StatementLaws.{statement-assignment, statement-before, statement-behind, statement-block}

@@ -1,6 +1,5 @@
 -- The measure is what is left. Each return is a law of `ClassLaws`.
 use borrow.Author.Rules.{rules}
-use Prim.Native.Nat.{◌-◌}
 use Rattle.declarations.proofs.ClassLaws.{declarations-none-left, declarations-absent, declarations-next, declarations-stop}
 use Rattle.declarations.proofs.classes.+declarations.Goals as goal
 

@@ -1,5 +1,4 @@
 -- The measure is what is left. Each return is a law of `ClassLaws`.
-use Prim.Native.Nat.{◌-◌}
 use Rattle.declarations.proofs.classes.+declarations.Given as goal
 
 abbrev pub decreases-declarations : goal.decreases-declarations

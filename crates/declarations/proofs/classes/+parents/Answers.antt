@@ -1,5 +1,4 @@
 -- The measure is what is left. Each return is a law of `ClassLaws`.
-use Prim.Native.Nat.{◌-◌}
 use Rattle.declarations.proofs.ClassLaws.{parents-none-left, parents-absent, parents-orphan, parents-next}
 use Rattle.declarations.proofs.classes.+parents.Goals as goal
 

@@ -1,6 +1,5 @@
 -- The measure is what is left. Each return is a law of `HeadLaws`.
 use borrow.Author.Rules.{rules}
-use Prim.Native.Nat.{◌-◌}
 use Rattle.declarations.proofs.HeadLaws.{heads-none-left, heads-absent, heads-next, heads-stop}
 use Rattle.declarations.proofs.heads.+heads.Goals as goal
 

@@ -1,5 +1,4 @@
 -- The measure is what is left. Each return is a law of `HeadLaws`.
-use Prim.Native.Nat.{◌-◌}
 use Rattle.declarations.proofs.heads.+heads.Given as goal
 
 abbrev pub decreases-heads : goal.decreases-heads

@@ -1,5 +1,4 @@
 -- The measure is what is left. Each return is a law of `HeadLaws`.
-use Prim.Native.Nat.{◌-◌}
 use Rattle.declarations.proofs.HeadLaws.{types-none-left, types-first-ends, types-second-ends, types-next, types-differ}
 use Rattle.declarations.proofs.heads.+same_types.Goals as goal
 

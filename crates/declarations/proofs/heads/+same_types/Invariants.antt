@@ -1,5 +1,4 @@
 -- The measure is what is left. Each return is a law of `HeadLaws`.
-use Prim.Native.Nat.{◌-◌}
 use Rattle.declarations.proofs.heads.+same_types.Given as goal
 
 abbrev pub decreases-same_types : goal.decreases-same_types

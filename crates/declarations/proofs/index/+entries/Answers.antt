@@ -1,5 +1,4 @@
 -- The measure is what is left. Each return is a law of `IndexLaws`.
-use Prim.Native.Nat.{◌-◌}
 use Rattle.declarations.proofs.IndexLaws.{entries-none-left, entries-absent, entries-main, entries_twice, entries_next}
 use Rattle.declarations.proofs.index.+entries.Goals as goal
 

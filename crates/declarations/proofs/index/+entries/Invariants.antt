@@ -1,5 +1,4 @@
 -- The measure is what is left. Each return is a law of `IndexLaws`.
-use Prim.Native.Nat.{◌-◌}
 use Rattle.declarations.proofs.index.+entries.Given as goal
 
 abbrev pub decreases-entries : goal.decreases-entries

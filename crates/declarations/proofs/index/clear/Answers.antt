@@ -1,6 +1,5 @@
 -- `clear` meets its contract: after i turns the first i rows are cleared.
 use Rattle.declarations.proofs.IndexLaws.{clear_none, clear-more, clear-all}
-use Prim.Native.Nat.{◌-◌}
 use Rattle.declarations.proofs.index.clear.Goals as goal
 
 pub loop-i-init : goal.loop-i-init

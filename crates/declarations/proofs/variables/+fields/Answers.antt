@@ -1,5 +1,4 @@
 -- The measure is what is left. Each return is a law of `VariableLaws`.
-use Prim.Native.Nat.{◌-◌}
 use Rattle.declarations.proofs.VariableLaws.{fields-none-left, fields-absent, fields-repeated, fields-next, fields-unknown}
 use Rattle.declarations.proofs.variables.+fields.Goals as goal
 

@@ -1,5 +1,4 @@
 -- The measure is what is left. Each return is a law of `VariableLaws`.
-use Prim.Native.Nat.{◌-◌}
 use Rattle.declarations.proofs.variables.+fields.Given as goal
 
 abbrev pub decreases-fields : goal.decreases-fields

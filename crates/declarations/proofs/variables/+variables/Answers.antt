@@ -1,5 +1,4 @@
 -- The measure is what is left. Each return is a law of `VariableLaws`.
-use Prim.Native.Nat.{◌-◌}
 use Rattle.declarations.proofs.VariableLaws.{variables-none-left, variables-absent, variables-next, variables-stop}
 use Rattle.declarations.proofs.variables.+variables.Goals as goal
 

@@ -7,4 +7,4 @@ pub returns-then-table-lt-TABLE_LEAST : goal.returns-then-table-lt-TABLE_LEAST
 returns-then-table-lt-TABLE_LEAST c = search menu-short
 
 pub returns : goal.returns
-returns c = menu-answer c.args.source.now c.args.table.now c.args.strip.now c.if-table-lt-TABLE_LEAST.false c.answer-a.new.1.0 c.answer-a.ensures (omega arith) c.zero_words.ensures
+returns c = menu-answer c.args.source.now c.args.table.now c.args.strip.now c.if-table-lt-TABLE_LEAST.false c.answer-a.new.table c.answer-a.ensures (omega arith) c.zero_words.ensures
