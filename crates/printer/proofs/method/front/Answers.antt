@@ -2,6 +2,5 @@
 use Rattle.printer.specs.laws.MethodLaws.{front-put}
 use Rattle.printer.proofs.method.front.Goals as goal
 
--- src/method.rt:38:1
 pub returns : goal.returns
 returns c = search front-put

@@ -2,6 +2,5 @@
 use Rattle.printer.specs.laws.MethodLaws.{head-put}
 use Rattle.printer.proofs.method.head.Goals as goal
 
--- src/method.rt:19:1
 pub returns : goal.returns
 returns c = search head-put

@@ -2,6 +2,5 @@
 use Rattle.printer.specs.laws.MethodLaws.{method-put}
 use Rattle.printer.proofs.method.method.Goals as goal
 
--- src/method.rt:101:1
 pub returns : goal.returns
 returns c = search method-put

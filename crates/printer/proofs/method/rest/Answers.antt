@@ -2,6 +2,5 @@
 use Rattle.printer.specs.laws.MethodLaws.{rest_put}
 use Rattle.printer.proofs.method.rest.Goals as goal
 
--- src/method.rt:69:1
 pub returns : goal.returns
 returns c = search rest_put

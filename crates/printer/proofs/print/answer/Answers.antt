@@ -3,14 +3,11 @@ use borrow.Author.Rules.{rules}
 use Rattle.printer.specs.laws.PrintLaws.{few-tokens, answer-found, answer-unfit}
 use Rattle.printer.proofs.print.answer.Goals as goal
 
--- src/print.rt:56:47
 pub write-requires : goal.write-requires
 write-requires c = (search rules, search few-tokens)
 
--- src/print.rt:50:1
 pub returns-in-Program : goal.returns-in-Program
 returns-in-Program c = search answer-found
 
--- src/print.rt:50:1
 pub returns-in-Refused : goal.returns-in-Refused
 returns-in-Refused c = search answer-unfit

@@ -2,10 +2,8 @@
 use Rattle.printer.specs.laws.PrintLaws.{print-short, print-answer}
 use Rattle.printer.proofs.print.print.Goals as goal
 
--- src/print.rt:71:9
 pub returns-then-table-lt-TABLE_LEAST : goal.returns-then-table-lt-TABLE_LEAST
 returns-then-table-lt-TABLE_LEAST c = search print-short
 
--- src/print.rt:66:1
 pub returns : goal.returns
 returns c = search print-answer

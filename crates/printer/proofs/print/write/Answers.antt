@@ -2,10 +2,8 @@
 use Rattle.printer.specs.laws.PrintLaws.{write-short, write-long}
 use Rattle.printer.proofs.print.write.Goals as goal
 
--- src/print.rt:35:9
 pub returns-then-strip-size : goal.returns-then-strip-size
 returns-then-strip-size c = search write-short
 
--- src/print.rt:27:1
 pub returns : goal.returns
 returns c = search write-long

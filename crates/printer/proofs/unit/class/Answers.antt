@@ -2,6 +2,5 @@
 use Rattle.printer.specs.laws.UnitLaws.{class-put}
 use Rattle.printer.proofs.unit.class.Goals as goal
 
--- src/unit.rt:94:1
 pub returns : goal.returns
 returns c = search class-put

@@ -2,10 +2,8 @@
 use Rattle.printer.specs.laws.UnitLaws.{no-parent, a-parent}
 use Rattle.printer.proofs.unit.extended.Goals as goal
 
--- src/unit.rt:36:9
 pub returns-then-parent-ge-ABSENT : goal.returns-then-parent-ge-ABSENT
 returns-then-parent-ge-ABSENT c = search no-parent
 
--- src/unit.rt:23:1
 pub returns : goal.returns
 returns c = search a-parent

@@ -2,6 +2,5 @@
 use Rattle.printer.specs.laws.UnitLaws.{main-head-put}
 use Rattle.printer.proofs.unit.main_head.Goals as goal
 
--- src/unit.rt:182:1
 pub returns : goal.returns
 returns c = search main-head-put

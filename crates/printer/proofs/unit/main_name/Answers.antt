@@ -2,6 +2,5 @@
 use Rattle.printer.specs.laws.UnitLaws.{main-name-put}
 use Rattle.printer.proofs.unit.main_name.Goals as goal
 
--- src/unit.rt:149:1
 pub returns : goal.returns
 returns c = search main-name-put

@@ -2,6 +2,5 @@
 use Rattle.printer.specs.laws.UnitLaws.{main-parameter-put}
 use Rattle.printer.proofs.unit.main_parameter.Goals as goal
 
--- src/unit.rt:166:1
 pub returns : goal.returns
 returns c = search main-parameter-put

@@ -2,6 +2,5 @@
 use Rattle.printer.specs.laws.UnitLaws.{program-put}
 use Rattle.printer.proofs.unit.program.Goals as goal
 
--- src/unit.rt:197:1
 pub returns : goal.returns
 returns c = search program-put
