@@ -15,7 +15,7 @@ returns-then-s-gt0 t c =
 pub perform-r-requires : goal.perform-r-requires
 perform-r-requires t c =
     let some = accepted-some c.args.source.now _ c.find-f.ensures c.in-Program.is in
-    (omega (arith, some, d.requires.0), (search rules, search rules, search rules, search rules, now-known _ _ c.find-f.ensures c.in-Program.is, search rules))
+    (omega (arith, some, c.decreases), (search rules, search rules, search rules, search rules, now-known _ _ c.find-f.ensures c.in-Program.is, search rules))
 
 pub returns-in-Program : goal.returns-in-Program
 returns-in-Program t c =
