@@ -3,7 +3,7 @@
 -- feed after each."
 use Rattle.std.specs.Prelude.{ℕ, ◌+◌, ◌-◌, ◌≡◌, List, [], ◌∷◌, ◌++◌, map, length, take, drop, ltb}
 use Rattle.base.specs.Choice.{if◌then◌otherwise◌}
-use Rattle.base.specs.Codes.{success, table_too_short, table_least, library_refused, joined_too_long}
+use Rattle.base.specs.Codes.{table_too_short, table_least, library_refused, joined_too_long}
 use Rattle.base.specs.Outcome.{Outcome, accepted, refused, ◌>>=◌}
 use Rattle.base.specs.Write.{WriteAnswer, WriteResult, write_refusal, write_result}
 use Rattle.lexer.specs.Bytes.{b_line_feed}

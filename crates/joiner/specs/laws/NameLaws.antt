@@ -1,5 +1,5 @@
 -- A name is its bytes from its position on, so the lesson's names can be kept as positions, and compared byte by byte.
-use Prim.Native.Nat.{ℕ, zero, suc, ◌+◌, ◌-◌, ◌≤◌, ◌<◌}
+use Prim.Native.Nat.{ℕ, zero, suc, ◌+◌, ◌≤◌, ◌<◌}
 use native.Mathlib.Omega.{arith}
 use Rattle.std.proofs.Math.Decide.{dec_lt}
 use Rattle.std.proofs.Common.{add-one, ◌∙◌, subst, true≢false, drop_of_length-le, drop-cons, lt-ltb, le-ltb, ne_eqb}
@@ -15,7 +15,7 @@ use Rattle.base.specs.promises.Table.{col, c_start}
 use Rattle.base.specs.laws.Lists.{get-get_d}
 use Rattle.base.specs.Outcome.{accepted}
 use Rattle.lexer.specs.Bytes.{is_letter, is_digit_lem, is_name_part_lem}
-use Rattle.lexer.specs.Tokens.{Token, token, longest_run, tokens}
+use Rattle.lexer.specs.Tokens.{Token, longest_run, tokens}
 use Rattle.lexer.proofs.laws.RowLaws.{TokenOf, token-of}
 use Rattle.parser.specs.Tree.{Name, Class, Program}
 use Rattle.parser.specs.Stream.{no_more, token_at, name_at}

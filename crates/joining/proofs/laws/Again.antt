@@ -6,14 +6,13 @@ use Rattle.std.proofs.lemmas.List.{map-append}
 use Rattle.base.specs.All.{All, all_nil, all_cons}
 use Rattle.base.specs.Bytes.{same}
 use Rattle.base.specs.Choice.{if◌then◌otherwise◌}
-use Rattle.base.specs.laws.Lists.{All2, all2-nil, all2-cons}
+use Rattle.base.specs.laws.Lists.{All2, all2-cons}
 use Rattle.base.specs.laws.Tests.{same_refl}
-use Rattle.lexer.specs.Bytes.{b_line_feed}
 use Rattle.lexer.specs.Tokens.{Token}
 use Rattle.parser.specs.Tree.{Class, Program}
 use Rattle.typesystem.specs.ClassTable.{occurs}
 use Rattle.appended.specs.More.{with_more}
-use Rattle.joining.specs.Join.{names_of, kept_classes, class_text, kept_text}
+use Rattle.joining.specs.Join.{names_of, kept_classes, kept_text}
 use Rattle.joining.specs.Copy.{Copy, copy}
 
 -- the names of classes

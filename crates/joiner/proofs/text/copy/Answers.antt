@@ -1,5 +1,4 @@
 -- `copy` meets its contract: after i turns the first i bytes were written.
-use Prim.Native.Nat.{◌-◌}
 use native.Mathlib.Omega.{arith}
 use Rattle.joiner.proofs.Writing.{copied_none, copied_more, copied_all}
 use Rattle.joiner.proofs.text.copy.Goals as goal
