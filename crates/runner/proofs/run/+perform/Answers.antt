@@ -1,5 +1,4 @@
 -- The measure is 1 before the lesson is checked. What was found of it is known at the call of itself; each return is a law of `RunLaws`.
-use Prim.Native.Nat.{◌-◌}
 use native.Mathlib.Omega.{arith}
 use borrow.Author.Rules.{rules}
 use Rattle.runner.proofs.RunLaws.{accepted-few, accepted-some, performed, checked, unperformed, now-known}
