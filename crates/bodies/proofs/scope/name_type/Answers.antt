@@ -13,7 +13,7 @@ pub returns-then-x-ge-ABSENT : goal.returns-then-x-ge-ABSENT
 returns-then-x-ge-ABSENT c = search name-past
 
 pub overflow_cast-result : goal.overflow_cast-result
-overflow_cast-result c = omega (arith, c.shared_slice_known-3-1.given c.args.x)
+overflow_cast-result c = omega arith
 
 pub returns : goal.returns
 returns c = search name-field

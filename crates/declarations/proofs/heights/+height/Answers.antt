@@ -11,7 +11,7 @@ pub returns-then-c-ge-ABSENT : goal.returns-then-c-ge-ABSENT
 returns-then-c-ge-ABSENT t c = search height-past
 
 pub overflow_cast-h : goal.overflow_cast-h
-overflow_cast-h t c = omega (arith, c.slice_known-2-1.given c.args.c)
+overflow_cast-h t c = omega arith
 
 pub returns-then-left-h : goal.returns-then-left-h
 returns-then-left-h t c = search height-higher
