@@ -29,7 +29,6 @@ use Rattle.guarantees.proofs.laws.Literals.{small, literals-fit}
 use Rattle.interpreter.specs.declared.state.Bounds.{Bounds}
 use Rattle.interpreter.specs.declared.report.Ended.{Ended}
 use Rattle.interpreter.specs.promises.Running.{Runnable, Roomy, end_answer_of, Executed}
-use Rattle.runner.specs.declared.run.RunAnswer.{RunAnswer}
 use Rattle.runner.specs.promises.RunPost.{strips, ResultStrips, result_strips, Completes, CompletesInRoom, Performs, LeftByCheck, Performed}
 
 -- CHECK'S PROMISE

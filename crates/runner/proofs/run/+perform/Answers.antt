@@ -1,5 +1,4 @@
 -- The measure is 1 before the lesson is checked. What was found of it is known at the call of itself; each return is a law of `RunLaws`.
-use Prim.Native.Nat.{◌-◌}
 use native.Mathlib.Omega.{arith}
 use borrow.Author.Rules.{rules}
 use Rattle.runner.proofs.RunLaws.{accepted-few, accepted-some, performed, checked, unperformed, now-known}
@@ -15,7 +14,7 @@ returns-then-s-gt0 t c =
 pub perform-r-requires : goal.perform-r-requires
 perform-r-requires t c =
     let some = accepted-some c.args.source.now _ c.find-f.ensures c.in-Program.is in
-    (omega (arith, some, d.requires.0), (search rules, search rules, search rules, search rules, now-known _ _ c.find-f.ensures c.in-Program.is, search rules))
+    (omega (arith, some, c.decreases), (search rules, search rules, search rules, search rules, now-known _ _ c.find-f.ensures c.in-Program.is, search rules))
 
 pub returns-in-Program : goal.returns-in-Program
 returns-in-Program t c =

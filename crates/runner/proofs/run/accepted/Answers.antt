@@ -3,8 +3,4 @@ use Rattle.runner.proofs.RunLaws.{small-fits}
 use Rattle.runner.proofs.run.accepted.Goals as goal
 
 pub returns : goal.returns
-returns c =
-    let run : tie.After-compiled = c.before.before.before.before.before.before.before in
-    let small : tie.Else1 = run.before.before.before.before.before.before.before in
-    let start : tie.Start = small.before.before.before.before.before in
-    small-fits small.if1.false start.requires.4 run.compiled.ensures
+returns c = small-fits c.if-s-gt-SMALL.false c.requires.4 c.compiled.ensures

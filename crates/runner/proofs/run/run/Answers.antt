@@ -23,5 +23,5 @@ perform-requires c = search (rules, nothing_known)
 
 pub returns : goal.returns
 returns c =
-    runs _ _ _ _ _ _ _ _ c.if-table-lt-TABLE_LEAST.true c.if-calls-eq0.true c.if-calls-gt-CALLS_MOST.true c.if-heap-gt-HEAP_MOST.true _ _ _ c.if-registers-ne-REGISTERS.true
+    runs _ _ _ _ _ _ _ _ c.if-table-lt-TABLE_LEAST.false c.if-calls-eq0.false c.if-calls-gt-CALLS_MOST.false c.if-heap-gt-HEAP_MOST.false _ _ _ c.if-registers-ne-REGISTERS.false
     c.perform.ensures

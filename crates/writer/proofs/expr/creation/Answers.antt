@@ -7,10 +7,10 @@ use Rattle.writer.specs.promises.Sizing.{sizes_from}
 use Rattle.writer.proofs.expr.creation.Goals as goal
 
 pub overflow_cast-size : goal.overflow_cast-size
-overflow_cast-size c = omega (arith, c.shared_slice_known-then-x-lt-ABSENT-1.given (sizes_from + c.word-x.result))
+overflow_cast-size c = omega (arith, c.type_inv.names (sizes_from + c.word-x.result))
 
 pub put-requires : goal.put-requires
-put-requires c = omega (arith, c.shared_slice_known-then-x-lt-ABSENT-1.given (sizes_from + c.word-x.result))
+put-requires c = omega (arith, c.type_inv.names (sizes_from + c.word-x.result))
 
 pub returns-then-x-lt-ABSENT : goal.returns-then-x-lt-ABSENT
 returns-then-x-lt-ABSENT c = creation-wrote c.word-x.ensures.0

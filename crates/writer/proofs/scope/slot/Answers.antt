@@ -12,13 +12,13 @@ pub returns-then-j-lt-ABSENT : goal.returns-then-j-lt-ABSENT
 returns-then-j-lt-ABSENT c = search slot-local
 
 pub overflow_cast-names : goal.overflow_cast-names
-overflow_cast-names c = omega (arith, c.shared_slice_known-3-1.given c.args.x)
+overflow_cast-names c = omega (arith, c.type_inv.names c.args.x)
 
 pub returns-then-names-x-ge-NOTHING : goal.returns-then-names-x-ge-NOTHING
 returns-then-names-x-ge-NOTHING c = search slot-none
 
 pub overflow_cast-result : goal.overflow_cast-result
-overflow_cast-result c = omega (arith, c.shared_slice_known-4-1.given (slots_from + c.args.x))
+overflow_cast-result c = omega (arith, c.type_inv.names (slots_from + c.args.x))
 
 pub returns : goal.returns
-returns c = search (slot_held, c.shared_slice_known-4-1.given (slots_from + c.args.x))
+returns c = search (slot_held, c.type_inv.names (slots_from + c.args.x))
