@@ -253,7 +253,7 @@ pub extern "C" fn engine_run_frames(
     stack: &mut [u64],
 ) -> FramesAnswer
     ensures { RunsFrames frames.now tape.now (record { budget = limits.budget; calls = limits.calls; price = limits.price })
-        (record { heap = heap.entry.now; output = output.old; registers = registers.old; stack = stack.old })
+        (record { heap = heap.old; output = output.old; registers = registers.old; stack = stack.old })
         (record {
           number = result.number;
           position = result.position;
@@ -271,7 +271,7 @@ pub extern "C" fn engine_run_frames(
             frames = result.pause.frames;
             unspent = result.pause.unspent;
           };
-          strips = record { heap = heap.exit.now; output = output.new; registers = registers.new; stack = stack.new };
+          strips = record { heap = heap.new; output = output.new; registers = registers.new; stack = stack.new };
         }) }
 {
     let own = player::run::Limits {
@@ -326,7 +326,7 @@ pub extern "C" fn engine_continue_frames(
           frames = from.frames;
           unspent = from.unspent;
         })
-        (record { heap = heap.entry.now; output = output.old; registers = registers.old; stack = stack.old })
+        (record { heap = heap.old; output = output.old; registers = registers.old; stack = stack.old })
         (record {
           number = result.number;
           position = result.position;
@@ -344,7 +344,7 @@ pub extern "C" fn engine_continue_frames(
             frames = result.pause.frames;
             unspent = result.pause.unspent;
           };
-          strips = record { heap = heap.exit.now; output = output.new; registers = registers.new; stack = stack.new };
+          strips = record { heap = heap.new; output = output.new; registers = registers.new; stack = stack.new };
         }) }
 {
     let own = player::run::Limits {
