@@ -6,10 +6,10 @@ use borrow.Author.Rules.{rules}
 use Rattle.encoder.proofs.cells.cell.Goals as goal
 
 pub overflow_cast-result : goal.overflow_cast-result
-overflow_cast-result c = omega (arith, c.shared_slice_known-1.given c.args.i)
+overflow_cast-result c = omega arith
 
 pub returns-then-i-words : goal.returns-then-i-words
-returns-then-i-words c = (refl, omega (arith, c.shared_slice_known-1.given c.args.i))
+returns-then-i-words c = (refl, omega arith)
 
 pub returns : goal.returns
 returns c = (sym (get_or-eq_default c.args.words.now 0 (search rules)), omega arith)

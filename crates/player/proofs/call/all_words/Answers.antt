@@ -1,5 +1,4 @@
 -- `player::call::all_words` meets its contract: the entries before i are words.
-use Prim.Native.Nat.{◌-◌}
 use Rattle.player.proofs.Calls.{scan-starts, scan-more, scan-fails, scan-all}
 use Rattle.player.proofs.call.all_words.Goals as goal
 

@@ -1,5 +1,4 @@
 -- `player::fill::copy_entries` meets its contract: i entries are written.
-use Prim.Native.Nat.{◌-◌}
 use Rattle.player.proofs.Calls.{copy-starts, copy_more, copy-all}
 use Rattle.player.proofs.fill.copy_entries.Goals as goal
 

@@ -1,5 +1,4 @@
 -- `player::fill::zero_entries` meets its contract: i entries are 0.
-use Prim.Native.Nat.{◌-◌}
 use Rattle.player.proofs.Calls.{zeros-start, zeros-more, zeros-all}
 use Rattle.player.proofs.fill.zero_entries.Goals as goal
 

@@ -1,5 +1,4 @@
 -- `player::digits` meets its contract: the digits before i came to v.
-use Prim.Native.Nat.{◌-◌}
 use Rattle.player.proofs.Forward.{starts, no_digit, a-digit, all_read}
 use Rattle.player.proofs.lines.digits.Goals as goal
 

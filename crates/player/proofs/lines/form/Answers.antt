@@ -1,5 +1,4 @@
 -- `player::lines::form` meets its contract: the lines before line i are of the form.
-use Prim.Native.Nat.{◌-◌}
 use Rattle.player.proofs.Lining.{decoding-starts, decoding-more, decoding-all, decoding-other}
 use Rattle.player.proofs.lines.form.Goals as goal
 
