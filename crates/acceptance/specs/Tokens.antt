@@ -2,7 +2,7 @@
 -- holds since every item passes at least one byte (TokenLaws).
 use Rattle.std.specs.Prelude.{ℕ, suc, ◌+◌, ◌≤◌, ◌≡◌, List, [], length, drop, leb}
 use Rattle.std.proofs.Common.{arith}
-use Rattle.base.specs.Choice.{if◌then◌else◌}
+use Rattle.base.specs.Choice.{if◌then◌otherwise◌}
 use Rattle.base.specs.Outcome.{Outcome, accepted}
 use Rattle.lexer.specs.Tokens.{Token, item, turn, tokens_from, tokens}
 use Rattle.acceptance.specs.laws.TokenLaws.{any_fuel}
@@ -18,7 +18,7 @@ tokens_at s count i = tokens_from (length s) s count i
 -- They are read item by item, without a fuel: none past the last byte, else one turn with the item that begins there, after which they are
 -- read on.
 pub item-by-item : (s : List ℕ) (count i : ℕ)
-    → tokens_at s count i ≡ (if leb (length s) i then (λ _. accepted []) else λ _. turn (λ c j. tokens_at s c j) count i (item i (drop i s)))
+    → tokens_at s count i ≡ (if leb (length s) i then (λ _. accepted []) otherwise λ _. turn (λ c j. tokens_at s c j) count i (item i (drop i s)))
 unfolding tokens_from
 item-by-item s count i = fuel-unused s count i (length s) (suc (length s)) (omega arith) (omega arith)
 

@@ -1,6 +1,6 @@
 -- What the operations of document 02 that write a text into a lent byte strip, (v), (x) and (xii), answer, and what the strip holds afterwards.
 use Rattle.std.specs.Prelude.{ℕ, List, ◌++◌, length, drop, nat_lt}
-use Rattle.base.specs.Choice.{if◌then◌else◌}
+use Rattle.base.specs.Choice.{if◌then◌otherwise◌}
 use Rattle.base.specs.Codes.{success}
 use Rattle.base.specs.Outcome.{Outcome, accepted, refused}
 
@@ -23,7 +23,7 @@ pub record WriteResult : Type 0 where
 -- `tooShort`, at no place
 abbrev pub write_result : (tooShort : ℕ) → Outcome (List ℕ) → (before : List ℕ) → WriteResult
 write_result tooShort (accepted text) before =
-    if nat_lt (length before) (length text) then (λ _. record { answer = write_refusal tooShort 0; strip = before }) else λ _.
+    if nat_lt (length before) (length text) then (λ _. record { answer = write_refusal tooShort 0; strip = before }) otherwise λ _.
     record {
       answer = record { number = success; position = 0; count = length text };
       strip = text ++ drop (length text) before;

@@ -3,7 +3,7 @@ use Prim.Native.Nat.{ℕ}
 use mathlib.Core.Path.{◌≡◌, refl, sym, ap, ◌∙◌, subst}
 use mathlib.Core.List.{List, [], ◌∷◌}
 use lib.Dec.{eqb}
-use Rattle.base.specs.Choice.{if◌then◌else◌}
+use Rattle.base.specs.Choice.{if◌then◌otherwise◌}
 use Rattle.lexer.specs.Kinds.{k_and, k_less, k_plus, k_minus, k_times}
 use Rattle.lexer.specs.Tokens.{Token}
 use Rattle.parser.specs.Tree.{Operator, Operator.and, Operator.less, Operator.plus, Operator.minus, Operator.times}
@@ -18,10 +18,10 @@ use Rattle.bodies.specs.promises.OperatorPost.{LinePost, has-line, no_line, Nume
 -- the operator of a kind
 operator_of : ℕ → Operator
 operator_of k =
-    if eqb k k_and then (λ _. and) else λ _.
-    if eqb k k_less then (λ _. less) else λ _.
-    if eqb k k_plus then (λ _. plus) else λ _.
-    if eqb k k_minus then (λ _. minus) else λ _.
+    if eqb k k_and then (λ _. and) otherwise λ _.
+    if eqb k k_less then (λ _. less) otherwise λ _.
+    if eqb k k_plus then (λ _. plus) otherwise λ _.
+    if eqb k k_minus then (λ _. minus) otherwise λ _.
     times
 
 of-kind : (o : Operator) → operator_of (operator_kind o) ≡ o

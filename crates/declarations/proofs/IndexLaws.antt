@@ -13,7 +13,7 @@ use lib.Dec.{eqb}
 use borrow.Author.Tests.{eqb-true, eqb-false, eq-eqb, ne_eqb, lt-ltb, le-ltb}
 use Rattle.base.specs.Codes.{class_repeated, table_least}
 use Rattle.base.specs.Bytes.{same}
-use Rattle.base.specs.Choice.{if◌then◌else◌, option}
+use Rattle.base.specs.Choice.{if◌then◌otherwise◌, option}
 use Rattle.base.specs.All.{all_nil, all_cons}
 use Rattle.base.specs.laws.Lists.{all_append, get-below, get-get_d, get_d-get}
 use Rattle.base.specs.Outcome.{accepted, refused}
@@ -21,7 +21,7 @@ use Rattle.base.specs.promises.Table.{rows, col, put, length-put, col-put-same, 
 use Rattle.lexer.specs.Kinds.{k_if, is_name_lem}
 use Rattle.lexer.specs.Tokens.{Token}
 use Rattle.lexer.specs.promises.Rows.{first_named}
-use Rattle.lexer.specs.laws.RowLaws.{first-named}
+use Rattle.lexer.proofs.laws.RowLaws.{first-named}
 use Rattle.parser.specs.Tree.{Class, Program}
 use Rattle.parser.specs.Stream.{token_at, no_more, kind_at}
 use Rattle.parser.specs.promises.Layout.{absent, row_classes}
@@ -207,7 +207,7 @@ named-occurs [] c = refl
 named-occurs (k ∷ js) c = go (same (class_name k) c) (named-occurs js c)
   where
     go : (b : Bool) → occurs c (map class_name js) ≡ (option (class_named js c) false λ _. true)
-        → (b || occurs c (map class_name js)) ≡ option (if b then (λ _. some k) else λ _. class_named js c) false λ _. true
+        → (b || occurs c (map class_name js)) ≡ option (if b then (λ _. some k) otherwise λ _. class_named js c) false λ _. true
     go true e = refl
     go false e = e
 
@@ -217,11 +217,11 @@ or_last none o = o
 or_last (some k) o = some k
 
 named-last : (js : List Class) (k : Class) (c : List ℕ)
-    → class_named (js ++ k ∷ []) c ≡ or_last (class_named js c) (if same (class_name k) c then (λ _. some k) else λ _. none)
+    → class_named (js ++ k ∷ []) c ≡ or_last (class_named js c) (if same (class_name k) c then (λ _. some k) otherwise λ _. none)
 unfolding class_named
 named-last [] k c = refl
 named-last (j ∷ js) k c =
-    by-test (λ (o : Option Class). o ≡ or_last (class_named (j ∷ js) c) (if same (class_name k) c then (λ _. some k) else λ _. none)) (same (class_name j) c) _ _
+    by-test (λ (o : Option Class). o ≡ or_last (class_named (j ∷ js) c) (if same (class_name k) c then (λ _. some k) otherwise λ _. none)) (same (class_name j) c) _ _
     (λ e. rw e) (λ e. rw e (named-last js k c))
 
 last_none : (o : Option Class) → or_last o none ≡ o

@@ -1,6 +1,6 @@
 -- What the judgements of fields, parameters and locals return meets their contracts: each test of the code is the definition's, on the
 -- variable whose row it is.
-use Rattle.base.specs.Choice.{if◌then◌else◌}
+use Rattle.base.specs.Choice.{if◌then◌otherwise◌}
 use Prim.Native.Nat.{ℕ, ◌+◌, ◌-◌, ◌≤◌, ◌<◌}
 use native.Mathlib.Omega.{arith}
 use mathlib.Core.Path.{◌≡◌, refl, sym, ap, ◌∙◌, subst}
@@ -123,7 +123,7 @@ module _ {tab : List ℕ} {n left stamp row : ℕ} {before : List ℕ} where
 -- the tests of a name, and what comes after them
 abbrev tests : (again few : Bool) (place : ℕ) (next : Outcome (Unit {0})) → Outcome (Unit {0})
 tests again few place next =
-    if again then (λ _. refused variable_repeated place) else λ _. if few then (λ _. next) else λ _. refused too_many_variables place
+    if again then (λ _. refused variable_repeated place) otherwise λ _. if few then (λ _. next) otherwise λ _. refused too_many_variables place
 
 -- whether the name of number x is that of an earlier variable of the method
 record OccursEarlier (tab : List ℕ) (n others before first index row x : ℕ) (again : Bool) : Type 0 where

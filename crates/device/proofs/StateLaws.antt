@@ -7,7 +7,7 @@ use mathlib.Core.List.{List, [], ◌∷◌}
 use mathlib.Core.Path.{◌≡◌, refl, sym, ap, ap₂, ◌∙◌, subst}
 use lib.ListN.{length, get_or, set, drop, replicate}
 use borrow.Author.Tests.{ne_eqb}
-use Rattle.base.specs.Choice.{if◌then◌else◌}
+use Rattle.base.specs.Choice.{if◌then◌otherwise◌}
 use Rattle.device.specs.Device as Device
 use Rattle.device.specs.Device.{Device}
 use Rattle.device.specs.promises.Holding.{Held, held_in, device_of, registers_of, Rests, Alters}
@@ -119,7 +119,7 @@ module _ (s : List ℕ) (e : length s ≡ 16) where
         same = refl;
         is = λ t.
             let d = device_of t (held_in s k) in
-            ap (λ (b : Bool). if b then (λ _. Device.with_flags false d.lost d) else λ _. d) (sym (ne_eqb n 2 z));
+            ap (λ (b : Bool). if b then (λ _. Device.with_flags false d.lost d) otherwise λ _. d) (sym (ne_eqb n 2 z));
       }
 
   pub put-flags : (b : ℕ) {a l p q : Bool} {s' : List ℕ} → p ≡ Device.bit 0 (get_or s 0 0) → a ≡ (p && not (Device.bit 0 b))

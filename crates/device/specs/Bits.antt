@@ -2,7 +2,7 @@
 -- a sample changes registers 0 and 2 only, and none past the tape's end; and there are always sixteen.
 use Rattle.std.specs.Prelude.{ℕ, zero, suc, ◌+◌, Bool, true, false, ◌&&◌, ◌||◌, List, [], ◌∷◌, ◌≡◌, refl, ◌≢◌, length, eqb}
 use Rattle.std.proofs.Common.{sym, ap, ap₂, ◌∙◌, subst, length-set}
-use Rattle.base.specs.Choice.{if◌then◌else◌}
+use Rattle.base.specs.Choice.{if◌then◌otherwise◌}
 use Rattle.device.specs.Device.{Device, reset, bit, bit_value, alarm, registers, sample_of, sample, got, with_flags, after_get, after_put}
 
 -- bits 0, 1 and 7 of a byte that these three make
@@ -78,7 +78,7 @@ sixteen-sample d = go d.tape
 pub sixteen-get : (n : ℕ) (d : Device) → length (registers (after_get n d)) ≡ length (registers d)
 sixteen-get n d = go (eqb n 2)
   where
-    go : (b : Bool) → length (registers (if b then (λ _. with_flags false d.lost d) else λ _. d)) ≡ length (registers d)
+    go : (b : Bool) → length (registers (if b then (λ _. with_flags false d.lost d) otherwise λ _. d)) ≡ length (registers d)
     go false = refl
     go true = refl
 

@@ -1,6 +1,6 @@
 -- Document 02, (viii): the device behind the cable. It knows nothing of a run but when a step is charged, and what is got and put.
 use Rattle.std.specs.Prelude.{ℕ, zero, suc, ◌+◌, ◌/◌, ◌%◌, ◌^◌, ◌<◌, Bool, true, false, ◌&&◌, ◌||◌, not, List, [], ◌∷◌, get_or, set, replicate, drop, eqb}
-use Rattle.base.specs.Choice.{if◌then◌else◌}
+use Rattle.base.specs.Choice.{if◌then◌otherwise◌}
 use Rattle.base.specs.Codes.{byte_values}
 
 -- what a register and a place of the tape hold
@@ -28,7 +28,7 @@ bit (suc k) v = bit k (v / 2)
 
 -- what bit k adds to a byte
 abbrev pub bit_value : (k : ℕ) → Bool → ℕ
-bit_value k b = if b then (λ _. 2 ^ k) else λ _. 0
+bit_value k b = if b then (λ _. 2 ^ k) otherwise λ _. 0
 
 -- "Bit 7 of register 0 is set exactly when bit 0 or 1 is set and its mask bit also."
 abbrev pub alarm : Device → Bool
@@ -58,7 +58,7 @@ abbrev pub period : ℕ
 period = 100
 
 abbrev pub at_step : (step : ℕ) → Device → Device
-at_step n d = if eqb (n % period) 0 then (λ _. sample d) else λ _. d
+at_step n d = if eqb (n % period) 0 then (λ _. sample d) otherwise λ _. d
 
 -- what is got from a register
 abbrev pub got : (register : ℕ) → Device → ℕ
@@ -69,7 +69,7 @@ with_flags a l d = record { arrived = a; lost = l; mask = d.mask; reading = d.re
 
 -- "Getting register 2 clears bit 0."
 abbrev pub after_get : (register : ℕ) → Device → Device
-after_get n d = if eqb n 2 then (λ _. with_flags false d.lost d) else λ _. d
+after_get n d = if eqb n 2 then (λ _. with_flags false d.lost d) otherwise λ _. d
 
 -- "Putting to register 0 clears those of bits 0 and 1 that are 1 in the value; putting to register 2 does nothing. The other registers
 -- hold what was put."

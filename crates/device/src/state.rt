@@ -2,7 +2,7 @@
 // flags there: bit 7 is made of them and the mask where the register is got, and at the end of a run. Samples are looked after only where a
 // lesson looks at the device, and at the end of a run.
 ghost use Rattle.std.specs.Prelude.{◌≡◌, ◌+◌, ◌/◌, ◌≤◌, ◌<◌, true, ◌&&◌, ◌||◌, not, eqb, leb, [], get_or, set, length};
-ghost use Rattle.base.specs.Choice.{if◌then◌else◌};
+ghost use Rattle.base.specs.Choice.{if◌then◌otherwise◌};
 ghost use Rattle.base.specs.Codes.{registers_count};
 ghost use Rattle.device.specs.Device as Device;
 ghost use Rattle.device.specs.promises.Holding.{held_in, device_of, registers_of, Rests, Alters, Looks, LesserOf};
@@ -66,7 +66,7 @@ fn alarm(strip: &[u8]) -> bool
 
 // What a flag adds to its register.
 fn weighed(flag: bool, weight: u8) -> u8
-    ensures { (result ≡ (if flag then (λ _. weight) else λ _. 0)) × (result ≤ weight) }
+    ensures { (result ≡ (if flag then (λ _. weight) otherwise λ _. 0)) × (result ≤ weight) }
 {
     if flag {
         return weight;

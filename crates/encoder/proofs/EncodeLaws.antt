@@ -8,7 +8,7 @@ use lib.ListN.{length, get_or, drop, replicate, length-replicate, length-append,
 use lib.Seq.{get_or-set_other}
 use borrow.Author.Tests.{lt-ltb, le-ltb}
 use Rattle.base.specs.Bytes.{same}
-use Rattle.base.specs.Choice.{if◌then◌else◌}
+use Rattle.base.specs.Choice.{if◌then◌otherwise◌}
 use Rattle.base.specs.Codes.{table_least, table_too_short}
 use Rattle.base.specs.Outcome.{Outcome, accepted, refused}
 use Rattle.base.specs.laws.Lists.{get_d_default, get_d-replicate-same}
@@ -115,7 +115,7 @@ unfolding first_named
 first-most [] c = omega arith
 first-most (t ∷ ts) c = by (is_name_lem t.kind && same t.text c) (first-most ts c)
   where
-    by : (b : Bool) → first_named ts c ≤ length ts → (if b then (λ _. 0) else λ _. first_named ts c + 1) ≤ suc (length ts)
+    by : (b : Bool) → first_named ts c ≤ length ts → (if b then (λ _. 0) otherwise λ _. first_named ts c + 1) ≤ suc (length ts)
     by true h = omega arith
     by false h = omega arith
 
@@ -145,8 +145,8 @@ numbered_is [] i j c h = omega arith
 numbered_is (k ∷ ks) i j c h = by (same (class_name k) c) (numbered_is ks (end_methods k.methods i) (j + 1) c (omega (arith, h)))
   where
     by : (b : Bool) → min (numbered 2048 (j + 1) ks c) (j + 1 + length ks) ≡ j + 1 + place_of (map (λ (k : ClassRow). k.name) (rows_of ks (end_methods k.methods i))) c
-        → min (if b then (λ _. j) else λ _. numbered 2048 (j + 1) ks c) (j + suc (length ks))
-        ≡ j + (if b then (λ _. 0) else λ _. suc (place_of (map (λ (k : ClassRow). k.name) (rows_of ks (end_methods k.methods i))) c))
+        → min (if b then (λ _. j) otherwise λ _. numbered 2048 (j + 1) ks c) (j + suc (length ks))
+        ≡ j + (if b then (λ _. 0) otherwise λ _. suc (place_of (map (λ (k : ClassRow). k.name) (rows_of ks (end_methods k.methods i))) c))
     by true e = omega arith
     by false e = omega (arith, e)
 

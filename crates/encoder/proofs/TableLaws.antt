@@ -25,8 +25,8 @@ use Rattle.lookup.specs.laws.HeldLaws.{word_in, name-word, row-there, all-stand,
 use Rattle.declarations.specs.promises.Judgements.{ClassesAt}
 use Rattle.codegen.specs.promises.Code.{Entry, ClassRow, climb}
 use Rattle.codegen.specs.promises.Compile.{end, entry_for, end_methods, rows_of, compile}
-use Rattle.codegen.specs.laws.Layout.{compiled}
-use Rattle.codegen.specs.laws.Dispatch.{Both, neither, both, finds}
+use Rattle.codegen.proofs.laws.Layout.{compiled}
+use Rattle.codegen.proofs.laws.Dispatch.{Both, neither, both, finds}
 use Rattle.writer.specs.laws.Entries.{entry_at}
 use Rattle.frames.specs.Lines.{Line, line}
 use Rattle.frames.specs.Encode.{entry_line, table_of, tables}

@@ -1,7 +1,7 @@
 -- The operations of document 02, (xii) and (xiii), as definitions: answer, record and every strip afterwards, for all inputs.
 use Rattle.std.specs.Prelude.{ℕ, ◌+◌, ◌-◌, List, ◌≡◌, Bool, ◌||◌, ◌&&◌, not, length, replicate, ltb, leb, eqb, ℤ, pos}
 use Rattle.std.proofs.Math.Option.{Option, none, some}
-use Rattle.base.specs.Choice.{if◌then◌else◌, option}
+use Rattle.base.specs.Choice.{if◌then◌otherwise◌, option}
 use Rattle.base.specs.Outcome.{Outcome, accepted, refused, ◌>>=◌}
 use Rattle.base.specs.Write.{WriteAnswer, WriteResult, write_refusal, write_result}
 use Rattle.base.specs.Codes.{table_too_short, table_least, call_limit_out_of_range, calls_most, heap_too_long, heap_most, budget_spent}
@@ -34,7 +34,7 @@ encode_result o before = write_result frames_too_short (o >>= λ p. accepted (fr
 -- 1 before all others
 unfoldable pub encode : (source : List ℕ) → (table : ℕ) → (before : List ℕ) → WriteResult
 encode s table before =
-    if ltb table table_least then (λ _. record { answer = write_refusal table_too_short 0; strip = before }) else λ _. encode_result (checking s) before
+    if ltb table table_least then (λ _. record { answer = write_refusal table_too_short 0; strip = before }) otherwise λ _. encode_result (checking s) before
 
 -- the answer, the work table and the strip that are right for a source and what these held before
 pub record Encodes (s table before : List ℕ) (a : WriteAnswer) (tableExit after : List ℕ) : Type 0 where
@@ -88,11 +88,11 @@ refusal n p m = record { number = n; position = p; frames = 0; words = 0; printe
 -- 2, 3, 62, 72, 68
 abbrev pub unfit : Limits → Strips → Option ℕ
 unfit L m =
-    if eqb L.calls 0 || ltb calls_most L.calls then (λ _. some call_limit_out_of_range) else λ _.
-    if ltb heap_most (length m.heap) then (λ _. some heap_too_long) else λ _.
-    if not (eqb (length m.registers) registers_count) then (λ _. some registers_not_sixteen) else λ _.
-    if not (eqb L.price 1 || eqb L.price 10) then (λ _. some price_unfit) else λ _.
-    if ltb (length m.stack) stack_least then (λ _. some frames_too_short) else λ _.
+    if eqb L.calls 0 || ltb calls_most L.calls then (λ _. some call_limit_out_of_range) otherwise λ _.
+    if ltb heap_most (length m.heap) then (λ _. some heap_too_long) otherwise λ _.
+    if not (eqb (length m.registers) registers_count) then (λ _. some registers_not_sixteen) otherwise λ _.
+    if not (eqb L.price 1 || eqb L.price 10) then (λ _. some price_unfit) otherwise λ _.
+    if ltb (length m.stack) stack_least then (λ _. some frames_too_short) otherwise λ _.
     none
 
 -- "71: the record's line is past the last, its stack height above the stack strip, its open calls above the call limit, its heap words,
@@ -157,12 +157,12 @@ answer r =
       frames = r.frames;
       words = s.words;
       printed = s.printed;
-      pause = if p then (λ _. record_from r) else λ _. no_record_lem;
+      pause = if p then (λ _. record_from r) otherwise λ _. no_record_lem;
       strips = record {
-        heap = if p then (λ _. s.heap) else λ _. replicate (length s.heap) (pos 0);
+        heap = if p then (λ _. s.heap) otherwise λ _. replicate (length s.heap) (pos 0);
         output = s.output;
         registers = s.registers;
-        stack = if p then (λ _. s.stack) else λ _. replicate (length s.stack) 0;
+        stack = if p then (λ _. s.stack) otherwise λ _. replicate (length s.stack) 0;
       };
     }
 
@@ -181,7 +181,7 @@ begins (accepted ls) tape L m = part_from ls tape L no_record_lem (cleared m)
 abbrev pub going_on : Outcome (List Line) → (tape : List ℕ) → Limits → Record → Strips → Answer
 going_on (refused n p) tape L r m = refusal n p m
 going_on (accepted ls) tape L r m =
-    if fits ls tape L m r then (λ _. part_from ls tape L r m) else λ _. refusal record_unfit 0 m
+    if fits ls tape L m r then (λ _. part_from ls tape L r m) otherwise λ _. refusal record_unfit 0 m
 
 -- "The first part takes no record and never meets 71"
 unfoldable pub run : (frames : List ℕ) → (tape : List ℕ) → Limits → Strips → Answer

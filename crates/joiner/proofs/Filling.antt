@@ -16,7 +16,7 @@ use Rattle.lexer.specs.Tokens.{Token, tokens}
 use Rattle.lexer.specs.declared.Lexed.{Lexed}
 use Rattle.lexer.specs.declared.Lexed.TheVariants.{Tokens}
 use Rattle.lexer.specs.promises.Rows.{Rows, Lexes}
-use Rattle.lexer.specs.laws.RowLaws.{accepted-of-answer, refused-of-answer}
+use Rattle.lexer.proofs.laws.RowLaws.{accepted-of-answer, refused-of-answer}
 use Rattle.parser.specs.declared.answer.Answer.{Answer}
 use Rattle.parser.specs.declared.answer.Answer.TheVariants.{At, Bad}
 use Rattle.parser.specs.Tree.{Class}
@@ -39,7 +39,7 @@ use Rattle.joining.specs.Library.{parse_library, LibraryReading, reading_library
 use Rattle.joiner.specs.promises.LibraryPost.{LibraryHeld, LibraryFills, GrowsClasses, MeasuresClasses}
 use Rattle.joiner.specs.declared.library.Held.{Held}
 use Rattle.joiner.specs.declared.library.Held.TheVariants.{Classes, Refused}
-use Rattle.joining.specs.laws.LibraryLaws.{too_long, not-lexed, not-parsed, not-shallow, read-well, library-sound}
+use Rattle.joining.proofs.laws.LibraryLaws.{too_long, not-lexed, not-parsed, not-shallow, read-well, library-sound}
 
 -- WHAT THE PARSER'S ANSWER SAYS
 

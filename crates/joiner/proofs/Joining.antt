@@ -19,7 +19,7 @@ use Rattle.reader.specs.laws.Matching.{classes-match}
 use Rattle.acceptance.specs.Read.{Readable, readable-exactly}
 use Rattle.joining.specs.Library.{LibraryReading, reading_library}
 use Rattle.joining.specs.Join.{names_of, slice, kept_text, join_text, as_library, joining, join_result, join, Joins}
-use Rattle.joining.specs.Reading.{readable-library}
+use Rattle.joining.proofs.Reading.{readable-library}
 use Rattle.joiner.specs.promises.LibraryPost.{LibraryHeld, LibraryFills}
 use Rattle.joiner.specs.promises.Names.{classes_most, NamesKept}
 use Rattle.joiner.specs.promises.Texts.{kept_from, overlay, Overlaid}
@@ -28,7 +28,7 @@ use Rattle.joiner.specs.promises.JoinPost.{JoinAnswered, LessonHeld}
 use Rattle.base.specs.declared.write.WriteAnswer.{WriteAnswer}
 use Rattle.joiner.specs.declared.library.Held.{Held}
 use Rattle.joiner.specs.declared.library.Held.TheVariants.{Classes, Refused}
-use Rattle.joining.specs.laws.Lengths.{classes-few, lesson-few}
+use Rattle.joining.proofs.laws.Lengths.{classes-few, lesson-few}
 use Rattle.joiner.specs.laws.TextLaws.{kept-is}
 use Rattle.joiner.proofs.Writing.{overlay-append}
 

@@ -13,7 +13,7 @@ use Rattle.base.specs.promises.Table.{col, c_start, c_next}
 use Rattle.parser.specs.promises.Layout.{absent, row_classes}
 use Rattle.joiner.specs.promises.Names.{part_at, same_within_lem, name_room, taken_within_lem, collected, place_behind, Collects}
 use Rattle.joiner.specs.promises.Names.{classes_most, ListedFrom, NamesKept}
-use Rattle.joining.specs.laws.Lengths.{lesson-few}
+use Rattle.joining.proofs.laws.Lengths.{lesson-few}
 use Rattle.joiner.specs.laws.NameLaws.{collected-lists, place-behind, main-start}
 use Rattle.reader.specs.promises.FilledTable.{matches}
 

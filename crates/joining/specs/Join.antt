@@ -2,7 +2,7 @@
 -- line feed, then each library class whose name no class of the lesson has, main included, from its `class` to its closing brace, a line
 -- feed after each."
 use Rattle.std.specs.Prelude.{ℕ, ◌+◌, ◌-◌, ◌≡◌, List, [], ◌∷◌, ◌++◌, map, length, take, drop, ltb}
-use Rattle.base.specs.Choice.{if◌then◌else◌}
+use Rattle.base.specs.Choice.{if◌then◌otherwise◌}
 use Rattle.base.specs.Codes.{success, table_too_short, table_least, library_refused, joined_too_long}
 use Rattle.base.specs.Outcome.{Outcome, accepted, refused, ◌>>=◌}
 use Rattle.base.specs.Write.{WriteAnswer, WriteResult, write_refusal, write_result}
@@ -23,7 +23,7 @@ names_of p = p.main.text ∷ map (λ k. k.name.text) p.classes
 -- "each library class whose name no class of the lesson has"
 abbrev pub kept_classes : (taken : List (List ℕ)) → List Class → List Class
 kept_classes taken [] = []
-kept_classes taken (k ∷ ks) = if occurs k.name.text taken then (λ _. kept_classes taken ks) else λ _. k ∷ kept_classes taken ks
+kept_classes taken (k ∷ ks) = if occurs k.name.text taken then (λ _. kept_classes taken ks) otherwise λ _. k ∷ kept_classes taken ks
 
 -- THE TEXT
 
@@ -48,7 +48,7 @@ class_text lib ls k ks = slice (start_at ls (k.name.row - 1)) (end_at ls (first_
 abbrev pub kept_text : (taken : List (List ℕ)) → List ℕ → List Token → List Class → List ℕ
 kept_text taken lib ls [] = []
 kept_text taken lib ls (k ∷ ks) =
-    if occurs k.name.text taken then (λ _. kept_text taken lib ls ks) else λ _.
+    if occurs k.name.text taken then (λ _. kept_text taken lib ls ks) otherwise λ _.
     class_text lib ls k ks ++ b_line_feed ∷ kept_text taken lib ls ks
 
 -- "the lesson's bytes, a line feed, then" these: for a lesson of the tree p and a library of the tokens ls and the classes ks
@@ -74,7 +74,7 @@ join_result o before = write_result joined_too_long o before
 -- 1 before all others
 unfoldable pub join : (s lib : List ℕ) → (table : ℕ) → (before : List ℕ) → WriteResult
 join s lib table before =
-    if ltb table table_least then (λ _. record { answer = write_refusal table_too_short 0; strip = before }) else λ _.
+    if ltb table table_least then (λ _. record { answer = write_refusal table_too_short 0; strip = before }) otherwise λ _.
     join_result (joining s lib) before
 
 -- the answer, the work table and the byte strip that are right for a lesson, a library and what these held before

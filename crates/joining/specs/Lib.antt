@@ -2,7 +2,4 @@
 pub mod Library
 pub mod Join
 pub mod Copy
-pub mod Reading
-pub mod Joined
 pub mod Rows
-pub mod laws

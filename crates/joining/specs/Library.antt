@@ -1,7 +1,7 @@
 -- Document 02, (x): "A library is zero or more class declarations." Its grammar, and what the reading rules find in it: those of Read, with
 -- class declarations alone for the grammar.
 use Rattle.std.specs.Prelude.{ℕ, ◌+◌, ◌*◌, ◌≡◌, List, length, take, ltb}
-use Rattle.base.specs.Choice.{if◌then◌else◌, option}
+use Rattle.base.specs.Choice.{if◌then◌otherwise◌, option}
 use Rattle.base.specs.Codes.{source_too_long, source_most, too_deep}
 use Rattle.base.specs.Outcome.{Outcome, accepted, refused, ◌>>=◌}
 use Rattle.lexer.specs.Tokens.{Token, tokens}
@@ -39,6 +39,6 @@ library_shallow ks = option (classes_deep ks) (accepted ks) λ at. refused too_d
 -- Read's rules in Read's order: 10, then 11 to 15, 60 and 65, then 16, then 17
 unfoldable pub reading_library : List ℕ → Outcome LibraryReading
 reading_library lib =
-    if ltb source_most (length lib) then (λ _. refused source_too_long 0) else λ _.
+    if ltb source_most (length lib) then (λ _. refused source_too_long 0) otherwise λ _.
     tokens lib >>= λ ls. grammatical lib ls (parse_library ls) >>= λ ks. library_shallow ks >>= λ ks.
     accepted (record { stream = ls; classes = ks })

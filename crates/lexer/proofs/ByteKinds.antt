@@ -6,13 +6,13 @@ use mathlib.Core.Bool.{Bool, true, false, ◌&&◌, not, true≢false}
 use mathlib.Core.Path.{◌≡◌, refl, sym, ◌∙◌}
 use lib.Dec.{eqb, leb}
 use borrow.Author.Tests.{leb-true, lt-leb, eq-eqb, ne_eqb, eqb-true, eqb-false, not-false}
-use Rattle.base.specs.Choice.{if◌then◌else◌}
+use Rattle.base.specs.Choice.{if◌then◌otherwise◌}
 use Rattle.base.specs.laws.Tests.{and-true, and-false, or-either, or-neither}
 use Rattle.lexer.specs.Bytes.{b_space, b_tab, b_line_feed, b_carriage_return, b_form_feed, b_capital_a, b_capital_z, b_small_a, b_small_z, b_zero}
 use Rattle.lexer.specs.Bytes.{b_nine, b_underscore, b_slash, b_ampersand, is_blank, is_letter, is_digit_lem, is_name_part_lem}
 use Rattle.lexer.specs.Kinds.{mark_kind_lem, k_end}
 use Rattle.lexer.specs.ByteKinds.{b_letter, b_digit, b_blank, b_mark, b_other, is_mark, byte_kind}
-use Rattle.lexer.specs.laws.LiteralLaws.{digit-range}
+use Rattle.lexer.proofs.laws.LiteralLaws.{digit-range}
 
 -- ---- a letter, a digit and a blank are different bytes
 
@@ -52,10 +52,10 @@ record Looks (k : ℕ) (letter digit blank mark : Bool) : Type 0 where
 
 abbrev kind_by : (letter digit blank mark : Bool) → ℕ
 kind_by letter digit blank mark =
-    if letter then (λ _. b_letter) else λ _.
-    if digit then (λ _. b_digit) else λ _.
-    if blank then (λ _. b_blank) else λ _.
-    if mark then (λ _. b_mark) else λ _. b_other
+    if letter then (λ _. b_letter) otherwise λ _.
+    if digit then (λ _. b_digit) otherwise λ _.
+    if blank then (λ _. b_blank) otherwise λ _.
+    if mark then (λ _. b_mark) otherwise λ _. b_other
 
 looks : (l d w m : Bool) → (l ≡ true → (d ≡ false) × (w ≡ false)) → (d ≡ true → w ≡ false) → Looks (kind_by l d w m) l d w m
 looks true d w m f g = record { letter-is = refl; digit-is = (f refl).0; blank-is = (f refl).1; mark-is = λ e _ _. absurd (true≢false e) }

@@ -17,7 +17,7 @@ use Rattle.lexer.specs.Kinds.{is_name_lem}
 use Rattle.lexer.specs.Tokens.{Token}
 use Rattle.lexer.specs.promises.Rows.{first_named, RowOf, Rows}
 use Rattle.base.specs.laws.Tests.{apart, same_refl, same-equal}
-use Rattle.lexer.specs.laws.RowLaws.{NameToken, first-none, first-stable}
+use Rattle.lexer.proofs.laws.RowLaws.{NameToken, first-none, first-stable}
 use Rattle.lexer.specs.promises.Chains.{NoNames, text_from, row_token, tokens_of, Reaches, here, next, Numbered, RowsFilled, Sought}
 
 -- ---- the tokens of the first rows

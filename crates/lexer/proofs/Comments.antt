@@ -9,7 +9,7 @@ use mathlib.Core.Path.{◌≡◌, refl, sym, ap, ◌∙◌}
 use lib.ListN.{length, get_or, drop, length-drop}
 use lib.Dec.{eqb}
 use borrow.Author.Tests.{eq-eqb, ne_eqb}
-use Rattle.base.specs.Choice.{if◌then◌else◌}
+use Rattle.base.specs.Choice.{if◌then◌otherwise◌}
 use Rattle.lexer.specs.Bytes.{b_slash, b_star}
 use Rattle.lexer.specs.Tokens.{closing}
 use Rattle.lexer.specs.promises.Scan.{delimiter_of_lem, closing_of}
@@ -26,7 +26,7 @@ rest-two s i h =
 -- where a comment of depth d ends, after two bytes at i, of which b is the second, and the rest r
 abbrev after : Delimiter → (d i b : ℕ) → List ℕ → Option ℕ
 after Open d i b r = closing (d + 1) (i + 2) r
-after Close d i b r = if eqb d 1 then (λ _. some (i + 2)) else λ _. closing (d - 1) (i + 2) r
+after Close d i b r = if eqb d 1 then (λ _. some (i + 2)) otherwise λ _. closing (d - 1) (i + 2) r
 after Other d i b r = closing d (i + 1) (b ∷ r)
 
 closing-two : (d i a b : ℕ) (r : List ℕ) → closing d i (a ∷ b ∷ r) ≡ after (delimiter_of_lem a b) d i b r
@@ -34,9 +34,9 @@ unfolding closing
 closing-two d i a b r = go (eqb a b_slash && eqb b b_star) (eqb a b_star && eqb b b_slash)
   where
     go : (x y : Bool)
-        → (if x then (λ _. closing (d + 1) (i + 2) r) else λ _.
-        if y then (λ _. if eqb d 1 then (λ _. some (i + 2)) else λ _. closing (d - 1) (i + 2) r) else λ _. closing d (i + 1) (b ∷ r))
-        ≡ after (if x then (λ _. Open) else λ _. if y then (λ _. Close) else λ _. Other) d i b r
+        → (if x then (λ _. closing (d + 1) (i + 2) r) otherwise λ _.
+        if y then (λ _. if eqb d 1 then (λ _. some (i + 2)) otherwise λ _. closing (d - 1) (i + 2) r) otherwise λ _. closing d (i + 1) (b ∷ r))
+        ≡ after (if x then (λ _. Open) otherwise λ _. if y then (λ _. Close) otherwise λ _. Other) d i b r
     go true y = refl
     go false true = refl
     go false false = refl

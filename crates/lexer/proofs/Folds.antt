@@ -10,14 +10,14 @@ use lib.ListN.{length, get_or, take, drop, length-drop}
 use lib.Seq.{take_all}
 use lib.Dec.{ltb}
 use borrow.Author.Tests.{ltb-true, ltb-false, lt-ltb, le-ltb}
-use Rattle.base.specs.Choice.{if◌then◌else◌}
+use Rattle.base.specs.Choice.{if◌then◌otherwise◌}
 use Rattle.base.specs.Codes.{literal_most}
 use Rattle.base.specs.laws.Tests.{apart}
 use Rattle.base.specs.promises.Table.{rows}
 use Rattle.lexer.specs.Bytes.{b_zero, is_digit_lem}
 use Rattle.lexer.specs.Tokens.{decimal, whole_digits, fraction_digits, thousandths_of_lem}
-use Rattle.lexer.specs.laws.ItemLaws.{run-front, run_short}
-use Rattle.lexer.specs.laws.LiteralLaws.{decimal-grows}
+use Rattle.lexer.proofs.laws.ItemLaws.{run-front, run_short}
+use Rattle.lexer.proofs.laws.LiteralLaws.{decimal-grows}
 use Rattle.lexer.specs.promises.Chains.{bucket_from}
 use Rattle.lexer.specs.promises.Verdicts.{literal_of}
 use Rattle.lexer.specs.declared.limits.Literal.{Literal}
@@ -58,14 +58,14 @@ summed-end {before} {t} {high} {i} h v =
 value-is : (n : ℕ) {v : ℕ} → Value v ≡ literal_of n → (v ≡ n) × (n ≤ literal_most)
 value-is n q = by (ltb literal_most n) refl q
   where
-    by : {v : ℕ} (b : Bool) → ltb literal_most n ≡ b → Value v ≡ (if b then (λ _. TooLarge) else λ _. Value n) → (v ≡ n) × (n ≤ literal_most)
+    by : {v : ℕ} (b : Bool) → ltb literal_most n ≡ b → Value v ≡ (if b then (λ _. TooLarge) otherwise λ _. Value n) → (v ≡ n) × (n ≤ literal_most)
     by true p z = apart (cc)
     by false p z = (cc, ltb-false literal_most n p)
 
 value-past : (n : ℕ) → TooLarge ≡ literal_of n → literal_most < n
 value-past n q = by (ltb literal_most n) refl q
   where
-    by : (b : Bool) → ltb literal_most n ≡ b → TooLarge ≡ (if b then (λ _. TooLarge) else λ _. Value n) → literal_most < n
+    by : (b : Bool) → ltb literal_most n ≡ b → TooLarge ≡ (if b then (λ _. TooLarge) otherwise λ _. Value n) → literal_most < n
     by true p z = ltb-true literal_most n p
     by false p z = apart (cc)
 

@@ -12,11 +12,11 @@ use lib.ListN.{length, get_or, take, drop, length-append, get_or-eq_default}
 use lib.Seq.{get_or-drop, drop-drop}
 use lib.Dec.{eqb}
 use borrow.Author.Tests.{eq-eqb, ne_eqb, eqb-false}
-use Rattle.base.specs.Choice.{if◌then◌else◌}
+use Rattle.base.specs.Choice.{if◌then◌otherwise◌}
 use Rattle.lexer.specs.Bytes.{b_line_feed, b_slash, b_ampersand, b_star, b_dot, is_blank, is_letter, is_digit_lem, is_name_part_lem}
 use Rattle.lexer.specs.Kinds.{k_literal, k_fixed_literal, k_and, word_kind_lem, mark_kind_lem, k_end}
 use Rattle.lexer.specs.Tokens.{gap, nothing, token, longest_run, begins, closing, comment, mark, numeral, item}
-use Rattle.lexer.specs.laws.ItemLaws.{run-front, begins-cons, chosen}
+use Rattle.lexer.proofs.laws.ItemLaws.{run-front, begins-cons, chosen}
 use Rattle.lexer.specs.ByteKinds.{b_letter, b_digit, b_blank, b_mark, b_other, byte_kind}
 use Rattle.lexer.specs.promises.Scan.{member, closing_of, piece_of, Letter, Digit, Mark}
 use Rattle.lexer.specs.declared.scan.Class.TheVariants.{Line, Word, Number}
@@ -167,7 +167,7 @@ module _ (s : List ℕ) (i : ℕ) (h : i < length s) where
       q.0
       q.1
       (opens b_ampersand b_ampersand refl (ne_eqb b_ampersand first (λ y. m (sym y))) refl)
-      ∙ ap (λ (z : Bool). if z then (λ _. nothing) else λ _. token (mark_kind_lem first) (first ∷ [])) (ne_eqb (mark_kind_lem first) k_end t)
+      ∙ ap (λ (z : Bool). if z then (λ _. nothing) otherwise λ _. token (mark_kind_lem first) (first ∷ [])) (ne_eqb (mark_kind_lem first) k_end t)
 
   pub at_other : byte_kind first < b_digit → byte_kind first ≢ b_blank → first ≢ b_slash → item i (drop i s) ≡ nothing
   at_other k w n =
@@ -213,7 +213,7 @@ module _ (s : List ℕ) (i : ℕ) (h : i < length s) where
     -- the byte where they end and the one behind it decide
     by-point : {b c : ℕ} → b ≡ get_or s e 0 → c ≡ get_or s (e + 1) 0 → {x y : Bool} → eqb b b_dot ≡ x → is_digit_lem c ≡ y
         → item i (drop i s)
-        ≡ (if x && y then (λ _. token k_fixed_literal (whole ++ b_dot ∷ longest_run is_digit_lem (drop (e + 1) s))) else λ _. token k_literal whole)
+        ≡ (if x && y then (λ _. token k_fixed_literal (whole ++ b_dot ∷ longest_run is_digit_lem (drop (e + 1) s))) otherwise λ _. token k_literal whole)
     by-point {b} {c} pb pc {x} {y} qx qy =
         let at-point = ap (λ (l : List ℕ). get_or l 0 0) behind ∙ get_or-drop e s 0 0 ∙ ap (λ (n : ℕ). get_or s n 0) (add-zero e) ∙ sym pb in
         let at_next = ap (λ (l : List ℕ). get_or l 1 0) behind ∙ get_or-drop e s 1 0 ∙ sym pc in
@@ -221,7 +221,7 @@ module _ (s : List ℕ) (i : ℕ) (h : i < length s) where
         at-digit d.kind
         ∙ (λ j.
         if (ap (λ (n : ℕ). eqb n b_dot) at-point ∙ qx) j && (ap is_digit_lem at_next ∙ qy) j
-        then (λ _. token k_fixed_literal (whole ++ b_dot ∷ longest_run is_digit_lem (after j))) else λ _. token k_literal whole)
+        then (λ _. token k_fixed_literal (whole ++ b_dot ∷ longest_run is_digit_lem (after j))) otherwise λ _. token k_literal whole)
 
     pub piece-fixed : {b c f : ℕ} → b ≡ get_or s e 0 → b ≡ b_dot → c ≡ get_or s (e + 1) 0 → byte_kind c ≡ b_digit
         → f ≡ e + 1 + length (longest_run (member Number) (drop (e + 1) s)) → Token k_fixed_literal f ≡ piece_of i (item i (drop i s))

@@ -11,7 +11,7 @@ use Rattle.base.specs.promises.Table.{rows}
 use Rattle.lexer.specs.Tokens.{Token, Item, gap, unclosed, nothing, token, item, turn, tokens_from, tokens}
 use Rattle.lexer.specs.promises.Rows.{Lexes}
 use Rattle.base.specs.laws.Tests.{apart}
-use Rattle.lexer.specs.laws.ItemLaws.{Good, Shape, good}
+use Rattle.lexer.proofs.laws.ItemLaws.{Good, Shape, good}
 use Rattle.lexer.specs.promises.Chains.{NoNames, tokens_of, Chained, Added}
 use Rattle.lexer.specs.promises.Scan.{piece_of}
 use Rattle.lexer.specs.declared.Lexed.TheVariants.{Tokens, Refused}

@@ -10,3 +10,4 @@ pub mod Chains
 pub mod Stores
 pub mod Verdicts
 pub mod Lexing
+pub mod laws

@@ -12,7 +12,7 @@ use Rattle.base.specs.Bytes.{same}
 use Rattle.base.specs.laws.Tests.{and-true}
 use Rattle.lexer.specs.Kinds.{words, kind_in, word_kind_lem, k_name}
 use Rattle.lexer.specs.promises.Words.{has_length, cut, whole, Listed}
-use Rattle.lexer.specs.laws.WordLengths.{own-length}
+use Rattle.lexer.proofs.laws.WordLengths.{own-length}
 use Rattle.lexer.proofs.Runs.{rest, rest-none}
 
 -- the reserved words of length n, where that is the length of t

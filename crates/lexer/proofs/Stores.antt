@@ -14,8 +14,8 @@ use Rattle.lexer.specs.Kinds.{k_literal, k_fixed_literal, is_name_lem}
 use Rattle.lexer.specs.Tokens.{Token, decimal, thousandths_of_lem}
 use Rattle.lexer.specs.promises.Rows.{first_named}
 use Rattle.base.specs.laws.Tests.{apart}
-use Rattle.lexer.specs.laws.ItemLaws.{kinds-apart}
-use Rattle.lexer.specs.laws.RowLaws.{first-named, first-most}
+use Rattle.lexer.proofs.laws.ItemLaws.{kinds-apart}
+use Rattle.lexer.proofs.laws.RowLaws.{first-named, first-most}
 use Rattle.lexer.specs.promises.Chains.{bucket_from, text_from, row_token, tokens_of, TokenRow, token_row, stored_row, Link, Reaches, here, next, Numbered, RowsFilled, Chained, Sought, Adding, Extended}
 use Rattle.lexer.specs.promises.Verdicts.{number_beside}
 use Rattle.lexer.proofs.Chains.{tokens-suc, tokens-length, token-at, row_below}

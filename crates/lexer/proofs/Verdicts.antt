@@ -9,14 +9,14 @@ use lib.ListN.{length, take, drop, length-drop}
 use lib.Seq.{length-take-le}
 use lib.Dec.{eqb, ltb}
 use borrow.Author.Tests.{lt-ltb, le-ltb, eq-eqb, ne_eqb, eqb-false}
-use Rattle.base.specs.Choice.{if◌then◌else◌}
+use Rattle.base.specs.Choice.{if◌then◌otherwise◌}
 use Rattle.base.specs.Codes.{tokens_most, name_most, literal_most, leading_zero, not_three_digits, literal_too_large, name_too_long, too_many_tokens}
 use Rattle.base.specs.Outcome.{Outcome, accepted, refused, ◌>>=◌}
 use Rattle.lexer.specs.Kinds.{k_literal, k_fixed_literal, is_name_lem}
 use Rattle.lexer.specs.Tokens.{Token, token, decimal, starts_with_zero_lem, whole_digits, fraction_digits, thousandths_of_lem}
 use Rattle.lexer.specs.Tokens.{exceeds_length, zero_first, not_three, too_large, turn}
 use Rattle.base.specs.laws.Tests.{apart}
-use Rattle.lexer.specs.laws.ItemLaws.{kinds-apart}
+use Rattle.lexer.proofs.laws.ItemLaws.{kinds-apart}
 use Rattle.lexer.specs.promises.Verdicts.{literal_of, number_beside, verdict_of}
 use Rattle.lexer.specs.promises.Chains.{Extended, Added}
 use Rattle.lexer.specs.declared.Stored.TheVariants.{Refused as Declined, Done}
@@ -30,13 +30,13 @@ use Rattle.lexer.specs.declared.limits.Verdict.TheVariants.{Refused, Name, Plain
 -- of a literal: its leading zero, and its value; of one of fixed: its leading zero, the three digits behind its point, and its thousandths
 abbrev verdict_by : (many name long literal fixed zero large zeroes three larger : Bool) → (value count : ℕ) → Verdict
 verdict_by many name long literal fixed zero large zeroes three larger value count =
-    if many then (λ _. Refused too_many_tokens) else λ _.
-    if name && long then (λ _. Refused name_too_long) else λ _.
-    if literal && zero || fixed && zeroes then (λ _. Refused leading_zero) else λ _.
-    if fixed && not three then (λ _. Refused not_three_digits) else λ _.
-    if literal && large || fixed && larger then (λ _. Refused literal_too_large) else λ _.
-    if name then (λ _. Name) else λ _.
-    Plain (if literal then (λ _. value) else λ _. if fixed then (λ _. count) else λ _. 0)
+    if many then (λ _. Refused too_many_tokens) otherwise λ _.
+    if name && long then (λ _. Refused name_too_long) otherwise λ _.
+    if literal && zero || fixed && zeroes then (λ _. Refused leading_zero) otherwise λ _.
+    if fixed && not three then (λ _. Refused not_three_digits) otherwise λ _.
+    if literal && large || fixed && larger then (λ _. Refused literal_too_large) otherwise λ _.
+    if name then (λ _. Name) otherwise λ _.
+    Plain (if literal then (λ _. value) otherwise λ _. if fixed then (λ _. count) otherwise λ _. 0)
 
 -- the verdict on a literal without a leading zero, and on one of fixed that has three digits behind its point too
 abbrev pub on_literal : Literal → Verdict
@@ -96,7 +96,7 @@ module _ (n k : ℕ) (t : List ℕ) where
         ∙ on (ltb literal_most (decimal 0 t))
         ∙ sym (by-literal y (eq-eqb k k_literal l) (ap (λ (m : ℕ). eqb m k_fixed_literal) l) (sym p ∙ z))
       where
-        on : (c : Bool) → on_literal (if c then (λ _. TooLarge) else λ _. Value (decimal 0 t))
+        on : (c : Bool) → on_literal (if c then (λ _. TooLarge) otherwise λ _. Value (decimal 0 t))
             ≡ verdict_by false false (ltb name_most (length t)) true false false c (starts_with_zero_lem (whole_digits t))
             (eqb (length (fraction_digits t)) 3) (ltb literal_most (thousandths_of_lem t)) (decimal 0 t) (thousandths_of_lem t)
         on true = refl
@@ -139,7 +139,7 @@ module _ (t : List ℕ) {w : List ℕ} (is : w ≡ whole_digits t) where
       ∙ on (ltb literal_most (thousandths_of_lem t))
       ∙ sym (by_parts (sym p ∙ z) (eq-eqb (length (fraction_digits t)) 3 e))
     where
-      on : (c : Bool) → on_literal (if c then (λ _. TooLarge) else λ _. Value (thousandths_of_lem t))
+      on : (c : Bool) → on_literal (if c then (λ _. TooLarge) otherwise λ _. Value (thousandths_of_lem t))
           ≡ verdict_by false false (ltb name_most (length t)) false true (starts_with_zero_lem t) (ltb literal_most (decimal 0 t)) false true c
           (decimal 0 t) (thousandths_of_lem t)
       on true = refl
@@ -162,31 +162,31 @@ module _ (n k i : ℕ) (t : List ℕ) where
   -- a turn by the answers of the tests
   turn_by : {many long zero other large : Bool} → eqb n tokens_most ≡ many → exceeds_length k t ≡ long → zero_first k t ≡ zero
       → not_three k t ≡ other → too_large k t ≡ large → (next : ℕ → ℕ → Outcome (List Token)) → turn next n i (token k t)
-      ≡ (if many then (λ _. refused too_many_tokens i) else λ _.
-      if long then (λ _. refused name_too_long i) else λ _.
-      if zero then (λ _. refused leading_zero i) else λ _.
-      if other then (λ _. refused not_three_digits i) else λ _.
-      if large then (λ _. refused literal_too_large i) else λ _.
+      ≡ (if many then (λ _. refused too_many_tokens i) otherwise λ _.
+      if long then (λ _. refused name_too_long i) otherwise λ _.
+      if zero then (λ _. refused leading_zero i) otherwise λ _.
+      if other then (λ _. refused not_three_digits i) otherwise λ _.
+      if large then (λ _. refused literal_too_large i) otherwise λ _.
       next (n + 1) (i + length t) >>= λ ts. accepted ((record { kind = k; start = i; text = t }) ∷ ts))
   unfolding turn
   turn_by a b c d e next = λ j.
-      if a j then (λ _. refused too_many_tokens i) else λ _.
-      if b j then (λ _. refused name_too_long i) else λ _.
-      if c j then (λ _. refused leading_zero i) else λ _.
-      if d j then (λ _. refused not_three_digits i) else λ _.
-      if e j then (λ _. refused literal_too_large i) else λ _.
+      if a j then (λ _. refused too_many_tokens i) otherwise λ _.
+      if b j then (λ _. refused name_too_long i) otherwise λ _.
+      if c j then (λ _. refused leading_zero i) otherwise λ _.
+      if d j then (λ _. refused not_three_digits i) otherwise λ _.
+      if e j then (λ _. refused literal_too_large i) otherwise λ _.
       next (n + 1) (i + length t) >>= λ ts. accepted ((record { kind = k; start = i; text = t }) ∷ ts)
 
   judged-by : (many long zero other large name : Bool) → eqb n tokens_most ≡ many → exceeds_length k t ≡ long → zero_first k t ≡ zero
       → not_three k t ≡ other
       → too_large k t ≡ large
       → is_name_lem k ≡ name → Judged n k i t
-      (if many then (λ _. Refused too_many_tokens) else λ _.
-      if long then (λ _. Refused name_too_long) else λ _.
-      if zero then (λ _. Refused leading_zero) else λ _.
-      if other then (λ _. Refused not_three_digits) else λ _.
-      if large then (λ _. Refused literal_too_large) else λ _.
-      if name then (λ _. Name) else λ _. Plain (number_beside k t))
+      (if many then (λ _. Refused too_many_tokens) otherwise λ _.
+      if long then (λ _. Refused name_too_long) otherwise λ _.
+      if zero then (λ _. Refused leading_zero) otherwise λ _.
+      if other then (λ _. Refused not_three_digits) otherwise λ _.
+      if large then (λ _. Refused literal_too_large) otherwise λ _.
+      if name then (λ _. Name) otherwise λ _. Plain (number_beside k t))
   judged-by true long zero other large name a b c d e f = turn_by a b c d e
   judged-by false true zero other large name a b c d e f = turn_by a b c d e
   judged-by false false true other large name a b c d e f = turn_by a b c d e

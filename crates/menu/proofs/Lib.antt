@@ -2,3 +2,5 @@
 pub mod LeastLaws
 pub mod OrderLaws
 pub mod MenuLaws
+pub mod laws
+pub mod Ordered

@@ -33,8 +33,8 @@ use Rattle.typecheck.specs.declared.check.Finding.TheVariants.{Program as found,
 use Rattle.typecheck.specs.declared.check.CheckAnswer.{CheckAnswer}
 use Rattle.typecheck.specs.promises.CheckPost.{FindsProgram, Leaves, check_answer_of}
 use Rattle.menu.specs.Menu.{menu_order, writing, positions, listing, menu, Menus}
-use Rattle.menu.specs.laws.Writing.{many-same}
-use Rattle.menu.specs.Order.{each-once}
+use Rattle.menu.proofs.laws.Writing.{many-same}
+use Rattle.menu.proofs.Ordered.{each-once}
 use Rattle.menu.specs.promises.MenuPost.{name_row, RowsRise, rising_none, rising-more, Tabled, Empty, Gathered, overwritten, ParentsWritten, StripWritten, listing_of, FillsStrip}
 use Rattle.menu.specs.promises.Least.{tree_size}
 

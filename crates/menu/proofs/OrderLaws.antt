@@ -13,7 +13,7 @@ use lib.Seq.{get_or-set_same, get_or-set_other}
 use lib.Dec.{eqb}
 use borrow.Author.Tests.{eqb-true, eq-eqb, ne_eqb}
 use Rattle.base.specs.Bytes.{same}
-use Rattle.base.specs.Choice.{if◌then◌else◌, option}
+use Rattle.base.specs.Choice.{if◌then◌otherwise◌, option}
 use Rattle.base.specs.All.{All, all_nil, all_cons}
 use Rattle.base.specs.laws.Lists.{all-weaken}
 use Rattle.base.specs.laws.Tests.{and-true, and-false, and_right, or-either, or-neither, not-true, same-equal, same_of, apart-same}
@@ -33,7 +33,7 @@ use Rattle.lookup.specs.laws.HeldLaws.{word_in, start_word, row-there, all-stand
 use Rattle.lookup.specs.promises.Lookups.{Above}
 use Rattle.declarations.specs.promises.Judgements.{ClassesAt, FoundByName}
 use Rattle.menu.specs.Menu.{may_stand, earliest, writing, positions}
-use Rattle.menu.specs.laws.Writing.{among-more, all_there, earliest-sound}
+use Rattle.menu.proofs.laws.Writing.{among-more, all_there, earliest-sound}
 use Rattle.menu.specs.InOrder.{MayStand}
 use Rattle.menu.specs.promises.Least.{Keeps, Entered, Removed}
 use Rattle.menu.specs.promises.MenuPost.{name_row, standing, RowsRise, rising-more, Tabled, is_child, child_rows, RowsLinked, linked-end, linked-more, ChildrenListed, Empty, Gathered}
@@ -98,7 +98,7 @@ module _ (w : List Class) where
   unfolding standing earliest
   earliest-is [] rise e h = absurd (false≢true e)
   earliest-is (k ∷ ks) (rising-more l s) {x} e h =
-      let skipped : may_stand w k ≡ false → (if may_stand w k then (λ _. some k) else λ _. earliest w ks) ≡ earliest w ks = λ m. rw m in
+      let skipped : may_stand w k ≡ false → (if may_stand w k then (λ _. some k) otherwise λ _. earliest w ks) ≡ earliest w ks = λ m. rw m in
       on (may_stand w k)
       (λ m. (
         k,
@@ -162,7 +162,7 @@ unfolding elem child_rows
 elem-child c k ks r = go (is_child c k)
   where
     go : (b : Bool)
-        → elem r (if b then (λ _. name_row k ∷ child_rows c ks) else λ _. child_rows c ks) ≡ ((b && eqb (name_row k) r) || elem r (child_rows c ks))
+        → elem r (if b then (λ _. name_row k ∷ child_rows c ks) otherwise λ _. child_rows c ks) ≡ ((b && eqb (name_row k) r) || elem r (child_rows c ks))
     go true = refl
     go false = refl
 
@@ -253,7 +253,7 @@ child-few c [] = omega arith
 child-few c (k ∷ ks) = go (is_child c k) (child-few c ks)
   where
     go : (b : Bool) → length (child_rows c ks) ≤ length ks
-        → length (if b then (λ _. name_row k ∷ child_rows c ks) else λ _. child_rows c ks) ≤ length (k ∷ ks)
+        → length (if b then (λ _. name_row k ∷ child_rows c ks) otherwise λ _. child_rows c ks) ≤ length (k ∷ ks)
     go true h = omega arith
     go false h = omega arith
 

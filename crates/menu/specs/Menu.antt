@@ -1,7 +1,7 @@
 -- Document 01, "What each operation refuses", Menu, in the order of document 02, (ii): the whole operation as a definition.
 use Rattle.std.specs.Prelude.{ℕ, zero, suc, ◌≡◌, List, [], ◌∷◌, ◌++◌, map, Bool, true, ◌&&◌, not, length, drop, ltb}
 use Rattle.std.proofs.Math.Option.{Option, none, some}
-use Rattle.base.specs.Choice.{if◌then◌else◌, option}
+use Rattle.base.specs.Choice.{if◌then◌otherwise◌, option}
 use Rattle.base.specs.Outcome.{Outcome, accepted, refused}
 use Rattle.base.specs.Codes.{table_too_short, table_least, strip_too_short}
 use Rattle.parser.specs.Tree.{Class, Program}
@@ -16,7 +16,7 @@ may_stand written k = not (among k.name.text written) && option k.parent true λ
 
 unfoldable pub earliest : (written : List Class) → List Class → Option Class
 earliest written [] = none
-earliest written (k ∷ ks) = if may_stand written k then (λ _. some k) else λ _. earliest written ks
+earliest written (k ∷ ks) = if may_stand written k then (λ _. some k) otherwise λ _. earliest written ks
 
 -- what is written after `written`, at most so many classes
 unfoldable pub writing : (most : ℕ) → List Class → (written : List Class) → List Class
@@ -39,13 +39,13 @@ pub record Listing : Type 0 where
 
 abbrev pub listing : Outcome Program → (before : List ℕ) → Listing
 listing (accepted p) before =
-    if ltb (length before) (length p.classes) then (λ _. record { answer = check_refusal strip_too_short 0; strip = before }) else λ _.
+    if ltb (length before) (length p.classes) then (λ _. record { answer = check_refusal strip_too_short 0; strip = before }) otherwise λ _.
     record { answer = check_answer (accepted p); strip = positions (menu_order p.classes) ++ drop (length p.classes) before }
 listing (refused n p) before = record { answer = check_refusal n p; strip = before }
 
 unfoldable pub menu : List ℕ → (table : ℕ) → (before : List ℕ) → Listing
 menu s table before =
-    if ltb table table_least then (λ _. record { answer = check_refusal table_too_short 0; strip = before }) else λ _.
+    if ltb table table_least then (λ _. record { answer = check_refusal table_too_short 0; strip = before }) otherwise λ _.
     listing (checking s) before
 
 -- the answer, the work table and the strip that are right for a source and what the work table and the strip held before

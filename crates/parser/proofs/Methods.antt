@@ -7,7 +7,7 @@ use mathlib.Core.Logic.{◌≢◌}
 use mathlib.Core.Bool.{Bool, true, false}
 use native.Mathlib.Omega.{arith}
 use lib.Dec.{eqb, lit<}
-use Rattle.base.specs.Choice.{if◌then◌else◌}
+use Rattle.base.specs.Choice.{if◌then◌otherwise◌}
 use Rattle.base.specs.promises.Table.{put, c_next, c_parent, c_parameters, c_locals, c_fields, c_methods, c_body, c_value}
 use Rattle.base.specs.Codes.{tokens_most}
 use Rattle.lexer.specs.Kinds.{is_name_lem, k_class, k_extends, k_open_brace, k_public, k_end, k_return, k_semicolon, k_open, k_close_brace}
@@ -121,7 +121,7 @@ headed : {A B : Type 0} (ts : List Token) (q j : ℕ) (k : ℕ → Parsed A) (g 
     → (expect ts q j λ j. bind (k j) g) ≡ bind (expect ts q j k) g
 headed {A} {B} ts q j k g = go (eqb (kind_at ts j) q)
   where
-    go : (b : Bool) → (if b then (λ _. bind (k (j + 1)) g) else λ _. bad j) ≡ bind (if b then (λ _. k (j + 1)) else λ _. bad j) g
+    go : (b : Bool) → (if b then (λ _. bind (k (j + 1)) g) otherwise λ _. bad j) ≡ bind (if b then (λ _. k (j + 1)) otherwise λ _. bad j) g
     go true = refl
     go false = refl
 

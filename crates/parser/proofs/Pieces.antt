@@ -8,7 +8,7 @@ use mathlib.Core.Bool.{Bool, true, false}
 use native.Mathlib.Omega.{arith}
 use lib.Dec.{eqb}
 use borrow.Author.Tests.{eq-eqb}
-use Rattle.base.specs.Choice.{if◌then◌else◌}
+use Rattle.base.specs.Choice.{if◌then◌otherwise◌}
 use Rattle.base.specs.promises.Table.{col, put, c_start, c_next}
 use Rattle.base.specs.Codes.{tokens_most}
 use Rattle.lexer.specs.Tokens.{Token}
@@ -74,7 +74,7 @@ pub regroup : {A B : Type 0} (ts : List Token) (q : ℕ) (g : A → ℕ → Pars
     → bind res (λ a j. expect ts q j (g a)) ≡ bind (and_token ts q res) g
 regroup ts q g (ok a j) = go (eqb (kind_at ts j) q)
   where
-    go : (b : Bool) → (if b then (λ _. g a (j + 1)) else λ _. bad j) ≡ bind (if b then (λ _. ok a (j + 1)) else λ _. bad j) g
+    go : (b : Bool) → (if b then (λ _. g a (j + 1)) otherwise λ _. bad j) ≡ bind (if b then (λ _. ok a (j + 1)) otherwise λ _. bad j) g
     go true = refl
     go false = refl
 regroup ts q g (bad k) = refl
@@ -92,7 +92,7 @@ bind-same e out = refl
 -- what goes on after a member of a list in parentheses; R is the definition of the rest
 abbrev pub member : {A B : Type 0} → List Token → (cons : A → B → B) (nil : B) → (ℕ → Parsed B) → A → ℕ → Parsed B
 member ts cons nil R a j =
-    if eqb (kind_at ts j) k_close then (λ _. ok (cons a nil) (j + 1)) else λ _.
+    if eqb (kind_at ts j) k_close then (λ _. ok (cons a nil) (j + 1)) otherwise λ _.
     expect ts k_comma j λ j. bind (R j) λ b j. ok (cons a b) j
 
 -- a token that follows is there

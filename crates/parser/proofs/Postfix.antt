@@ -15,7 +15,7 @@ use Rattle.base.specs.Codes.{tokens_most}
 use Rattle.lexer.specs.Kinds.{is_name_lem}
 use Rattle.lexer.specs.Kinds.{k_close, k_close_bracket, k_comma, k_dot, k_false, k_fixed, k_fixed_literal, k_length, k_literal, k_new, k_open, k_open_bracket, k_port, k_this, k_true}
 use Rattle.lexer.specs.Tokens.{Token, decimal, thousandths_of_lem}
-use Rattle.lexer.specs.laws.ItemLaws.{kinds-apart}
+use Rattle.lexer.proofs.laws.ItemLaws.{kinds-apart}
 use Rattle.parser.specs.declared.answer.Answer.{Answer}
 use Rattle.parser.specs.declared.answer.Answer.TheVariants.{At, Bad}
 use Rattle.parser.specs.Tree.{Place, Name, ElementUse, Sort, Sort.arguments, Part, Expression}

@@ -6,12 +6,12 @@ use mathlib.Core.Logic.{◌≢◌}
 use mathlib.Core.Bool.{Bool, true, false}
 use native.Mathlib.Omega.{arith}
 use lib.Dec.{eqb}
-use Rattle.base.specs.Choice.{if◌then◌else◌}
+use Rattle.base.specs.Choice.{if◌then◌otherwise◌}
 use Rattle.base.specs.promises.Table.{col, put, c_start, c_third}
 use Rattle.base.specs.Codes.{tokens_most}
 use Rattle.lexer.specs.Kinds.{is_name_lem, k_assign, k_close, k_comma, k_if, k_open, k_open_brace, k_open_bracket, k_port, k_semicolon, k_system, k_while, k_else, k_close_bracket, k_close_brace}
 use Rattle.lexer.specs.Tokens.{Token}
-use Rattle.lexer.specs.laws.ItemLaws.{kinds-apart}
+use Rattle.lexer.proofs.laws.ItemLaws.{kinds-apart}
 use Rattle.parser.specs.declared.answer.Answer.{Answer}
 use Rattle.parser.specs.declared.answer.Answer.TheVariants.{At, Bad}
 use Rattle.parser.specs.Tree.{Place, Sort, Sort.expression, Sort.statement, Part, Expression, Statement}
@@ -93,8 +93,8 @@ tested : (i f : ℕ) (ts : List Token) {B : Type 0} (g : Expression → ℕ → 
     → (expect ts k_open (i + 1) λ j. bind (parse_as f ts an_expression j) λ e j. expect ts k_close j λ j. g e j) ≡ bind (test_from i f ts) g
 tested i f ts {B} g = go (eqb (kind_at ts (i + 1)) k_open)
   where
-    go : (b : Bool) → (if b then (λ _. bind (parse_as f ts an_expression (i + 1 + 1)) λ e j. expect ts k_close j λ j. g e j) else λ _. bad (i + 1))
-        ≡ bind (if b then (λ _. bind (parse_as f ts an_expression (i + 1 + 1)) λ e j. expect ts k_close j λ j. ok e j) else λ _. bad (i + 1)) g
+    go : (b : Bool) → (if b then (λ _. bind (parse_as f ts an_expression (i + 1 + 1)) λ e j. expect ts k_close j λ j. g e j) otherwise λ _. bad (i + 1))
+        ≡ bind (if b then (λ _. bind (parse_as f ts an_expression (i + 1 + 1)) λ e j. expect ts k_close j λ j. ok e j) otherwise λ _. bad (i + 1)) g
     go true = regroup ts k_close g (parse_as f ts an_expression (i + 1 + 1))
     go false = refl
 

@@ -12,7 +12,7 @@ use lib.IntN.{ℤ, pos}
 use lib.Dec.{ltb, leb, eqb}
 use borrow.Author.Tests.{lt-ltb, le-ltb, le-leb, lt-leb, ne_eqb}
 use borrow.Rule.Slice.PartMut.{put_mid, mid_of, mid_len, same_len_mid}
-use Rattle.base.specs.Choice.{if◌then◌else◌}
+use Rattle.base.specs.Choice.{if◌then◌otherwise◌}
 use Rattle.base.specs.Word.{low, modulus}
 use Rattle.frames.specs.Lines.{Line}
 use Rattle.frames.specs.Machine.{State, Around, Turn, goes, ends, bad, sure, allowed, word, reference, all_words_lem, last_values, value_at}
@@ -194,7 +194,7 @@ enough : (stack : List ℕ) (height n first r : ℕ) → n ≤ 32 → n + 1 ≤ 
     → s.height ≡ height → s.stack ≡ stack → (k : ℕ → Turn)
     → (sure (leb n 32) λ _. sure (leb (n + 1) s.height) λ _. sure (all_words_lem (last_values s n)) λ _. word (value_at s (s.height -
     (n + 1))) k)
-    ≡ (if ltb 0 r then (λ _. word (get_or stack (first - 1) 0) k) else λ _. bad)
+    ≡ (if ltb 0 r then (λ _. word (get_or stack (first - 1) 0) k) otherwise λ _. bad)
 enough stack height n first r b l a w s e f k =
     let i : 2176 + (s.height - n) ≡ first = omega (arith, e, a) in
     let j : 2176 + (s.height - (n + 1)) ≡ first - 1 = omega (arith, e, a, l) in
@@ -233,7 +233,7 @@ looked-up : (text : List ℕ) (heap : List ℤ) (words receiver table e v i at l
     → Cell heap i v → at ≡ table + v → EntryAt text at l → (s : State)
     → s.words ≡ words → s.heap ≡ heap → (k : ℕ → Turn)
     → (reference s receiver λ _. entered (lines_in text) (table + heap_word s (receiver - 1)) k) ≡ (if ltb l 4294967296 then
-    (λ _. k l) else λ _. bad)
+    (λ _. k l) otherwise λ _. bad)
 looked-up text heap words receiver table e v i at l w z a c b u s p q k =
     w.says s p _ ∙ no-is (ltb 0 e) _ _ (le-ltb 0 e z)
     ∙ ap₂ (λ (t : List ℤ) (j : ℕ). entered (lines_in text) (table + low 32 (get_or t j (pos 0))) k) q (sym a)
@@ -341,7 +341,7 @@ reached : (text stack : List ℕ) (heap : List ℤ) (m : Machine) (x n v table :
     → CalledOn stack m.height n v → v < 4294967296
     → Dispatched text heap m.words v table t → (A : Around) (o : List ℤ) (g : List ℕ) → A.lines ≡ lines_in text
     → do_call A x (state_of m stack heap o g)
-    ≡ (if ltb 0 t.number then (λ _. ends t.number) else λ _.
+    ≡ (if ltb 0 t.number then (λ _. ends t.number) otherwise λ _.
     allowed 52 (ltb m.calls A.calls) λ _. goes (opens (state_of m stack heap o g) n v t.line))
 unfolding do_call call_on
 reached text stack heap m x n v table t i j w b u A o g p =

@@ -8,7 +8,7 @@ use lib.IntN.{ℤ, pos}
 use lib.ListN.{length, replicate}
 use lib.Dec.{eqb}
 use borrow.Author.Tests.{eq-eqb, ne_eqb}
-use Rattle.base.specs.Choice.{if◌then◌else◌}
+use Rattle.base.specs.Choice.{if◌then◌otherwise◌}
 use Rattle.frames.specs.Operations as Operations
 use Rattle.frames.specs.Operations.{answer}
 use Rattle.player.specs.declared.rounds.Meter.{Meter}
@@ -29,7 +29,7 @@ answer_at e q n p =
 
 -- the same by whether the number is 0
 abbrev numbered : (e : Meter) (q : Record) (n : ℕ) (b : Bool) → Answer
-numbered e q n b = answer_at e q n (if b then (λ _. 0) else λ _. 11 * e.machine.line)
+numbered e q n b = answer_at e q n (if b then (λ _. 0) otherwise λ _. 11 * e.machine.line)
 
 module _ {e : Meter} {q : Record} where
   pub answers-0 : e.machine.number < 1
@@ -52,16 +52,16 @@ abbrev paused-or : Bool → (e : Meter) (stack : List ℕ) (heap output : List �
 paused-or p e k h o g =
     record {
       number = e.machine.number;
-      position = if eqb e.machine.number 0 then (λ _. 0) else λ _. 11 * e.machine.line;
+      position = if eqb e.machine.number 0 then (λ _. 0) otherwise λ _. 11 * e.machine.line;
       frames = e.frames;
       words = e.machine.words;
       printed = e.machine.printed;
-      pause = if p then (λ _. record_from (recorded_of e)) else λ _. record_from none_of;
+      pause = if p then (λ _. record_from (recorded_of e)) otherwise λ _. record_from none_of;
       strips = record {
-        heap = if p then (λ _. h) else λ _. replicate (length h) (pos 0);
+        heap = if p then (λ _. h) otherwise λ _. replicate (length h) (pos 0);
         output = o;
         registers = g;
-        stack = if p then (λ _. k) else λ _. replicate (length k) 0;
+        stack = if p then (λ _. k) otherwise λ _. replicate (length k) 0;
       };
     }
 
@@ -73,7 +73,7 @@ module _ {e : Meter} {stack : List ℕ} {heap : List ℤ} {r : Answer} {q : Reco
             ap (λ (a : Answer). answer_of a (strips_of heap o g stack)) w.is
             ∙ ap (λ (q : Record). record {
               number = e.machine.number;
-              position = if eqb e.machine.number 0 then (λ _. 0) else λ _. 11 * e.machine.line;
+              position = if eqb e.machine.number 0 then (λ _. 0) otherwise λ _. 11 * e.machine.line;
               frames = e.frames;
               words = e.machine.words;
               printed = e.machine.printed;
@@ -92,7 +92,7 @@ module _ {e : Meter} {stack : List ℕ} {heap : List ℤ} {r : Answer} {q : Reco
             ap (λ (x : Answer). answer_of x (strips_of heap' o g stack')) w.is
             ∙ ap (λ (q : Record). record {
               number = e.machine.number;
-              position = if eqb e.machine.number 0 then (λ _. 0) else λ _. 11 * e.machine.line;
+              position = if eqb e.machine.number 0 then (λ _. 0) otherwise λ _. 11 * e.machine.line;
               frames = e.frames;
               words = e.machine.words;
               printed = e.machine.printed;
@@ -101,7 +101,7 @@ module _ {e : Meter} {stack : List ℕ} {heap : List ℤ} {r : Answer} {q : Reco
             }) z
             ∙ ap₂ (λ (h : List ℤ) (k : List ℕ). record {
               number = e.machine.number;
-              position = if eqb e.machine.number 0 then (λ _. 0) else λ _. 11 * e.machine.line;
+              position = if eqb e.machine.number 0 then (λ _. 0) otherwise λ _. 11 * e.machine.line;
               frames = e.frames;
               words = e.machine.words;
               printed = e.machine.printed;

@@ -11,14 +11,14 @@ use lib.Seq.{drop-cons}
 use lib.Dec.{leb}
 use borrow.Author.Tests.{le-leb, lt-leb, leb-true}
 use Rattle.base.specs.laws.Tests.{and-true}
-use Rattle.base.specs.Choice.{if◌then◌else◌, option}
+use Rattle.base.specs.Choice.{if◌then◌otherwise◌, option}
 use Rattle.frames.specs.Lines.{digit_of, digits}
 use Rattle.player.specs.promises.Reading.{digit_or, number_or}
 
 -- A DIGIT
 
 abbrev pick : (w x y z : Bool) (a b : ℕ) → ℕ
-pick w x y z a b = option (if w && x then (λ _. some a) else λ _. if y && z then (λ _. some b) else λ _. none) 16 λ d. d
+pick w x y z a b = option (if w && x then (λ _. some a) otherwise λ _. if y && z then (λ _. some b) otherwise λ _. none) 16 λ d. d
 
 digit-is : (w x y z : Bool) (b : ℕ) → leb 48 b ≡ w → leb b 57 ≡ x → leb 97 b ≡ y → leb b 102 ≡ z
     → digit_or b ≡ pick w x y z (b - 48) (b - 87)
@@ -85,15 +85,15 @@ starts {s} {at} {count} {end} e h k =
 pub digit-small : (b n : ℕ) → digit_of b ≡ some n → n < 16
 digit-small b n e = first (leb 48 b && leb b 57) refl e
   where
-    second : (x : Bool) → (leb 97 b && leb b 102) ≡ x → (if x then (λ _. some (b - 87)) else λ _. none) ≡ some n → n < 16
+    second : (x : Bool) → (leb 97 b && leb b 102) ≡ x → (if x then (λ _. some (b - 87)) otherwise λ _. none) ≡ some n → n < 16
     second true q f =
         let t = and-true (leb 97 b) (leb b 102) q in
         let z : b - 87 ≡ n = cc in
         omega (arith, leb-true 97 b t.0, leb-true b 102 t.1)
     second false q f = absurd (let z : ◌≡◌ {A = ℕ} 0 1 = cc in omega arith)
 
-    first : (x : Bool) → (leb 48 b && leb b 57) ≡ x → (if x then (λ _. some (b - 48)) else λ _. if leb 97 b && leb b 102 then (λ _. some
-        (b - 87)) else λ _. none) ≡ some n → n < 16
+    first : (x : Bool) → (leb 48 b && leb b 57) ≡ x → (if x then (λ _. some (b - 48)) otherwise λ _. if leb 97 b && leb b 102 then (λ _. some
+        (b - 87)) otherwise λ _. none) ≡ some n → n < 16
     first true q f =
         let t = and-true (leb 48 b) (leb b 57) q in
         let z : b - 48 ≡ n = cc in

@@ -8,7 +8,7 @@ use lib.ListN.{length, get_or, set}
 use lib.IntN.{ℤ, pos}
 use lib.Dec.{ltb, leb, eqb}
 use borrow.Author.Tests.{lt-ltb, le-ltb, le-leb, lt-leb, eq-eqb, ne_eqb}
-use Rattle.base.specs.Choice.{if◌then◌else◌}
+use Rattle.base.specs.Choice.{if◌then◌otherwise◌}
 use Rattle.base.specs.Word.{low, signed, modulus}
 use Rattle.base.specs.laws.WordLaws.{low_signed}
 use Rattle.frames.specs.Machine.{State, Turn, goes, bad, sure, word, reference, element, heap_word}
@@ -256,7 +256,7 @@ a-three {stack} {height} {at} {i} {j} {p} h q l a b w =
       says = λ s e f k.
           third_of stack height i j (2175 + height) h a b refl s e f k
           ∙ w.says (λ a b. word (get_or stack (2175 + height) 0) λ c. k a b c)
-          ∙ ap (λ (t : Turn). if ltb 0 p.fine then (λ _. t) else λ _. bad) (word-yes (get_or stack (2175 + height) 0) _ c);
+          ∙ ap (λ (t : Turn). if ltb 0 p.fine then (λ _. t) otherwise λ _. bad) (word-yes (get_or stack (2175 + height) 0) _ c);
       first = w.first;
       second = w.second;
       third = λ _. c;

@@ -11,7 +11,7 @@ use lib.ListN.{length, get_or, get_elem?, set, drop, length-drop, length-set}
 use lib.Seq.{set_out, drop-cons, drop-drop, get_or-set_same, get_or-set_other}
 use lib.Dec.{ltb, eqb}
 use borrow.Author.Tests.{ltb-true, ltb-false, lt-ltb, eq-eqb, ne_eqb}
-use Rattle.base.specs.Choice.{if◌then◌else◌, option}
+use Rattle.base.specs.Choice.{if◌then◌otherwise◌, option}
 use Rattle.base.specs.Outcome.{Outcome, accepted, refused, ◌>>=◌}
 use Rattle.frames.specs.Lines.{Line, line, digit_of, digits, line_feed_lem, single_line, no_more, lines_from, lines}
 use Rattle.frames.specs.Machine.{Turn, bad, sure, entered}
@@ -100,7 +100,7 @@ line-by {B} s other k =
     ∙ ap (λ (o : Option Line). option o other λ x. k x (drop 11 s)) (sym (one_line s none (λ x _. some x)))
   where
     feed : (c x b : ℕ) (t : List ℕ) (q : Bool) → t ≡ drop 11 s
-        → (if q then (λ _. k (line c x) t) else λ _. other) ≡ option (if q then (λ _. some (line c x)) else λ _. none) other λ x. k x
+        → (if q then (λ _. k (line c x) t) otherwise λ _. other) ≡ option (if q then (λ _. some (line c x)) otherwise λ _. none) other λ x. k x
         (drop 11 s)
     feed c x b t true e = ap (k (line c x)) e
     feed c x b t false e = refl
@@ -118,7 +118,7 @@ unfolding line_in
 view s = subst (Line? s) (sym (one_line s none (λ x _. some x))) (by (value 2 0 s) refl (value 8 0 (drop 2 s)) refl (drop 8
     (drop 2 s)) refl)
   where
-    feed : (c x : ℕ) (q : Bool) → c < 256 → x < 4294967296 → 11 ≤ length s → Line? s (if q then (λ _. some (line c x)) else λ _. none)
+    feed : (c x : ℕ) (q : Bool) → c < 256 → x < 4294967296 → 11 ≤ length s → Line? s (if q then (λ _. some (line c x)) otherwise λ _. none)
     feed c x true l m n = a-line l m n
     feed c x false l m n = no_line
 
@@ -180,7 +180,7 @@ lines-on : (s : List ℕ) (f at : ℕ) → Lined s at
     → lines_from (suc f) at (drop at s) ≡ (lines_from f (at + 11) (drop (at + 11) s) >>= λ xs. accepted (unpacked (word_at s at) ∷ xs))
 unfolding lines_from
 lines-on s f at w =
-    ap (λ (b : Bool). if b then (λ _. accepted []) else λ _. single_line (drop at s) (refused 69 at) λ x t. lines_from f
+    ap (λ (b : Bool). if b then (λ _. accepted []) otherwise λ _. single_line (drop at s) (refused 69 at) λ x t. lines_from f
     (at + 11) t >>= λ xs. accepted (x ∷ xs))
     (no-more (drop at s) (omega (arith, length-drop at s, w.within)))
     ∙ line-by (drop at s) (refused 69 at) (λ x t. lines_from f (at + 11) t >>= λ xs. accepted (x ∷ xs))
@@ -208,7 +208,7 @@ unfolding lines_from
 lines-stop s zero at l h =
     rw (no-more (drop at s) (omega (arith, length-drop at s, l))) refl
 lines-stop s (suc f) at l h =
-    ap (λ (b : Bool). if b then (λ _. accepted []) else λ _. single_line (drop at s) (refused 69 at) λ x t. lines_from f
+    ap (λ (b : Bool). if b then (λ _. accepted []) otherwise λ _. single_line (drop at s) (refused 69 at) λ x t. lines_from f
     (at + 11) t >>= λ xs. accepted (x ∷ xs))
     (no-more (drop at s) (omega (arith, length-drop at s, l)))
     ∙ line-by (drop at s) (refused 69 at) (λ x t. lines_from f (at + 11) t >>= λ xs. accepted (x ∷ xs))
@@ -353,7 +353,7 @@ number-none s at n r b e l = by (value n 0 (drop at s)) refl (e ∙ value-is n 0
 
 -- what stands behind so many bytes
 abbrev parts : List ℕ → (at : ℕ) → (code operand : Option ℕ) → Option Line
-parts s at o p = option o none λ c. option p none λ x. if eqb (get_or s (at + 10) 0) 10 then (λ _. some (line c x)) else λ _. none
+parts s at o p = option o none λ c. option p none λ x. if eqb (get_or s (at + 10) 0) 10 then (λ _. some (line c x)) otherwise λ _. none
 
 word-parts : (s : List ℕ) (at : ℕ) → at + 11 ≤ length s → word_at s at ≡ packed (parts s at (value 2 0 (drop at s)) (value 8 0 (drop
     (at + 2) s)))
@@ -368,7 +368,7 @@ word-parts s at h =
 whole : (s : List ℕ) (at code operand two : ℕ) → at ≤ length s → 11 ≤ length s - at → code ≡ number_or s at 2 → code < 4294967296
     → two ≡ at + 2
     → operand ≡ number_or s two 8 → operand < 4294967296
-    → word_at s at ≡ packed (if eqb (get_or s (at + 10) 0) 10 then (λ _. some (line code operand)) else λ _. none)
+    → word_at s at ≡ packed (if eqb (get_or s (at + 10) 0) 10 then (λ _. some (line code operand)) otherwise λ _. none)
 whole s at code operand two h l e b t f c =
     word-parts s at (omega (arith, h, l))
     ∙ ap₂ (λ (o p : Option ℕ). packed (parts s at o p)) (number-some s at 2 code e b)
@@ -407,7 +407,7 @@ module _ {s : List ℕ} {at : ℕ} where
       let z : get_or s (at + 10) 0 ≡ feed = ap (λ (k : ℕ). get_or s k 0) (sym i) ∙ sym j in
       record {
         is = sym (whole s at code operand two h l e b t f c
-            ∙ ap (λ (q : Bool). packed (if q then (λ _. some (line code operand)) else λ _. none)) (ne_eqb (get_or s (at + 10) 0) 10 λ y. o
+            ∙ ap (λ (q : Bool). packed (if q then (λ _. some (line code operand)) otherwise λ _. none)) (ne_eqb (get_or s (at + 10) 0) 10 λ y. o
             (sym z ∙ y)));
       }
 
@@ -419,7 +419,7 @@ module _ {s : List ℕ} {at : ℕ} where
       let z : get_or s (at + 10) 0 ≡ feed = ap (λ (k : ℕ). get_or s k 0) (sym i) ∙ sym j in
       record {
         is = sym (whole s at code operand two h l e b t f c
-            ∙ ap (λ (q : Bool). packed (if q then (λ _. some (line code operand)) else λ _. none)) (eq-eqb (get_or s (at + 10) 0) 10 (z
+            ∙ ap (λ (q : Bool). packed (if q then (λ _. some (line code operand)) otherwise λ _. none)) (eq-eqb (get_or s (at + 10) 0) 10 (z
             ∙ o)));
       }
 

@@ -16,7 +16,7 @@ use Rattle.frames.specs.Lines.{Line, lines}
 use Rattle.frames.specs.Operations as Operations
 use Rattle.frames.specs.Operations.{Strips, answer, begins, going_on, run, continue}
 use Rattle.frames.specs.Parts.{run_frames}
-use Rattle.frames.specs.laws.Turns.{Within, Normal, registers-normal}
+use Rattle.frames.proofs.laws.Turns.{Within, Normal, registers-normal}
 use Rattle.player.specs.declared.rounds.Meter.{Meter}
 use Rattle.player.specs.declared.run.Answer.{Answer}
 use Rattle.player.specs.declared.run.Limits.{Limits}

@@ -7,7 +7,7 @@ use lib.ListN.{length, get_or, set, take, drop, length-drop, drop_of_length-le}
 use lib.Seq.{take_all}
 use lib.Dec.{ltb, eqb}
 use borrow.Author.Tests.{lt-ltb, le-ltb, eq-eqb, ne_eqb}
-use Rattle.base.specs.Choice.{if◌then◌else◌}
+use Rattle.base.specs.Choice.{if◌then◌otherwise◌}
 use Rattle.device.specs.Device.{Device, registers, sample, after_get, after_put}
 use Rattle.device.specs.promises.Holding as Holding
 use Rattle.device.specs.promises.Holding.{held_in, registers_of, Alters, Looks}
@@ -158,7 +158,7 @@ module _ {x : ℕ} {tape : List ℕ} {m : Machine} {g : List ℕ} where
         says = λ A k h o z.
             yes-is (eqb (m.marks + 1) 100) _ _ (eq-eqb (m.marks + 1) 100 (omega (arith, l, q, b)))
             ∙ ap (λ (u : List ℕ). goes (state_of (served_to m m.height (if ltb m.tape (length u) then
-            (λ _. m.tape + 1) else λ _. m.tape) 0) k h o
+            (λ _. m.tape + 1) otherwise λ _. m.tape) 0) k h o
             (registers (sample (device_in u g m.tape))))) z
             ∙ ap₂ (λ (y : ℕ) (u : List ℕ). goes (state_of (served_to m m.height y 0) k h o u)) w.count w.shows
             ∙ sym (ap (λ (r : Machine). turn_of r k h o g') e);

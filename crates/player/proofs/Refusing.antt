@@ -7,7 +7,7 @@ use mathlib.Core.Option.{none, some}
 use mathlib.Core.Path.{◌≡◌, refl, sym, ap, ◌∙◌}
 use lib.ListN.{length}
 use borrow.Author.Tests.{lt-ltb, le-ltb, le-leb, lt-leb, eq-eqb, ne_eqb}
-use Rattle.base.specs.Choice.{if◌then◌else◌}
+use Rattle.base.specs.Choice.{if◌then◌otherwise◌}
 use Rattle.frames.specs.Lines.{Line}
 use Rattle.frames.specs.Operations as Operations
 use Rattle.frames.specs.Operations.{Strips}
@@ -36,7 +36,7 @@ refuses : (l : Limits) (heap registers stack r : ℕ) → 0 < r
     → Unfit l heap registers stack r
 refuses l heap registers stack r z f =
     record {
-      says = λ m p q t. f m p q t ∙ sym (ap (λ (b : Bool). if b then (λ _. some r) else λ _. none) (lt-ltb 0 r z));
+      says = λ m p q t. f m p q t ∙ sym (ap (λ (b : Bool). if b then (λ _. some r) otherwise λ _. none) (lt-ltb 0 r z));
       few = λ h. absurd (omega (arith, h, z));
       paid = λ h. absurd (omega (arith, h, z));
       sixteen = λ h. absurd (omega (arith, h, z));

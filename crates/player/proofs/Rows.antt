@@ -8,7 +8,7 @@ use lib.ListN.{length, get_or, set}
 use lib.IntN.{ℤ, pos}
 use lib.Dec.{ltb, leb, eqb}
 use borrow.Author.Tests.{lt-ltb, le-ltb, le-leb, lt-leb, eq-eqb, ne_eqb}
-use Rattle.base.specs.Choice.{if◌then◌else◌}
+use Rattle.base.specs.Choice.{if◌then◌otherwise◌}
 use Rattle.base.specs.Word.{low}
 use Rattle.frames.specs.Machine as Machine
 use Rattle.frames.specs.Machine.{State, Around, Turn, goes, ends, bad, sure, word, inner, field, leave}
@@ -78,9 +78,9 @@ inner-yes s c k l e = sure-yes (leb 1 s.calls) _ (le-leb 1 s.calls l) ∙ ap k (
 
 field_at : (stack : List ℕ) (heap : List ℤ) (m : Machine) (x c j : ℕ) → 1 ≤ m.calls → c ≡ 34 * (m.calls - 1) → 32 ≤ x
     → Field m.words (get_or stack c 0) x j → (o : List ℤ) (g : List ℕ) (k : ℕ → Turn)
-    → (inner (state_of m stack heap o g) λ c. if ltb x 32 then (λ _. word (get_or stack (c + 2 + x) 0) k) else λ _.
+    → (inner (state_of m stack heap o g) λ c. if ltb x 32 then (λ _. word (get_or stack (c + 2 + x) 0) k) otherwise λ _.
     field (state_of m stack heap o g) c x λ j. k (low 32 (get_or heap j (pos 0))))
-    ≡ (if ltb j m.words then (λ _. k (low 32 (get_or heap j (pos 0)))) else λ _. bad)
+    ≡ (if ltb j m.words then (λ _. k (low 32 (get_or heap j (pos 0)))) otherwise λ _. bad)
 field_at stack heap m x c j l e b w o g k =
     inner-yes (state_of m stack heap o g) c _ l e ∙ no-is (ltb x 32) _ _ (le-ltb x 32 b)
     ∙ w.says (state_of m stack heap o g) c refl refl (λ j. k (low 32 (get_or heap j (pos 0))))

@@ -8,7 +8,7 @@ use lib.ListN.{length, set}
 use lib.IntN.{ℤ}
 use lib.Dec.{ltb, eqb}
 use borrow.Author.Tests.{lt-ltb, le-ltb, eq-eqb, ne_eqb}
-use Rattle.base.specs.Choice.{if◌then◌else◌}
+use Rattle.base.specs.Choice.{if◌then◌otherwise◌}
 use Rattle.base.specs.Word.{modulus}
 use Rattle.frames.specs.Machine as Machine
 use Rattle.frames.specs.Machine.{State, Around, Turn, goes, ends, bad, leave, sure, allowed, word, room}
@@ -53,10 +53,10 @@ zero-yes x k h = sure-yes (eqb x 0) k (eq-eqb x 0 (omega (arith, h)))
 pub zero-no : (x : ℕ) (k : Unit {0} → Turn) → 0 < x → sure (eqb x 0) k ≡ bad
 zero-no x k h = sure-no (eqb x 0) k (ne_eqb x 0 λ e. omega (arith, h, e))
 
-pub yes-is : {B : Type 0} (b : Bool) (x y : Unit {0} → B) → b ≡ true → (if b then x else y) ≡ x tt
+pub yes-is : {B : Type 0} (b : Bool) (x y : Unit {0} → B) → b ≡ true → (if b then x otherwise y) ≡ x tt
 yes-is b x y e = rw e refl
 
-pub no-is : {B : Type 0} (b : Bool) (x y : Unit {0} → B) → b ≡ false → (if b then x else y) ≡ y tt
+pub no-is : {B : Type 0} (b : Bool) (x y : Unit {0} → B) → b ≡ false → (if b then x otherwise y) ≡ y tt
 no-is b x y e = rw e refl
 
 module _ {f : Machine.Does} {x : ℕ} {m : Machine} {before : List ℕ} where

@@ -1,6 +1,6 @@
 -- Document 02, (v), "Tidy printing of a lesson": the whole operation as a definition.
 use Rattle.std.specs.Prelude.{ℕ, ◌≡◌, List, length, ltb}
-use Rattle.base.specs.Choice.{if◌then◌else◌}
+use Rattle.base.specs.Choice.{if◌then◌otherwise◌}
 use Rattle.base.specs.Codes.{table_too_short, table_least, text_too_long}
 use Rattle.base.specs.Outcome.{Outcome, accepted, ◌>>=◌}
 use Rattle.base.specs.Write.{WriteAnswer, WriteResult, write_refusal, write_result}
@@ -17,7 +17,7 @@ print_result o before = write_result text_too_long (o >>= λ p. accepted (text p
 -- the strip held before
 unfoldable pub print : List ℕ → (table : ℕ) → (before : List ℕ) → WriteResult
 print s table before =
-    if ltb table table_least then (λ _. record { answer = write_refusal table_too_short 0; strip = before }) else λ _.
+    if ltb table table_least then (λ _. record { answer = write_refusal table_too_short 0; strip = before }) otherwise λ _.
     print_result (checking s) before
 
 -- the answer, the work table and the strip that are right for a source and what the work table and the strip held before

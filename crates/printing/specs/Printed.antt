@@ -4,7 +4,7 @@
 use Rattle.std.specs.Prelude.{ℕ, zero, suc, ◌+◌, ◌/◌, ◌%◌, List, [], ◌∷◌, ◌++◌, Bool, true, false, ◌||◌, eqb, ltb, leb}
 use Rattle.std.proofs.Math.Option.{Option, none, some}
 use Rattle.base.specs.Bytes.{bytes}
-use Rattle.base.specs.Choice.{if◌then◌else◌}
+use Rattle.base.specs.Choice.{if◌then◌otherwise◌}
 use Rattle.base.specs.Word.{per_unit}
 use Rattle.lexer.specs.Bytes.{b_space, b_line_feed, b_zero, b_dot}
 use Rattle.lexer.specs.Kinds.{Word, words, word_kind_lem, k_out, k_println, k_get, k_put, k_literal, k_fixed_literal, k_boolean, k_class, k_else, k_extends}
@@ -53,7 +53,7 @@ marks =
 -- the text of the first entry of a kind
 abbrev pub text_in : List Word → ℕ → List ℕ
 text_in [] k = []
-text_in (w ∷ ws) k = if eqb w.kind k then (λ _. w.text) else λ _. text_in ws k
+text_in (w ∷ ws) k = if eqb w.kind k then (λ _. w.text) otherwise λ _. text_in ws k
 
 -- the spelling of a word of the lexer's table or of a mark
 unfoldable pub spelling : ℕ → List ℕ
@@ -72,7 +72,7 @@ name_token x = record { kind = word_kind_lem x; text = x }
 -- the decimal digits of a number, without leading zeros. Each turn leaves a smaller number, so fuel above the number is enough.
 unfoldable pub digits_of : (fuel : ℕ) → ℕ → List ℕ
 digits_of zero n = []
-digits_of (suc f) n = if ltb n 10 then (λ _. (b_zero + n) ∷ []) else λ _. digits_of f (n / 10) ++ (b_zero + n % 10) ∷ []
+digits_of (suc f) n = if ltb n 10 then (λ _. (b_zero + n) ∷ []) otherwise λ _. digits_of f (n / 10) ++ (b_zero + n % 10) ∷ []
 
 -- document 01: "A literal is a run of decimal digits"; document 02, (i): two or more do not begin with 0
 unfoldable pub digits : ℕ → List ℕ
@@ -304,7 +304,7 @@ program_tokens p =
 
 -- what stands after a token of a kind
 unfoldable pub separator : ℕ → ℕ
-separator k = if eqb k k_semicolon || eqb k k_open_brace || eqb k k_close_brace then (λ _. b_line_feed) else λ _. b_space
+separator k = if eqb k k_semicolon || eqb k k_open_brace || eqb k k_close_brace then (λ _. b_line_feed) otherwise λ _. b_space
 
 -- tokens, each with what stands after it
 unfoldable pub render : List Lexeme → List ℕ

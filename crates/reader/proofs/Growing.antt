@@ -16,7 +16,7 @@ use Rattle.lexer.specs.Tokens.{Token, tokens}
 use Rattle.lexer.specs.declared.Lexed.{Lexed}
 use Rattle.lexer.specs.declared.Lexed.TheVariants.{Tokens}
 use Rattle.lexer.specs.promises.Rows.{Rows, Lexes}
-use Rattle.lexer.specs.laws.RowLaws.{accepted-of-answer, refused-of-answer}
+use Rattle.lexer.proofs.laws.RowLaws.{accepted-of-answer, refused-of-answer}
 use Rattle.parser.specs.declared.answer.Answer.{Answer}
 use Rattle.parser.specs.declared.answer.Answer.TheVariants.{At, Bad}
 use Rattle.parser.specs.Tree.{Program}

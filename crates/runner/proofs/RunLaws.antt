@@ -25,7 +25,7 @@ use Rattle.typecheck.specs.promises.CheckPost.{Checked, FindsProgram, Leaves}
 use Rattle.driver.specs.declared.calls.Sizes.{Sizes}
 use Rattle.semantics.specs.Run.{Strips, refusal, RunMeets, Runs}
 use Rattle.semantics.specs.Run as Run
-use Rattle.guarantees.specs.laws.Literals.{small, literals-fit}
+use Rattle.guarantees.proofs.laws.Literals.{small, literals-fit}
 use Rattle.interpreter.specs.declared.state.Bounds.{Bounds}
 use Rattle.interpreter.specs.declared.report.Ended.{Ended}
 use Rattle.interpreter.specs.promises.Running.{Runnable, Roomy, end_answer_of, Executed}

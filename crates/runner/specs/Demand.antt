@@ -13,7 +13,7 @@ use Rattle.semantics.specs.Limits.{Limits, Report, run}
 use Rattle.semantics.specs.Run.{RunAnswer, Strips, limits_of_lem, unfit, RunMeets, Runs}
 use Rattle.soundness.specs.Results.{Finish, ByLimit, ◌⊑◌, Begins}
 use Rattle.acceptance.specs.Accepted.{Allowed, allowed-accepted}
-use Rattle.guarantees.specs.Demand as Machine
+use Rattle.guarantees.proofs.Demand as Machine
 use Rattle.runner.specs.laws.DemandLaws.{one_answer, ends_as, meets, shown-is, registers-are}
 
 -- a call of Run for the lesson s with a tape, by its contract: fit arguments (no refusal 1, 2, 3 or 62), what was lent, the answer, and

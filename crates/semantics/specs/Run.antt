@@ -2,7 +2,7 @@
 -- definition.
 use Rattle.std.specs.Prelude.{ℕ, ◌≡◌, List, [], ◌++◌, ◌||◌, not, length, drop, replicate, eqb, ltb, ℤ, pos}
 use Rattle.std.proofs.Math.Option.{Option, none, some}
-use Rattle.base.specs.Choice.{if◌then◌else◌, option}
+use Rattle.base.specs.Choice.{if◌then◌otherwise◌, option}
 use Rattle.base.specs.Outcome.{Outcome, accepted, refused}
 use Rattle.base.specs.Codes.{table_too_short, table_least, call_limit_out_of_range, calls_most, heap_too_long, heap_most}
 use Rattle.base.specs.Codes.{registers_not_sixteen, registers_count}
@@ -31,10 +31,10 @@ limits_of_lem budget calls m = record { budget = budget; calls = calls; heap = l
 -- refusals 1, 2, 3 and 62
 abbrev pub unfit : (calls : ℕ) → Strips → Option ℕ
 unfit calls m =
-    if ltb (length m.table) table_least then (λ _. some table_too_short) else λ _.
-    if eqb calls 0 || ltb calls_most calls then (λ _. some call_limit_out_of_range) else λ _.
-    if ltb heap_most (length m.heap) then (λ _. some heap_too_long) else λ _.
-    if not (eqb (length m.registers) registers_count) then (λ _. some registers_not_sixteen) else λ _.
+    if ltb (length m.table) table_least then (λ _. some table_too_short) otherwise λ _.
+    if eqb calls 0 || ltb calls_most calls then (λ _. some call_limit_out_of_range) otherwise λ _.
+    if ltb heap_most (length m.heap) then (λ _. some heap_too_long) otherwise λ _.
+    if not (eqb (length m.registers) registers_count) then (λ _. some registers_not_sixteen) otherwise λ _.
     none
 
 -- the strips after every other end: work table and heap strip all 0; printed numbers lead the output strip, the rest of it unchanged; and

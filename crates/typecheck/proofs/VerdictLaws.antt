@@ -11,7 +11,7 @@ use Rattle.base.specs.Outcome.{Outcome, accepted, refused, ◌>>=◌}
 use Rattle.base.specs.laws.Tests.{apart}
 use Rattle.base.specs.promises.Table.{c_next}
 use Rattle.lexer.specs.Tokens.{Token}
-use Rattle.lexer.specs.laws.RowLaws.{token-of}
+use Rattle.lexer.proofs.laws.RowLaws.{token-of}
 use Rattle.parser.specs.Tree.{Class, Program}
 use Rattle.parser.specs.Stream.{name_at}
 use Rattle.parser.specs.Grammar.{DerivesProgram, a_program}

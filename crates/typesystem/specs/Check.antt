@@ -1,6 +1,6 @@
 -- Document 01, "What each operation refuses", Check: the whole operation as a definition.
 use Rattle.std.specs.Prelude.{ℕ, ◌≡◌, List, [], ◌∷◌, map, length, ltb}
-use Rattle.base.specs.Choice.{if◌then◌else◌}
+use Rattle.base.specs.Choice.{if◌then◌otherwise◌}
 use Rattle.base.specs.Outcome.{Outcome, accepted, refused, ◌>>=◌}
 use Rattle.base.specs.Codes.{success, table_too_short, table_least}
 use Rattle.parser.specs.Tree.{Method, Class, Program}
@@ -56,7 +56,7 @@ check_answer (accepted p) = record { number = success; position = 0; classes = l
 check_answer (refused n p) = check_refusal n p
 
 unfoldable pub check : List ℕ → (table : ℕ) → CheckAnswer
-check s table = if ltb table table_least then (λ _. check_refusal table_too_short 0) else λ _. check_answer (checking s)
+check s table = if ltb table table_least then (λ _. check_refusal table_too_short 0) otherwise λ _. check_answer (checking s)
 
 -- the answer and the work table that are right for a source and what the work table held before
 pub record Checks (s before : List ℕ) (a : CheckAnswer) (after : List ℕ) : Type 0 where

@@ -2,7 +2,7 @@
 -- can't be a type, be extended or be created.
 use Rattle.std.specs.Prelude.{ℕ, zero, suc, ◌+◌, List, [], ◌∷◌, ◌++◌, Bool, true, false, ◌||◌, length}
 use Rattle.std.proofs.Math.Option.{Option, none, some}
-use Rattle.base.specs.Choice.{if◌then◌else◌, option}
+use Rattle.base.specs.Choice.{if◌then◌otherwise◌, option}
 use Rattle.base.specs.Bytes.{same}
 use Rattle.parser.specs.Tree.{Element, Element.int, Element.boolean, Element.fixed, Element.class, Ty, Ty.plain, Ty.array_of}
 use Rattle.parser.specs.Tree.{Numeral, Numeral.int_literal, Numeral.fixed_literal, Variable, Method, Class}
@@ -19,11 +19,11 @@ text_of v = v.name.text
 
 unfoldable pub class_named : List Class → List ℕ → Option Class
 class_named [] c = none
-class_named (k ∷ ks) c = if same k.name.text c then (λ _. some k) else λ _. class_named ks c
+class_named (k ∷ ks) c = if same k.name.text c then (λ _. some k) otherwise λ _. class_named ks c
 
 unfoldable pub method_named_lem : List Method → List ℕ → Option Method
 method_named_lem [] m = none
-method_named_lem (x ∷ xs) m = if same x.name.text m then (λ _. some x) else λ _. method_named_lem xs m
+method_named_lem (x ∷ xs) m = if same x.name.text m then (λ _. some x) otherwise λ _. method_named_lem xs m
 
 -- a variable's place in its list, and its type
 pub record Slot : Type 0 where
@@ -36,7 +36,7 @@ moved n s = record { place = n + s.place; type = s.type }
 unfoldable pub variable_named : List Variable → List ℕ → Option Slot
 variable_named [] x = none
 variable_named (v ∷ vs) x =
-    if same v.name.text x then (λ _. some (record { place = 0; type = v.type.type })) else λ _.
+    if same v.name.text x then (λ _. some (record { place = 0; type = v.type.type })) otherwise λ _.
     option (variable_named vs x) none λ s. some (moved 1 s)
 
 -- CHAINS

@@ -1,7 +1,7 @@
 -- Document 01, "What each operation refuses", Check up to the bodies: refusals 20 to 28, in the order in which they are looked for.
 use Rattle.std.specs.Prelude.{ℕ, List, [], ◌∷◌, Bool, true, false, ◌&&◌, ◌||◌, length, drop, ltb}
 use Rattle.std.proofs.Math.Option.{Option, none, some}
-use Rattle.base.specs.Choice.{if◌then◌else◌, option}
+use Rattle.base.specs.Choice.{if◌then◌otherwise◌, option}
 use Rattle.base.specs.Outcome.{Outcome, accepted, refused, ◌>>=◌}
 use Rattle.base.specs.Codes.{class_repeated, parent_unknown, chain_endless, field_repeated, type_unknown, method_repeated, bad_redeclaration}
 use Rattle.base.specs.Codes.{variable_repeated, too_many_variables, variables_most}
@@ -13,7 +13,7 @@ use Rattle.typesystem.specs.ClassTable.{nearest_method}
 unfoldable pub distinct_classes : (earlier : List (List ℕ)) → List Class → Outcome (Unit {0})
 distinct_classes earlier [] = accepted tt
 distinct_classes earlier (k ∷ ks) =
-    if occurs k.name.text earlier then (λ _. refused class_repeated k.name.start) else λ _.
+    if occurs k.name.text earlier then (λ _. refused class_repeated k.name.start) otherwise λ _.
     distinct_classes (k.name.text ∷ earlier) ks
 
 -- 21: the first unknown class after `extends`, at that name
@@ -29,26 +29,26 @@ known_parents G (k ∷ ks) = known_parent G k.parent >>= λ _. known_parents G k
 unfoldable pub ending_chains : List Class → List Class → Outcome (Unit {0})
 ending_chains G [] = accepted tt
 ending_chains G (k ∷ ks) =
-    if ends_within (length G) G k.name.text then (λ _. ending_chains G ks) else λ _. refused chain_endless k.name.start
+    if ends_within (length G) G k.name.text then (λ _. ending_chains G ks) otherwise λ _. refused chain_endless k.name.start
 
 -- 24, at the type
 abbrev pub known_type : List Class → TypeUse → Outcome (Unit {0})
-known_type G t = if known G (underlying t.type) then (λ _. accepted tt) else λ _. refused type_unknown t.start
+known_type G t = if known G (underlying t.type) then (λ _. accepted tt) otherwise λ _. refused type_unknown t.start
 
 -- the fields of a class: 24, 23
 unfoldable pub fields : List Class → (earlier : List (List ℕ)) → List Variable → Outcome (Unit {0})
 fields G earlier [] = accepted tt
 fields G earlier (v ∷ vs) =
     known_type G v.type >>= λ _.
-    if occurs (text_of v) earlier then (λ _. refused field_repeated v.name.start) else λ _. fields G (text_of v ∷ earlier) vs
+    if occurs (text_of v) earlier then (λ _. refused field_repeated v.name.start) otherwise λ _. fields G (text_of v ∷ earlier) vs
 
 -- parameters or locals: 24, 27 and 28 for each, after the earlier ones of the method
 unfoldable pub variables : List Class → (earlier : List (List ℕ)) → List Variable → Outcome (Unit {0})
 variables G earlier [] = accepted tt
 variables G earlier (v ∷ vs) =
     known_type G v.type >>= λ _.
-    if occurs (text_of v) earlier then (λ _. refused variable_repeated v.name.start) else λ _.
-    if ltb (length earlier) variables_most then (λ _. variables G (text_of v ∷ earlier) vs) else λ _.
+    if occurs (text_of v) earlier then (λ _. refused variable_repeated v.name.start) otherwise λ _.
+    if ltb (length earlier) variables_most then (λ _. variables G (text_of v ∷ earlier) vs) otherwise λ _.
     refused too_many_variables v.name.start
 
 -- 26: a method may redeclare one from above only with equal parameter types and a result that fits
@@ -65,11 +65,11 @@ redeclares G lower upper = same_types_lem lower.parameters upper.parameters && f
 abbrev pub redeclaration : List Class → Class → Method → Outcome (Unit {0})
 redeclaration G k m =
     option (nearest_method (drop 1 (chain G k.name.text)) m.name.text) (accepted tt) λ F.
-    if redeclares G m F.method then (λ _. accepted tt) else λ _. refused bad_redeclaration m.name.start
+    if redeclares G m F.method then (λ _. accepted tt) otherwise λ _. refused bad_redeclaration m.name.start
 
 -- 25: method name twice
 abbrev pub new_method : (earlier : List (List ℕ)) → Method → Outcome (Unit {0})
-new_method earlier m = if occurs m.name.text earlier then (λ _. refused method_repeated m.name.start) else λ _. accepted tt
+new_method earlier m = if occurs m.name.text earlier then (λ _. refused method_repeated m.name.start) otherwise λ _. accepted tt
 
 -- method heads: result type 24, 25, each parameter (24, 27, 28), last 26
 unfoldable pub heads : List Class → Class → (earlier : List (List ℕ)) → List Method → Outcome (Unit {0})

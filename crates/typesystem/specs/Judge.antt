@@ -1,7 +1,7 @@
 -- Document 01, "What each operation refuses", Check's bodies: the judging function. Each part is judged, then must fit, before the next.
 use Rattle.std.specs.Prelude.{ℕ, ◌+◌, List, [], ◌∷◌, length, eqb}
 use Rattle.std.proofs.Math.Option.{Option, none, some}
-use Rattle.base.specs.Choice.{if◌then◌else◌, option}
+use Rattle.base.specs.Choice.{if◌then◌otherwise◌, option}
 use Rattle.base.specs.Outcome.{Outcome, accepted, refused, ◌>>=◌}
 use Rattle.base.specs.Codes.{name_unknown, type_wrong, method_unknown, argument_count, this_in_main, type_unknown}
 use Rattle.parser.specs.Tree.{Place, Name, Sort, Part}
@@ -28,7 +28,7 @@ Judgement statements = Outcome (Unit {0})
 
 -- a part of type `got` must fit `want`: 31 at that part
 abbrev pub must : List Class → Expression → (want got : Ty) → Outcome (Unit {0})
-must G e want got = if fits G got want then (λ _. accepted tt) else λ _. refused type_wrong (place_e e).start
+must G e want got = if fits G got want then (λ _. accepted tt) otherwise λ _. refused type_wrong (place_e e).start
 
 -- the receiver's class: 31 if no class
 abbrev pub receiver : Expression → Ty → (List ℕ → Outcome Ty) → Outcome Ty
@@ -53,7 +53,7 @@ abbrev pub invocation : Name → ℕ → (List Variable → Outcome (Unit {0})) 
 invocation m count judgeArguments none = refused method_unknown m.start
 invocation m count judgeArguments (some F) =
     if eqb count (length F.method.parameters)
-    then (λ _. judgeArguments F.method.parameters >>= λ _. accepted F.method.result.type) else λ _.
+    then (λ _. judgeArguments F.method.parameters >>= λ _. accepted F.method.result.type) otherwise λ _.
     refused argument_count m.start
 
 module _ (G : List Class) (Γ : Context) where
@@ -68,10 +68,10 @@ module _ (G : List Class) (Γ : Context) where
   judge (this p) = option Γ.owner (refused this_in_main p.start) λ c. accepted (plain (class c))
   judge (new_array_lem p u e) =
       if known G u.element
-      then (λ _. judge e >>= λ t. must G e (plain int) t >>= λ _. accepted (array_of u.element)) else λ _.
+      then (λ _. judge e >>= λ t. must G e (plain int) t >>= λ _. accepted (array_of u.element)) otherwise λ _.
       refused type_unknown u.start
   judge (new_object_lem p c) =
-      if known G (class c.text) then (λ _. accepted (plain (class c.text))) else λ _. refused type_unknown c.start
+      if known G (class c.text) then (λ _. accepted (plain (class c.text))) otherwise λ _. refused type_unknown c.start
   judge (negation p e) = judge e >>= λ t. must G e (plain boolean) t >>= λ _. accepted (plain boolean)
   judge (binary p o l r) =
       judge l >>= λ s. option (operation o s) (refused type_wrong (place_e l).start) λ t. judge r >>= λ u. must G r s u >>= λ _. accepted t
@@ -85,7 +85,7 @@ module _ (G : List Class) (Γ : Context) where
   judge (block p ss) = judge ss
   judge (conditional p e s t) = judge e >>= λ τ. must G e (plain boolean) τ >>= λ _. judge s >>= λ _. judge t
   judge (loop p e s) = judge e >>= λ t. must G e (plain boolean) t >>= λ _. judge s
-  judge (print p e) = judge e >>= λ t. if printable t then (λ _. accepted tt) else λ _. refused type_wrong (place_e e).start
+  judge (print p e) = judge e >>= λ t. if printable t then (λ _. accepted tt) otherwise λ _. refused type_wrong (place_e e).start
   judge (assign p x e) = look_up p x >>= λ target. judge e >>= λ t. must G e target t
   judge (assign_element_lem p x i e) =
       look_up p x >>= λ target. for_array p.start target λ s.

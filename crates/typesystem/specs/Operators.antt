@@ -3,7 +3,7 @@
 -- another type is 31.
 use Rattle.std.specs.Prelude.{List, [], ◌∷◌, Bool, ◌||◌}
 use Rattle.std.proofs.Math.Option.{Option, none, some}
-use Rattle.base.specs.Choice.{if◌then◌else◌}
+use Rattle.base.specs.Choice.{if◌then◌otherwise◌}
 use Rattle.parser.specs.Tree.{Operator, Operator.and, Operator.less, Operator.plus, Operator.minus, Operator.times}
 use Rattle.parser.specs.Tree.{Element.int, Element.boolean, Element.fixed, Ty, Ty.plain}
 use Rattle.typesystem.specs.ClassTable.{same_type}
@@ -20,7 +20,7 @@ lines times = line (plain int) (plain int) ∷ line (plain fixed) (plain fixed) 
 
 unfoldable pub result_in : List Line → (left : Ty) → Option Ty
 result_in [] t = none
-result_in (line left result ∷ ls) t = if same_type left t then (λ _. some result) else λ _. result_in ls t
+result_in (line left result ∷ ls) t = if same_type left t then (λ _. some result) otherwise λ _. result_in ls t
 
 -- the type of the result, where the operator takes such a left operand
 abbrev pub operation : Operator → (left : Ty) → Option Ty

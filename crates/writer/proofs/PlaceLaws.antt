@@ -6,7 +6,7 @@ use mathlib.Core.List.{List, [], ◌∷◌}
 use mathlib.Core.Bool.{Bool, true, false}
 use mathlib.Core.Option.{Option, none, some}
 use lib.ListN.{length}
-use Rattle.base.specs.Choice.{if◌then◌else◌, option}
+use Rattle.base.specs.Choice.{if◌then◌otherwise◌, option}
 use Rattle.base.specs.Bytes.{same}
 use Rattle.base.specs.promises.Table.{c_number, c_next, rows}
 use Rattle.lexer.specs.Tokens.{Token}
@@ -74,7 +74,7 @@ place-below [] x e = absurd (none-some refl e)
 place-below (v ∷ vs) x {s} e = go (same v.name.text x) (variable_named vs x) (λ t q. place-below vs x q) e
   where
     go : (b : Bool) (o : Option Slot) → ((t : Slot) → o ≡ some t → t.place < length vs)
-        → (if b then (λ _. some (record { place = 0; type = v.type.type })) else λ _. option o none λ s. some (moved 1 s)) ≡ some s
+        → (if b then (λ _. some (record { place = 0; type = v.type.type })) otherwise λ _. option o none λ s. some (moved 1 s)) ≡ some s
         → s.place < length (v ∷ vs)
     go true o f h = let z : 0 ≡ s.place = cc in omega (arith, z)
     go false none f h = absurd (none-some refl h)

@@ -7,7 +7,7 @@ use mathlib.Core.List.{List, [], ◌∷◌, ◌++◌}
 use mathlib.Core.Bool.{Bool, true, false}
 use mathlib.Core.Option.{Option, none, some}
 use lib.ListN.{length, get_or}
-use Rattle.base.specs.Choice.{if◌then◌else◌, option}
+use Rattle.base.specs.Choice.{if◌then◌otherwise◌, option}
 use Rattle.base.specs.Bytes.{same}
 use Rattle.base.specs.Codes.{tokens_most, variables_most}
 use Rattle.base.specs.Word.{modulus}
@@ -75,8 +75,8 @@ variable-second (v ∷ vs) ws x e = go (same v.name.text x) (variable_named vs x
 
     go : (b : Bool) (o : Option Slot)
         → (o ≡ none → variable_named (vs ++ ws) x ≡ option (variable_named ws x) none λ s. some (moved (length vs) s))
-        → (if b then (λ _. some (record { place = 0; type = v.type.type })) else λ _. option o none λ s. some (moved 1 s)) ≡ none
-        → (if b then (λ _. some (record { place = 0; type = v.type.type })) else λ _. option (variable_named (vs ++ ws) x) none λ s. some (moved 1 s))
+        → (if b then (λ _. some (record { place = 0; type = v.type.type })) otherwise λ _. option o none λ s. some (moved 1 s)) ≡ none
+        → (if b then (λ _. some (record { place = 0; type = v.type.type })) otherwise λ _. option (variable_named (vs ++ ws) x) none λ s. some (moved 1 s))
         ≡ option (variable_named ws x) none λ s. some (moved (length (v ∷ vs)) s)
     go true o f h = absurd (none-some h refl)
     go false none f h = let z : 1 + length vs ≡ length (v ∷ vs) = omega arith in rw (f refl) (further (variable_named ws x) (length vs) ∙ ap (λ (n : ℕ). option (variable_named ws x) none λ s. some (moved n s)) z)

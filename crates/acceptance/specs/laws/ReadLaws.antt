@@ -4,13 +4,13 @@ use Rattle.std.specs.Prelude.{ℕ, ◌+◌, ◌≤◌, ◌<◌, ◌≡◌, refl,
 use Rattle.std.proofs.Common.{ap, ◌∙◌, subst, arith, lt-ltb, le-ltb}
 use Rattle.std.proofs.Math.Option.{Option, none, some}
 use Rattle.std.proofs.Math.Decide.{dec_lt}
-use Rattle.base.specs.Choice.{if◌then◌else◌}
+use Rattle.base.specs.Choice.{if◌then◌otherwise◌}
 use Rattle.base.specs.Codes.{source_too_long, source_most, not_in_grammar, too_deep}
 use Rattle.base.specs.laws.Lists.{get-get_d}
 use Rattle.base.specs.Outcome.{Outcome, accepted, refused}
 use Rattle.base.specs.laws.Tests.{apart}
 use Rattle.lexer.specs.Tokens.{Token, tokens}
-use Rattle.lexer.specs.laws.RowLaws.{token-of, starts-increase}
+use Rattle.lexer.proofs.laws.RowLaws.{token-of, starts-increase}
 use Rattle.parser.specs.Tree.{Program}
 use Rattle.parser.specs.Stream.{token_at, start_at, no_more}
 use Rattle.parser.specs.Parse.{Parsed, ok, bad, out, parse}
@@ -54,13 +54,13 @@ module _ (s : List ℕ) (short : length s ≤ source_most) (ts : List Token) (le
   pub at-token : (k : ℕ) → k < length ts → Viable ts k → ¬ Viable ts (k + 1) → reading s ≡ refused not_in_grammar (start_at ts k)
   at-token k l v n =
       not-parsed s short ts lexed k ((refused-within ts (proper s ts lexed) k l).1 (v, n))
-      ∙ ap (λ b. refused not_in_grammar (if b then (λ _. start_at ts k) else λ _. length s)) (lt-ltb k (length ts) l)
+      ∙ ap (λ b. refused not_in_grammar (if b then (λ _. start_at ts k) otherwise λ _. length s)) (lt-ltb k (length ts) l)
 
   pub at-end : Viable ts (length ts) → ¬ Sentence ts → reading s ≡ refused not_in_grammar (length s)
   at-end v n =
       let k = length ts in
       not-parsed s short ts lexed k ((refused-at-end ts (proper s ts lexed)).1 (v, n))
-      ∙ ap (λ b. refused not_in_grammar (if b then (λ _. start_at ts k) else λ _. length s)) (le-ltb k k (omega arith))
+      ∙ ap (λ b. refused not_in_grammar (if b then (λ _. start_at ts k) otherwise λ _. length s)) (le-ltb k k (omega arith))
 
   pub deep-program : {p : Program} {at : ℕ} → DerivesProgram ts p → program_deep p ≡ some at → reading s ≡ refused too_deep at
   deep-program {p} {at} d e = not-shallow s short ts lexed p (length ts) at (complete ts p d) e

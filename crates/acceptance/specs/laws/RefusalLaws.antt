@@ -4,7 +4,7 @@ use Rattle.std.specs.Prelude.{ℕ, zero, suc, ◌+◌, ◌≤◌, ◌≡◌, Boo
 use Rattle.std.proofs.Common.{subst, arith}
 use mathlib.Core.List.{List, [], ◌∷◌, map}
 use Rattle.std.proofs.Math.Option.{Option, none, some}
-use Rattle.base.specs.Choice.{if◌then◌else◌, option}
+use Rattle.base.specs.Choice.{if◌then◌otherwise◌, option}
 use Rattle.base.specs.Codes.{source_most, tokens_most, variables_most}
 use Rattle.base.specs.Outcome.{Outcome, accepted, refused, ◌>>=◌}
 use Rattle.base.specs.laws.Tests.{if-both}
@@ -77,7 +77,7 @@ module _ {P : ℕ → Type 0} where
   both (refused n q) k (refuses h) f = refuses h
 
   -- a test
-  either : {A : Type 0} (b : Bool) (x y : Unit {0} → Outcome A) → Refuses P (x tt) → Refuses P (y tt) → Refuses P (if b then x else y)
+  either : {A : Type 0} (b : Bool) (x y : Unit {0} → Outcome A) → Refuses P (x tt) → Refuses P (y tt) → Refuses P (if b then x otherwise y)
   either b x y r h = if-both (Refuses P) b x y r h
 
   -- a look-up

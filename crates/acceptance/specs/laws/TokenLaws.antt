@@ -4,20 +4,20 @@ use Rattle.std.specs.Prelude.{ℕ, zero, suc, ◌+◌, ◌≤◌, ◌<◌, ◌�
 use Rattle.std.proofs.Math.Path.{refl, ap}
 use Rattle.std.proofs.Common.{sym, arith, leb-false, le-leb}
 use Rattle.std.proofs.Math.ListN.{length}
-use Rattle.base.specs.Choice.{if◌then◌else◌}
+use Rattle.base.specs.Choice.{if◌then◌otherwise◌}
 use Rattle.base.specs.Codes.{tokens_most, name_too_long, leading_zero, not_three_digits, literal_too_large, too_many_tokens}
 use Rattle.base.specs.Outcome.{Outcome, accepted, refused, ◌>>=◌}
 use Rattle.lexer.specs.Tokens.{Token, Item, gap, unclosed, nothing, token, item, exceeds_length, zero_first, not_three, too_large, turn, tokens_from}
-use Rattle.lexer.specs.laws.ItemLaws.{Good, good}
+use Rattle.lexer.proofs.laws.ItemLaws.{Good, good}
 
 -- what is read on after a token, by the answers of the tests
 abbrev judged : (tooMany long zeroes digits large : Bool) (i : ℕ) → Token → Outcome (List Token) → Outcome (List Token)
 judged tooMany long zeroes digits large i t rest =
-    if tooMany then (λ _. refused too_many_tokens i) else λ _.
-    if long then (λ _. refused name_too_long i) else λ _.
-    if zeroes then (λ _. refused leading_zero i) else λ _.
-    if digits then (λ _. refused not_three_digits i) else λ _.
-    if large then (λ _. refused literal_too_large i) else λ _.
+    if tooMany then (λ _. refused too_many_tokens i) otherwise λ _.
+    if long then (λ _. refused name_too_long i) otherwise λ _.
+    if zeroes then (λ _. refused leading_zero i) otherwise λ _.
+    if digits then (λ _. refused not_three_digits i) otherwise λ _.
+    if large then (λ _. refused literal_too_large i) otherwise λ _.
     rest >>= λ ts. accepted (t ∷ ts)
 
 module _ (next next' : ℕ → ℕ → Outcome (List Token)) (count i : ℕ) (alike : (c j : ℕ) → i < j → next c j ≡ next' c j) where
@@ -45,8 +45,8 @@ any_fuel (suc f) zero s count i h k = past_end (suc f) s count i (omega arith)
 any_fuel (suc f) (suc g) s count i h k = by (leb (length s) i) refl (λ c j l. any_fuel f g s c j (omega arith) (omega arith))
   where
     by : (b : Bool) → leb (length s) i ≡ b → ((c j : ℕ) → i < j → tokens_from f s c j ≡ tokens_from g s c j)
-        → (if b then (λ _. accepted []) else λ _. turn (λ c j. tokens_from f s c j) count i (item i (drop i s)))
-        ≡ (if b then (λ _. accepted []) else λ _. turn (λ c j. tokens_from g s c j) count i (item i (drop i s)))
+        → (if b then (λ _. accepted []) otherwise λ _. turn (λ c j. tokens_from f s c j) count i (item i (drop i s)))
+        ≡ (if b then (λ _. accepted []) otherwise λ _. turn (λ c j. tokens_from g s c j) count i (item i (drop i s)))
     by true e alike = refl
     by false e alike =
         same_turn (λ c j. tokens_from f s c j) (λ c j. tokens_from g s c j) count i alike

@@ -1,6 +1,6 @@
 -- What making the index of the classes ensures: `c_class` of the row that is the number of a name leads to the class of that name, and the
 -- table is ready for the look-ups. Only this column is written, and not in the rows of `if` tokens, where a part stands.
-use Rattle.base.specs.Choice.{if◌then◌else◌}
+use Rattle.base.specs.Choice.{if◌then◌otherwise◌}
 use Rattle.std.specs.Prelude.{ℕ, zero, suc, ◌≤◌, ◌<◌, ◌≡◌, List, [], ◌∷◌, ◌++◌, map, length, eqb, ltb}
 use Rattle.base.specs.All.{All}
 use Rattle.base.specs.Outcome.{accepted}
@@ -28,7 +28,7 @@ use Rattle.declarations.specs.promises.Judgements.{FoundByName}
 
 -- `c_class` of a row cleared, but where its token is an `if`
 unfoldable pub wiped : List ℕ → ℕ → List ℕ
-wiped tab i = if eqb (col tab c_kind i) k_if then (λ _. tab) else λ _. put tab c_class i absent
+wiped tab i = if eqb (col tab c_kind i) k_if then (λ _. tab) otherwise λ _. put tab c_class i absent
 
 -- that of the first rows
 unfoldable pub cleared : ℕ → List ℕ → List ℕ
@@ -39,7 +39,7 @@ cleared (suc i) tab = wiped (cleared i tab) i
 
 -- `c_class` of a row, if it is one
 unfoldable pub indexed : List ℕ → (row class : ℕ) → List ℕ
-indexed tab row class = if ltb row absent then (λ _. put tab c_class row class) else λ _. tab
+indexed tab row class = if ltb row absent then (λ _. put tab c_class row class) otherwise λ _. tab
 
 -- the names of classes match their tokens, and each leads to the next
 pub data ClassesNamed (tab : List ℕ) (ts : List Token) : List Class → Type 0 where

@@ -1,7 +1,7 @@
 -- What judging the declarations ensures, whatever the tokens and the classes are that the table holds.
 use Rattle.std.specs.Prelude.{ℕ, ◌+◌, ◌≤◌, ◌≡◌, List, [], ◌∷◌, map, Bool, true, false, length, ltb}
 use Rattle.std.proofs.Math.Option.{Option, none, some}
-use Rattle.base.specs.Choice.{if◌then◌else◌, option}
+use Rattle.base.specs.Choice.{if◌then◌otherwise◌, option}
 use Rattle.base.specs.Codes.{variable_repeated, too_many_variables, variables_most, bad_redeclaration}
 use Rattle.base.specs.All.{All}
 use Rattle.base.specs.Outcome.{Outcome, accepted, refused, ◌>>=◌}
@@ -35,8 +35,8 @@ pub record FieldsJudged (tab : List ℕ) (n left stamp row : ℕ) (before after 
 unfoldable pub new_variable : List Class → (earlier : List (List ℕ)) → Variable → Outcome (Unit {0})
 new_variable G earlier v =
     known_type G v.type >>= λ _.
-    if occurs (text_of v) earlier then (λ _. refused variable_repeated v.name.start) else λ _.
-    if ltb (length earlier) variables_most then (λ _. accepted tt) else λ _. refused too_many_variables v.name.start
+    if occurs (text_of v) earlier then (λ _. refused variable_repeated v.name.start) otherwise λ _.
+    if ltb (length earlier) variables_most then (λ _. accepted tt) otherwise λ _. refused too_many_variables v.name.start
 
 -- ps are the others, which come before
 pub record VariableJudged (tab : List ℕ) (n others before first index row : ℕ) (r : Judged) : Type 0 where
@@ -68,7 +68,7 @@ pub record Parented (ts : List Token) (G : List Class) (k : Class) (parent : ℕ
 
 -- the answer of 26
 abbrev pub redeclared : Bool → Method → Outcome (Unit {0})
-redeclared b m = if b then (λ _. accepted tt) else λ _. refused bad_redeclaration m.name.start
+redeclared b m = if b then (λ _. accepted tt) otherwise λ _. refused bad_redeclaration m.name.start
 
 pub record CompatibleAt (tab : List ℕ) (n classes parent row : ℕ) (r : Bool) : Type 0 where
   pub says : (ts : List Token) (G : List Class) → ClassTableHeld tab n ts G → length G ≡ classes → (k : Class) → Parented ts G k parent

@@ -3,7 +3,7 @@
 use Rattle.std.specs.Prelude.{ℕ, zero, suc, ◌+◌, ◌%◌, ◌<◌, Bool, true, false, List, [], ◌∷◌, get_or, eqb}
 use Rattle.std.proofs.Common.{lit<}
 use Rattle.base.specs.All.{All, all_nil, all_cons}
-use Rattle.base.specs.Choice.{if◌then◌else◌}
+use Rattle.base.specs.Choice.{if◌then◌otherwise◌}
 use Rattle.base.specs.laws.Lists.{all_set, all_replicate}
 use Rattle.device.specs.Device.{IsByte, Device, reset, bit_value, alarm, sample_of, sample, at_step, period, got, with_flags, after_get, after_put}
 
@@ -46,14 +46,14 @@ sample-bytes {d} B = go d.tape B.tape
 pub step-bytes : {d : Device} (n : ℕ) → HoldsBytes d → HoldsBytes (at_step n d)
 step-bytes {d} n B = go (eqb (n % period) 0)
   where
-    go : (b : Bool) → HoldsBytes (if b then (λ _. sample d) else λ _. d)
+    go : (b : Bool) → HoldsBytes (if b then (λ _. sample d) otherwise λ _. d)
     go false = B
     go true = sample-bytes B
 
 pub get-bytes : {d : Device} (n : ℕ) → HoldsBytes d → HoldsBytes (after_get n d)
 get-bytes {d} n B = go (eqb n 2)
   where
-    go : (b : Bool) → HoldsBytes (if b then (λ _. with_flags false d.lost d) else λ _. d)
+    go : (b : Bool) → HoldsBytes (if b then (λ _. with_flags false d.lost d) otherwise λ _. d)
     go false = B
     go true = record { mask = B.mask; reading = B.reading; others = B.others; tape = B.tape }
 

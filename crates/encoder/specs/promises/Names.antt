@@ -3,7 +3,7 @@ use Rattle.std.specs.Prelude.{ℕ, ◌+◌, ◌*◌, ◌≤◌, ◌<◌, ◌≡�
 use Rattle.std.proofs.Math.Option.{some}
 use Rattle.std.proofs.Math.ListN.{get_elem?}
 use Rattle.base.specs.Bytes.{same}
-use Rattle.base.specs.Choice.{if◌then◌else◌}
+use Rattle.base.specs.Choice.{if◌then◌otherwise◌}
 use Rattle.lexer.specs.Tokens.{Token}
 use Rattle.lexer.specs.promises.Rows.{first_named}
 use Rattle.parser.specs.Tree.{Method, Class}
@@ -27,7 +27,7 @@ no_place = 4294967295
 -- the word of a name: the place of the first of the classes that has it, else as it was
 unfoldable pub numbered : (old place : ℕ) → List Class → List ℕ → ℕ
 numbered old i [] c = old
-numbered old i (k ∷ ks) c = if same (class_name k) c then (λ _. i) else λ _. numbered old (i + 1) ks c
+numbered old i (k ∷ ks) c = if same (class_name k) c then (λ _. i) otherwise λ _. numbered old (i + 1) ks c
 
 pub record ClassesNumbered (tab : List ℕ) (left row place : ℕ) (before after : List ℕ) : Type 0 where
   pub long : length after ≡ length before

@@ -8,7 +8,7 @@ use Rattle.std.proofs.Math.Bool.{true, false}
 use Rattle.std.proofs.Math.Option.{Option, none, some}
 use Rattle.std.proofs.Math.Numerals.{towards_numerals}
 use Rattle.std.proofs.Math.ListN.{length, get_or-eq_default}
-use Rattle.base.specs.Choice.{if◌then◌else◌, option}
+use Rattle.base.specs.Choice.{if◌then◌otherwise◌, option}
 use Rattle.lexer.specs.Tokens.{Token}
 use Rattle.lexer.specs.Kinds.{k_end, k_literal, k_class, k_false, k_length, k_new, k_public, k_return, k_this, k_true, k_and, k_less, k_plus, k_minus}
 use Rattle.lexer.specs.Kinds.{k_times, k_port, k_fixed_literal}
@@ -136,7 +136,7 @@ abbrev extends : ℕ → Bool
 extends k = going_on conjunction k || is_operator_of conjunction k
 
 -- an operator ends its left operand
-is-chosen : (b : Bool) (x : Operator) {o : Operator} → (if b then (λ _. some x) else λ _. none) ≡ some o → b ≡ true
+is-chosen : (b : Bool) (x : Operator) {o : Operator} → (if b then (λ _. some x) otherwise λ _. none) ≡ some o → b ≡ true
 is-chosen true x e = refl
 is-chosen false x e = let z : ◌≡◌ {A = ℕ} 0 1 = cc in absurd (omega arith)
 
@@ -150,7 +150,7 @@ operator-halts comparison k e = halts_at comparison k k_less (is-chosen (eqb k k
 operator-halts sum k {o} e = go (eqb k k_plus) refl e
   where
     go : (b : Bool) → eqb k k_plus ≡ b
-        → (if b then (λ _. some Operator.plus) else λ _. if eqb k k_minus then (λ _. some Operator.minus) else λ _. none) ≡ some o
+        → (if b then (λ _. some Operator.plus) otherwise λ _. if eqb k k_minus then (λ _. some Operator.minus) otherwise λ _. none) ≡ some o
         → going_on sum k ≡ false
     go true p e = halts_at sum k k_plus p refl
     go false p e = halts_at sum k k_minus (is-chosen (eqb k k_minus) Operator.minus e) refl

@@ -9,7 +9,7 @@ use Rattle.std.proofs.Math.Decide.{dec_lt}
 use borrow.Author.Tests.{eqb-true, eq-eqb, ne_eqb}
 use Rattle.std.proofs.Math.ListN.{get_or-append, get_or-eq_default}
 use Rattle.std.proofs.lemmas.List.{get_or_at}
-use Rattle.base.specs.Choice.{if◌then◌else◌, option}
+use Rattle.base.specs.Choice.{if◌then◌otherwise◌, option}
 use Rattle.base.specs.All.{All, all_nil, all_cons}
 use Rattle.lexer.specs.Tokens.{Token}
 use Rattle.lexer.specs.Kinds.{k_end, k_name, k_boolean, k_length, k_return, k_and, k_less, k_plus, k_times, k_assign, k_comma, k_semicolon, k_open, k_close}
@@ -124,7 +124,7 @@ data Kept (S : List Symbol) : Move → Type 0 where
   kept_push : {xs : List Symbol} → Fits (xs ++ S) → Kept S (push xs)
   kept-refuse : Kept S refuse
 
-kept_if : {S : List Symbol} (b : Bool) {m n : Move} → Kept S m → Kept S n → Kept S (if b then (λ _. m) else λ _. n)
+kept_if : {S : List Symbol} (b : Bool) {m n : Move} → Kept S m → Kept S n → Kept S (if b then (λ _. m) otherwise λ _. n)
 kept_if true h g = h
 kept_if false h g = g
 

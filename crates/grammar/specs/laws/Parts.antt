@@ -12,7 +12,7 @@ use Rattle.std.proofs.Math.Numerals.{towards_numerals}
 use borrow.Author.Tests.{eqb-true}
 use Rattle.std.proofs.Math.Dec.{eqb}
 use Rattle.std.proofs.Math.ListN.{length}
-use Rattle.base.specs.Choice.{if◌then◌else◌, option}
+use Rattle.base.specs.Choice.{if◌then◌otherwise◌, option}
 use Rattle.base.specs.laws.Tests.{and-true}
 use Rattle.lexer.specs.Tokens.{Token}
 use Rattle.lexer.specs.Kinds.{k_end, k_out, k_println, k_literal, k_else, k_false, k_if, k_length, k_new, k_system, k_this, k_true, k_while}
@@ -174,7 +174,7 @@ module _ (ts : List Token) (f : ℕ) (p : Below ts f) where
   new-class : (i : ℕ) → 16 * (length ts - i) + 1 < suc f → kind_at ts i ≡ k_new
       → PassesOver ts (Symbol.a_name ∷ Symbol.after_class ∷ []) (i + 1) (Meant ts Mode.postfix i)
       (if is_name_lem (kind_at ts (i + 1)) && eqb (kind_at ts (i + 2)) k_open_bracket
-      then (λ _. new_array_from ts (λ s m j. parse_as f ts m j) i) else λ _.
+      then (λ _. new_array_from ts (λ s m j. parse_as f ts m j) i) otherwise λ _.
       bind (parse_as f ts Mode.primary i) λ x j. parse_as f ts (Mode.suffixes true i x) j)
   unfolding rule
   new-class i h e = go (is_name_lem (kind_at ts (i + 1))) refl
@@ -184,7 +184,7 @@ module _ (ts : List Token) (f : ℕ) (p : Below ts f) where
 
       go : (b : Bool) → is_name_lem (kind_at ts (i + 1)) ≡ b
           → PassesOver ts (Symbol.a_name ∷ Symbol.after_class ∷ []) (i + 1) (Meant ts Mode.postfix i)
-          (if b && eqb (kind_at ts (i + 2)) k_open_bracket then (λ _. new_array_from ts (λ s m j. parse_as f ts m j) i) else λ _.
+          (if b && eqb (kind_at ts (i + 2)) k_open_bracket then (λ _. new_array_from ts (λ s m j. parse_as f ts m j) i) otherwise λ _.
           bind (parse_as f ts Mode.primary i) λ x j. parse_as f ts (Mode.suffixes true i x) j)
       go true e₁ =
           rw (element-found (a-class e₁), new-object f i (omega arith) e e₁)

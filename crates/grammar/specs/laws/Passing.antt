@@ -11,10 +11,10 @@ use Rattle.std.proofs.Math.Decide.{dec_lt}
 use borrow.Author.Tests.{eqb-true, eq-eqb}
 use Rattle.std.proofs.Math.Dec.{eqb}
 use Rattle.std.proofs.Math.ListN.{get_or-eq_default}
-use Rattle.base.specs.Choice.{if◌then◌else◌, option}
+use Rattle.base.specs.Choice.{if◌then◌otherwise◌, option}
 use Rattle.lexer.specs.Tokens.{Token}
 use Rattle.lexer.specs.Kinds.{k_end, k_boolean, k_fixed, k_if, k_int, k_port, k_system, k_while, k_open_brace, is_name_lem}
-pub use Rattle.lexer.specs.laws.ItemLaws.{kinds-apart}
+pub use Rattle.lexer.proofs.laws.ItemLaws.{kinds-apart}
 use Rattle.parser.specs.Stream.{no_more, token_at, kind_at, Level, operator_of}
 use Rattle.parser.specs.Tree.{Operator, Element, Element.int, Element.boolean, Element.class}
 use Rattle.parser.specs.Parse.{Parsed, ok, bad, bind, expect, expect_name, element_type_lem, begins_type_lem}
@@ -86,8 +86,8 @@ unfolding element_type_lem
 element-here ts i = go (eqb (kind_at ts i) k_int) (eqb (kind_at ts i) k_boolean) (is_name_lem (kind_at ts i)) refl refl refl
   where
     go : (a b c : Bool) → eqb (kind_at ts i) k_int ≡ a → eqb (kind_at ts i) k_boolean ≡ b → is_name_lem (kind_at ts i) ≡ c
-        → ElementHere ts i (if a then (λ _. some int) else λ _. if b then (λ _. some boolean) else λ _.
-        if c then (λ _. some (class (token_at ts i).text)) else λ _. none)
+        → ElementHere ts i (if a then (λ _. some int) otherwise λ _. if b then (λ _. some boolean) otherwise λ _.
+        if c then (λ _. some (class (token_at ts i).text)) otherwise λ _. none)
     go true b c p q r = an-element (an_int (eqb-true (kind_at ts i) k_int p))
     go false true c p q r = an-element (a-boolean (eqb-true (kind_at ts i) k_boolean q))
     go false false true p q r = an-element (a-class r)
@@ -184,41 +184,41 @@ module _ {ts : List Token} {A : Type 0} {Q : A → ℕ → Type 0} {ys : List Sy
   -- the parser and the machine make the same test
   pub tests : (b : Bool) (i : ℕ) (m n : Unit {0} → Move) (r s : Unit {0} → Parsed A)
       → (b ≡ true → Moves ts ys i Q (m tt) (r tt)) → (b ≡ false → Moves ts ys i Q (n tt) (s tt))
-      → Moves ts ys i Q (if b then m else n) (if b then r else s)
+      → Moves ts ys i Q (if b then m otherwise n) (if b then r otherwise s)
   tests true i m n r s f g = f refl
   tests false i m n r s f g = g refl
 
   pub tests-kind : (q i : ℕ) (m n : Unit {0} → Move) (r s : Unit {0} → Parsed A) → (kind_at ts i ≡ q → Moves ts ys i Q (m tt) (r tt))
       → (eqb (kind_at ts i) q ≡ false → Moves ts ys i Q (n tt) (s tt))
-      → Moves ts ys i Q (if eqb (kind_at ts i) q then m else n) (if eqb (kind_at ts i) q then r else s)
+      → Moves ts ys i Q (if eqb (kind_at ts i) q then m otherwise n) (if eqb (kind_at ts i) q then r otherwise s)
   tests-kind q i m n r s f g = tests (eqb (kind_at ts i) q) i m n r s (λ e. f (eqb-true (kind_at ts i) q e)) g
 
   -- the parser looks at a second token, and the machine leaves it to its next symbol
   tests-first : (b c : Bool) (i : ℕ) (m n : Unit {0} → Move) (r s : Unit {0} → Parsed A)
-      → (b ≡ true → Moves ts ys i Q (m tt) (if c then r else s)) → (b ≡ false → Moves ts ys i Q (n tt) (s tt))
-      → Moves ts ys i Q (if b then m else n) (if b && c then r else s)
+      → (b ≡ true → Moves ts ys i Q (m tt) (if c then r otherwise s)) → (b ≡ false → Moves ts ys i Q (n tt) (s tt))
+      → Moves ts ys i Q (if b then m otherwise n) (if b && c then r otherwise s)
   tests-first true true i m n r s f g = f refl
   tests-first true false i m n r s f g = f refl
   tests-first false c i m n r s f g = g refl
 
   pub tests-next : (q : ℕ) (c : Bool) (i : ℕ) (m n : Unit {0} → Move) (r s : Unit {0} → Parsed A)
-      → (kind_at ts i ≡ q → Moves ts ys i Q (m tt) (if c then r else s)) → (eqb (kind_at ts i) q ≡ false → Moves ts ys i Q (n tt) (s tt))
-      → Moves ts ys i Q (if eqb (kind_at ts i) q then m else n) (if eqb (kind_at ts i) q && c then r else s)
+      → (kind_at ts i ≡ q → Moves ts ys i Q (m tt) (if c then r otherwise s)) → (eqb (kind_at ts i) q ≡ false → Moves ts ys i Q (n tt) (s tt))
+      → Moves ts ys i Q (if eqb (kind_at ts i) q then m otherwise n) (if eqb (kind_at ts i) q && c then r otherwise s)
   tests-next q c i m n r s f g = tests-first (eqb (kind_at ts i) q) c i m n r s (λ e. f (eqb-true (kind_at ts i) q e)) g
 
   -- the parser asks whether either of two tests passes, and the machine leaves the second to its next symbol
   pub tests-either : (b c : Bool) (i : ℕ) (m n : Unit {0} → Move) (r s : Unit {0} → Parsed A)
-      → (b ≡ true → Moves ts ys i Q (m tt) (r tt)) → (b ≡ false → Moves ts ys i Q (n tt) (if c then r else s))
-      → Moves ts ys i Q (if b then m else n) (if b || c then r else s)
+      → (b ≡ true → Moves ts ys i Q (m tt) (r tt)) → (b ≡ false → Moves ts ys i Q (n tt) (if c then r otherwise s))
+      → Moves ts ys i Q (if b then m otherwise n) (if b || c then r otherwise s)
   tests-either true c i m n r s f g = f refl
   tests-either false c i m n r s f g = g refl
 
   -- `tests-next` where the parser makes the first test again
   pub tests-again : (q : ℕ) (c : Bool) (i : ℕ) (m n : Unit {0} → Move) (r s t : Unit {0} → Parsed A)
-      → (kind_at ts i ≡ q → Moves ts ys i Q (m tt) (if c then r else s)) → (eqb (kind_at ts i) q ≡ false → Moves ts ys i Q (n tt) (t tt))
-      → Moves ts ys i Q (if eqb (kind_at ts i) q then m else n) (if eqb (kind_at ts i) q && c then r else λ _. if eqb (kind_at ts i) q then s else t)
+      → (kind_at ts i ≡ q → Moves ts ys i Q (m tt) (if c then r otherwise s)) → (eqb (kind_at ts i) q ≡ false → Moves ts ys i Q (n tt) (t tt))
+      → Moves ts ys i Q (if eqb (kind_at ts i) q then m otherwise n) (if eqb (kind_at ts i) q && c then r otherwise λ _. if eqb (kind_at ts i) q then s otherwise t)
   tests-again q c i m n r s t f g =
-      tests-next q c i m n r (λ _. if eqb (kind_at ts i) q then s else t) (λ e. rw (eq-eqb (kind_at ts i) q e) (f e)) λ e. rw e (g e)
+      tests-next q c i m n r (λ _. if eqb (kind_at ts i) q then s otherwise t) (λ e. rw (eq-eqb (kind_at ts i) q e) (f e)) λ e. rw e (g e)
 
   -- a token of a kind that is known
   pub takes : {xs : List Symbol} {i : ℕ} (q : ℕ) {r : Parsed A} → kind_at ts i ≡ q → Passes ts xs ys (i + 1) Q r
@@ -241,7 +241,7 @@ module _ {ts : List Token} {A : Type 0} {Q : A → ℕ → Type 0} {ys : List Sy
   unfolding rule
   expects {xs} q i r f = go (eqb (kind_at ts i) q) refl
     where
-      go : (b : Bool) → eqb (kind_at ts i) q ≡ b → Passes ts (one q ∷ xs) ys i Q (if b then (λ _. r) else λ _. bad i)
+      go : (b : Bool) → eqb (kind_at ts i) q ≡ b → Passes ts (one q ∷ xs) ys i Q (if b then (λ _. r) otherwise λ _. bad i)
       go true e = let e' = eqb-true (kind_at ts i) q e in takes q e' (f e')
       go false e = passes-bad (λ S. refuses {x = one q} {i = i} (rw e))
 
@@ -250,7 +250,7 @@ module _ {ts : List Token} {A : Type 0} {Q : A → ℕ → Type 0} {ys : List Sy
   unfolding rule
   expects-name {xs} i r f = go (is_name_lem (kind_at ts i)) refl
     where
-      go : (b : Bool) → is_name_lem (kind_at ts i) ≡ b → Passes ts (a_name ∷ xs) ys i Q (if b then (λ _. r) else λ _. bad i)
+      go : (b : Bool) → is_name_lem (kind_at ts i) ≡ b → Passes ts (a_name ∷ xs) ys i Q (if b then (λ _. r) otherwise λ _. bad i)
       go true e = takes-name e (f e)
       go false e = passes-bad (λ S. refuses {x = a_name} {i = i} (rw e))
 

@@ -2,7 +2,7 @@
 -- are deterministic, so a list of tokens on which it stops is one that it does not accept.
 use Rattle.std.specs.Prelude.{ℕ, ◌+◌, ◌≤◌, ◌≡◌, refl, List, [], ◌∷◌, ◌++◌, Bool, true, false, ◌&&◌, ◌||◌, eqb}
 use Rattle.std.proofs.Common.{ap, ◌∙◌, subst, arith}
-use Rattle.base.specs.Choice.{if◌then◌else◌, option}
+use Rattle.base.specs.Choice.{if◌then◌otherwise◌, option}
 use Rattle.lexer.specs.Tokens.{Token}
 use Rattle.lexer.specs.Kinds.{k_end, k_out, k_println, k_literal, k_boolean, k_class, k_else, k_extends, k_false, k_if, k_int, k_length, k_main, k_new}
 use Rattle.lexer.specs.Kinds.{k_get, k_put, k_port, k_public, k_return, k_static, k_string, k_system, k_this, k_true, k_void, k_while}
@@ -55,77 +55,77 @@ pub data Move : Type 0 where
   refuse : Move
 
 unfoldable pub rule : Symbol → (kind : ℕ) → Move
-rule (one q) k = if eqb k q then (λ _. shift) else λ _. refuse
-rule a_name k = if is_name_lem k then (λ _. shift) else λ _. refuse
-rule an_element k = if is_element k then (λ _. shift) else λ _. refuse
+rule (one q) k = if eqb k q then (λ _. shift) otherwise λ _. refuse
+rule a_name k = if is_name_lem k then (λ _. shift) otherwise λ _. refuse
+rule an_element k = if is_element k then (λ _. shift) otherwise λ _. refuse
 rule (an_operator L) k = option (operator_of L k) refuse λ o. shift
 rule (operation L) k = push (operand_of L ∷ operations L ∷ [])
 rule (operations L) k = option (operator_of L k) (push []) λ o. push (an_operator L ∷ operand_of L ∷ operations L ∷ [])
-rule unary k = if eqb k k_not then (λ _. push (one k_not ∷ unary ∷ [])) else λ _. push (postfix ∷ [])
-rule postfix k = if eqb k k_new then (λ _. push (one k_new ∷ after_new ∷ [])) else λ _. push (primary ∷ suffixes true ∷ [])
+rule unary k = if eqb k k_not then (λ _. push (one k_not ∷ unary ∷ [])) otherwise λ _. push (postfix ∷ [])
+rule postfix k = if eqb k k_new then (λ _. push (one k_new ∷ after_new ∷ [])) otherwise λ _. push (primary ∷ suffixes true ∷ [])
 rule after_new k =
-    if is_basic k then (λ _. push (an_element ∷ array_end)) else λ _.
+    if is_basic k then (λ _. push (an_element ∷ array_end)) otherwise λ _.
     push (a_name ∷ after_class ∷ [])
-rule after_class k = if eqb k k_open_bracket then (λ _. push array_end) else λ _. push (one k_open ∷ one k_close ∷ suffixes true ∷ [])
+rule after_class k = if eqb k k_open_bracket then (λ _. push array_end) otherwise λ _. push (one k_open ∷ one k_close ∷ suffixes true ∷ [])
 rule primary k =
-    if eqb k k_literal then (λ _. push (one k_literal ∷ [])) else λ _.
-    if eqb k k_fixed_literal then (λ _. push (one k_fixed_literal ∷ [])) else λ _.
-    if eqb k k_true then (λ _. push (one k_true ∷ [])) else λ _.
-    if eqb k k_false then (λ _. push (one k_false ∷ [])) else λ _.
-    if is_name_lem k then (λ _. push (a_name ∷ [])) else λ _.
-    if eqb k k_this then (λ _. push (one k_this ∷ [])) else λ _.
-    if eqb k k_new then (λ _. push (one k_new ∷ a_name ∷ one k_open ∷ one k_close ∷ [])) else λ _.
-    if eqb k k_open then (λ _. push (one k_open ∷ expression ∷ one k_close ∷ [])) else λ _.
-    if eqb k k_port then (λ _. push (one k_port ∷ one k_dot ∷ one k_get ∷ one k_open ∷ expression ∷ one k_close ∷ [])) else λ _.
+    if eqb k k_literal then (λ _. push (one k_literal ∷ [])) otherwise λ _.
+    if eqb k k_fixed_literal then (λ _. push (one k_fixed_literal ∷ [])) otherwise λ _.
+    if eqb k k_true then (λ _. push (one k_true ∷ [])) otherwise λ _.
+    if eqb k k_false then (λ _. push (one k_false ∷ [])) otherwise λ _.
+    if is_name_lem k then (λ _. push (a_name ∷ [])) otherwise λ _.
+    if eqb k k_this then (λ _. push (one k_this ∷ [])) otherwise λ _.
+    if eqb k k_new then (λ _. push (one k_new ∷ a_name ∷ one k_open ∷ one k_close ∷ [])) otherwise λ _.
+    if eqb k k_open then (λ _. push (one k_open ∷ expression ∷ one k_close ∷ [])) otherwise λ _.
+    if eqb k k_port then (λ _. push (one k_port ∷ one k_dot ∷ one k_get ∷ one k_open ∷ expression ∷ one k_close ∷ [])) otherwise λ _.
     refuse
 rule (suffixes b) k =
-    if eqb k k_open_bracket && b then (λ _. push (one k_open_bracket ∷ expression ∷ one k_close_bracket ∷ suffixes true ∷ [])) else λ _.
-    if eqb k k_open_bracket then (λ _. refuse) else λ _.
-    if eqb k k_dot then (λ _. push (one k_dot ∷ after_dot ∷ [])) else λ _.
+    if eqb k k_open_bracket && b then (λ _. push (one k_open_bracket ∷ expression ∷ one k_close_bracket ∷ suffixes true ∷ [])) otherwise λ _.
+    if eqb k k_open_bracket then (λ _. refuse) otherwise λ _.
+    if eqb k k_dot then (λ _. push (one k_dot ∷ after_dot ∷ [])) otherwise λ _.
     push []
 rule after_dot k =
-    if eqb k k_length then (λ _. push (one k_length ∷ suffixes true ∷ [])) else λ _. push (a_name ∷ one k_open ∷ argument_list ∷ suffixes true ∷ [])
-rule argument_list k = if eqb k k_close then (λ _. push (one k_close ∷ [])) else λ _. push (some_arguments_lem ∷ [])
+    if eqb k k_length then (λ _. push (one k_length ∷ suffixes true ∷ [])) otherwise λ _. push (a_name ∷ one k_open ∷ argument_list ∷ suffixes true ∷ [])
+rule argument_list k = if eqb k k_close then (λ _. push (one k_close ∷ [])) otherwise λ _. push (some_arguments_lem ∷ [])
 rule some_arguments_lem k = push (expression ∷ more_arguments ∷ [])
-rule more_arguments k = if eqb k k_close then (λ _. push (one k_close ∷ [])) else λ _. push (one k_comma ∷ some_arguments_lem ∷ [])
+rule more_arguments k = if eqb k k_close then (λ _. push (one k_close ∷ [])) otherwise λ _. push (one k_comma ∷ some_arguments_lem ∷ [])
 rule a_statement k =
-    if eqb k k_open_brace then (λ _. push (one k_open_brace ∷ statement_list ∷ one k_close_brace ∷ [])) else λ _.
-    if eqb k k_if then (λ _. push (one k_if ∷ one k_open ∷ expression ∷ one k_close ∷ a_statement ∷ one k_else ∷ a_statement ∷ [])) else λ _.
-    if eqb k k_while then (λ _. push (one k_while ∷ one k_open ∷ expression ∷ one k_close ∷ a_statement ∷ [])) else λ _.
-    if eqb k k_system then (λ _. push (one k_system ∷ one k_dot ∷ one k_out ∷ one k_dot ∷ one k_println ∷ one k_open ∷ expression ∷ one k_close ∷ one k_semicolon ∷ [])) else λ _.
-    if eqb k k_port then (λ _. push (one k_port ∷ one k_dot ∷ one k_put ∷ one k_open ∷ expression ∷ one k_comma ∷ expression ∷ one k_close ∷ one k_semicolon ∷ [])) else λ _.
-    if is_name_lem k then (λ _. push (a_name ∷ after_name ∷ [])) else λ _.
+    if eqb k k_open_brace then (λ _. push (one k_open_brace ∷ statement_list ∷ one k_close_brace ∷ [])) otherwise λ _.
+    if eqb k k_if then (λ _. push (one k_if ∷ one k_open ∷ expression ∷ one k_close ∷ a_statement ∷ one k_else ∷ a_statement ∷ [])) otherwise λ _.
+    if eqb k k_while then (λ _. push (one k_while ∷ one k_open ∷ expression ∷ one k_close ∷ a_statement ∷ [])) otherwise λ _.
+    if eqb k k_system then (λ _. push (one k_system ∷ one k_dot ∷ one k_out ∷ one k_dot ∷ one k_println ∷ one k_open ∷ expression ∷ one k_close ∷ one k_semicolon ∷ [])) otherwise λ _.
+    if eqb k k_port then (λ _. push (one k_port ∷ one k_dot ∷ one k_put ∷ one k_open ∷ expression ∷ one k_comma ∷ expression ∷ one k_close ∷ one k_semicolon ∷ [])) otherwise λ _.
+    if is_name_lem k then (λ _. push (a_name ∷ after_name ∷ [])) otherwise λ _.
     refuse
 rule after_name k =
-    if eqb k k_open_bracket then (λ _. push (one k_open_bracket ∷ target_end)) else λ _.
+    if eqb k k_open_bracket then (λ _. push (one k_open_bracket ∷ target_end)) otherwise λ _.
     push (one k_assign ∷ expression ∷ one k_semicolon ∷ [])
-rule statement_list k = if begins_statement_lem k then (λ _. push (a_statement ∷ statement_list ∷ [])) else λ _. push []
-rule a_type k = if eqb k k_fixed then (λ _. push (one k_fixed ∷ [])) else λ _. push (an_element ∷ after_element ∷ [])
-rule after_element k = if eqb k k_open_bracket then (λ _. push (one k_open_bracket ∷ one k_close_bracket ∷ [])) else λ _. push []
+rule statement_list k = if begins_statement_lem k then (λ _. push (a_statement ∷ statement_list ∷ [])) otherwise λ _. push []
+rule a_type k = if eqb k k_fixed then (λ _. push (one k_fixed ∷ [])) otherwise λ _. push (an_element ∷ after_element ∷ [])
+rule after_element k = if eqb k k_open_bracket then (λ _. push (one k_open_bracket ∷ one k_close_bracket ∷ [])) otherwise λ _. push []
 rule fields k =
-    if begins_type_lem k true then (λ _. push (a_type ∷ a_name ∷ one k_semicolon ∷ fields ∷ [])) else λ _.
+    if begins_type_lem k true then (λ _. push (a_type ∷ a_name ∷ one k_semicolon ∷ fields ∷ [])) otherwise λ _.
     push []
 rule locals k =
-    if is_basic k then (λ _. push (a_type ∷ a_name ∷ one k_semicolon ∷ locals ∷ [])) else λ _.
-    if is_name_lem k then (λ _. push (a_name ∷ after_local ∷ [])) else λ _.
+    if is_basic k then (λ _. push (a_type ∷ a_name ∷ one k_semicolon ∷ locals ∷ [])) otherwise λ _.
+    if is_name_lem k then (λ _. push (a_name ∷ after_local ∷ [])) otherwise λ _.
     push (statement_list ∷ [])
 rule after_local k =
-    if is_name_lem k then (λ _. push (a_name ∷ one k_semicolon ∷ locals ∷ [])) else λ _.
-    if eqb k k_open_bracket then (λ _. push (one k_open_bracket ∷ after_mark ∷ [])) else λ _.
+    if is_name_lem k then (λ _. push (a_name ∷ one k_semicolon ∷ locals ∷ [])) otherwise λ _.
+    if eqb k k_open_bracket then (λ _. push (one k_open_bracket ∷ after_mark ∷ [])) otherwise λ _.
     push (after_name ∷ statement_list ∷ [])
 rule after_mark k =
-    if eqb k k_close_bracket then (λ _. push (one k_close_bracket ∷ a_name ∷ one k_semicolon ∷ locals ∷ [])) else λ _.
+    if eqb k k_close_bracket then (λ _. push (one k_close_bracket ∷ a_name ∷ one k_semicolon ∷ locals ∷ [])) otherwise λ _.
     push (target_end ++ (statement_list ∷ []))
-rule formals k = if eqb k k_close then (λ _. push (one k_close ∷ [])) else λ _. push (some_formals ∷ [])
+rule formals k = if eqb k k_close then (λ _. push (one k_close ∷ [])) otherwise λ _. push (some_formals ∷ [])
 rule some_formals k = push (a_type ∷ a_name ∷ more_formals ∷ [])
-rule more_formals k = if eqb k k_close then (λ _. push (one k_close ∷ [])) else λ _. push (one k_comma ∷ some_formals ∷ [])
+rule more_formals k = if eqb k k_close then (λ _. push (one k_close ∷ [])) otherwise λ _. push (one k_comma ∷ some_formals ∷ [])
 rule methods k =
     if eqb k k_public then (λ _.
-    push (one k_public ∷ a_type ∷ a_name ∷ one k_open ∷ formals ∷ one k_open_brace ∷ locals ∷ one k_return ∷ expression ∷ one k_semicolon ∷ one k_close_brace ∷ methods ∷ [])) else λ _.
+    push (one k_public ∷ a_type ∷ a_name ∷ one k_open ∷ formals ∷ one k_open_brace ∷ locals ∷ one k_return ∷ expression ∷ one k_semicolon ∷ one k_close_brace ∷ methods ∷ [])) otherwise λ _.
     push []
-rule parent k = if eqb k k_extends then (λ _. push (one k_extends ∷ a_name ∷ [])) else λ _. push []
+rule parent k = if eqb k k_extends then (λ _. push (one k_extends ∷ a_name ∷ [])) otherwise λ _. push []
 rule classes k =
-    if eqb k k_end then (λ _. push []) else λ _. push (one k_class ∷ a_name ∷ parent ∷ one k_open_brace ∷ fields ∷ methods ∷ one k_close_brace ∷ classes ∷ [])
+    if eqb k k_end then (λ _. push []) otherwise λ _. push (one k_class ∷ a_name ∷ parent ∷ one k_open_brace ∷ fields ∷ methods ∷ one k_close_brace ∷ classes ∷ [])
 
 -- the stack that the machine starts with
 abbrev pub start_stack : List Symbol

@@ -5,10 +5,10 @@ use Rattle.base.specs.Outcome.{accepted}
 use Rattle.base.specs.laws.Lists.{get-get_d}
 use Rattle.lexer.specs.Kinds.{k_close_brace}
 use Rattle.lexer.specs.Tokens.{Token, tokens}
-use Rattle.lexer.specs.laws.ItemLaws.{TokenForm, a_word, a-literal, a-fixed-literal, an-and, a-mark}
-use Rattle.lexer.specs.laws.RowLaws.{token-of}
+use Rattle.lexer.proofs.laws.ItemLaws.{TokenForm, a_word, a-literal, a-fixed-literal, an-and, a-mark}
+use Rattle.lexer.proofs.laws.RowLaws.{token-of}
 use Rattle.parser.specs.Stream.{no_more, token_at, kind_at, start_at}
-use Rattle.appended.specs.laws.Items.{word-no-brace}
+use Rattle.appended.proofs.laws.Items.{word-no-brace}
 use Rattle.joining.specs.Join.{end_at}
 
 one_byte : {k : ℕ} {t : List ℕ} → TokenForm k t → k ≡ k_close_brace → length t ≡ 1

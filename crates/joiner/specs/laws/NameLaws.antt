@@ -9,14 +9,14 @@ use mathlib.Core.List.{List, [], ◌∷◌, map}
 use Rattle.std.proofs.Math.ListN.{length-set}
 use Rattle.std.proofs.Math.Seq.{get_or-set_same, get_or-set_other}
 use Rattle.base.specs.Bytes.{same}
-use Rattle.base.specs.Choice.{if◌then◌else◌}
+use Rattle.base.specs.Choice.{if◌then◌otherwise◌}
 use Rattle.base.specs.Codes.{name_most, tokens_most}
 use Rattle.base.specs.promises.Table.{col, c_start}
 use Rattle.base.specs.laws.Lists.{get-get_d}
 use Rattle.base.specs.Outcome.{accepted}
 use Rattle.lexer.specs.Bytes.{is_letter, is_digit_lem, is_name_part_lem}
 use Rattle.lexer.specs.Tokens.{Token, token, longest_run, tokens}
-use Rattle.lexer.specs.laws.RowLaws.{TokenOf, token-of}
+use Rattle.lexer.proofs.laws.RowLaws.{TokenOf, token-of}
 use Rattle.parser.specs.Tree.{Name, Class, Program}
 use Rattle.parser.specs.Stream.{no_more, token_at, name_at}
 use Rattle.parser.specs.promises.Layout.{absent, row_classes}
@@ -48,12 +48,12 @@ name-at l i = elim (dec_lt i (length l)) [
     by h true q =
         goes_on (get_or l i 0) (rw (lt-ltb i (length l) h, q) refl) (λ z. true≢false (sym q ∙ ap is_name_part_lem z))
         (ap (longest_run is_name_part_lem) (drop-cons l i 0 h)
-        ∙ ap (λ (b : Bool). if b then (λ _. get_or l i 0 ∷ longest_run is_name_part_lem (drop (suc i) l)) else λ _. []) q
+        ∙ ap (λ (b : Bool). if b then (λ _. get_or l i 0 ∷ longest_run is_name_part_lem (drop (suc i) l)) otherwise λ _. []) q
         ∙ ap (λ (n : ℕ). get_or l i 0 ∷ longest_run is_name_part_lem (drop n l)) (sym (add-one i)))
     by h false q =
         ended (rw (lt-ltb i (length l) h, q) refl)
         (ap (longest_run is_name_part_lem) (drop-cons l i 0 h)
-        ∙ ap (λ (b : Bool). if b then (λ _. get_or l i 0 ∷ longest_run is_name_part_lem (drop (suc i) l)) else λ _. []) q)
+        ∙ ap (λ (b : Bool). if b then (λ _. get_or l i 0 ∷ longest_run is_name_part_lem (drop (suc i) l)) otherwise λ _. []) q)
 
 -- the bytes of a short name tell whether it is the same as another
 same-is : (n : ℕ) (a : List ℕ) (i : ℕ) (b : List ℕ) (j : ℕ) → length (name_text a i) < n
@@ -64,7 +64,7 @@ same-is (suc n) a i b j l = go (name-at a i) (name-at b j) (λ h. same-is n a (i
   where
     both : (c d : ℕ) → c ≢ 0 → (x : Bool) → eqb c d ≡ x
         → same_within_lem a (i + 1) b (j + 1) n ≡ same (name_text a (i + 1)) (name_text b (j + 1))
-        → (if x then (λ _. if eqb c 0 then (λ _. true) else λ _. same_within_lem a (i + 1) b (j + 1) n) else λ _. false)
+        → (if x then (λ _. if eqb c 0 then (λ _. true) otherwise λ _. same_within_lem a (i + 1) b (j + 1) n) otherwise λ _. false)
         ≡ x && same (name_text a (i + 1)) (name_text b (j + 1))
     both c d z true q w = rw (ne_eqb c 0 z) w
     both c d z false q w = refl
@@ -72,8 +72,8 @@ same-is (suc n) a i b j l = go (name-at a i) (name-at b j) (λ h. same-is n a (i
     go : NameAt a i → NameAt b j
         → (length (name_text a (i + 1)) < n → same_within_lem a (i + 1) b (j + 1) n ≡ same (name_text a (i + 1)) (name_text b (j + 1)))
         → (if eqb (part_at a i) (part_at b j)
-        then (λ _. if eqb (part_at a i) 0 then (λ _. true) else λ _. same_within_lem a (i + 1) b (j + 1) n)
-        else λ _. false)
+        then (λ _. if eqb (part_at a i) 0 then (λ _. true) otherwise λ _. same_within_lem a (i + 1) b (j + 1) n)
+        otherwise λ _. false)
         ≡ same (name_text a i) (name_text b j)
     go (goes_on c p z e) (goes_on d q y f) w =
         rw (p, q, e, f) (both c d z (eqb c d) refl (w (omega (arith, ap length e))))

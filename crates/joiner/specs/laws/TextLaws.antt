@@ -6,7 +6,7 @@ use Rattle.std.proofs.Math.Path.{refl, sym, ap, subst}
 use Rattle.std.proofs.Common.{◌∙◌, lt-ltb}
 use mathlib.Core.List.{List, ◌∷◌, ◌++◌}
 use Rattle.std.proofs.Math.ListN.{length}
-use Rattle.base.specs.Choice.{if◌then◌else◌}
+use Rattle.base.specs.Choice.{if◌then◌otherwise◌}
 use Rattle.base.specs.Codes.{tokens_most}
 use Rattle.base.specs.Outcome.{accepted}
 use Rattle.base.specs.promises.Table.{col, c_start}
@@ -22,13 +22,13 @@ use Rattle.parser.specs.promises.Layout.{absent, row_classes}
 use Rattle.reader.specs.promises.Holds.{HoldsClasses}
 use Rattle.reader.specs.promises.Matches.{ClassesMatch}
 use Rattle.typesystem.specs.ClassTable.{occurs}
-use Rattle.appended.specs.laws.Embedding.{order-class, order-classes}
+use Rattle.appended.proofs.laws.Embedding.{order-class, order-classes}
 use Rattle.joining.specs.Join.{names_of, end_at, slice, first_token, kept_text}
 use Rattle.joiner.specs.promises.Names.{positions_of, ListedFrom, taken_within_lem}
 use Rattle.joiner.specs.promises.Texts.{end_before_lem, kept_from}
 use Rattle.joiner.specs.laws.NameLaws.{name-is, names-taken, start_of}
 use Rattle.joiner.specs.laws.Braces.{brace-end}
-use Rattle.joining.specs.laws.Placing.{row_is, first-is}
+use Rattle.joining.proofs.laws.Placing.{row_is, first-is}
 
 -- the last token of a class is its closing brace
 class-closed : {ls : List Token} {i m : ℕ} {k : Class} → DerivesClass ls i m k → kind_at ls (m - 1) ≡ k_close_brace
@@ -79,4 +79,4 @@ module _ (s : List ℕ) {ts : List Token} {p : Program} (lexed : tokens s ≡ ac
       ∙ sym (brace-end lib ls read (first_token ls ks - 1) inside brace) in
       let rest = kept-is Ds h.2 g.1 n (omega arith) in
       rw (lt-ltb row absent below, h.1, taken)
-      (λ j. if occurs k.name.text (names_of p) then (λ _. rest j) else λ _. slice (from j) (to j) lib ++ b_line_feed ∷ rest j)
+      (λ j. if occurs k.name.text (names_of p) then (λ _. rest j) otherwise λ _. slice (from j) (to j) lib ++ b_line_feed ∷ rest j)

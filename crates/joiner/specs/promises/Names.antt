@@ -1,6 +1,6 @@
 -- Names by the position where they begin, which is what is kept of the lesson while the library is in the work table.
 use Rattle.std.specs.Prelude.{ℕ, zero, suc, ◌+◌, ◌≡◌, List, [], ◌∷◌, map, Bool, true, false, ◌||◌, ◌&&◌, length, get_or, set, drop, eqb, ltb}
-use Rattle.base.specs.Choice.{if◌then◌else◌}
+use Rattle.base.specs.Choice.{if◌then◌otherwise◌}
 use Rattle.base.specs.promises.Table.{col, c_start, c_next}
 use Rattle.lexer.specs.Bytes.{is_name_part_lem}
 use Rattle.lexer.specs.Tokens.{longest_run}
@@ -15,15 +15,15 @@ name_text bytes at = longest_run is_name_part_lem (drop at bytes)
 
 -- the byte at a position, where a name may have it; else 0
 unfoldable pub part_at : List ℕ → (at : ℕ) → ℕ
-part_at bytes at = if ltb at (length bytes) && is_name_part_lem (get_or bytes at 0) then (λ _. get_or bytes at 0) else λ _. 0
+part_at bytes at = if ltb at (length bytes) && is_name_part_lem (get_or bytes at 0) then (λ _. get_or bytes at 0) otherwise λ _. 0
 
 -- the names that begin at two positions are the same, as far as so many bytes tell
 unfoldable pub same_within_lem : List ℕ → (i : ℕ) → List ℕ → (j left : ℕ) → Bool
 same_within_lem a i b j zero = false
 same_within_lem a i b j (suc n) =
     if eqb (part_at a i) (part_at b j)
-    then (λ _. if eqb (part_at a i) 0 then (λ _. true) else λ _. same_within_lem a (i + 1) b (j + 1) n)
-    else λ _. false
+    then (λ _. if eqb (part_at a i) 0 then (λ _. true) otherwise λ _. same_within_lem a (i + 1) b (j + 1) n)
+    otherwise λ _. false
 
 -- a name has at most 255 bytes
 abbrev pub name_room : ℕ
@@ -51,12 +51,12 @@ taken_within_lem s a i (suc n) lib at = same_within_lem s (get_or a i 0) lib at 
 unfoldable pub collected : (tab : List ℕ) → (row i left : ℕ) → List ℕ → List ℕ
 collected tab row i zero a = a
 collected tab row i (suc n) a =
-    if ltb row absent then (λ _. collected tab (col tab c_next row) (i + 1) n (set a i (col tab c_start row))) else λ _. a
+    if ltb row absent then (λ _. collected tab (col tab c_next row) (i + 1) n (set a i (col tab c_start row))) otherwise λ _. a
 
 -- the place behind the last of them
 unfoldable pub place_behind : (tab : List ℕ) → (row i left : ℕ) → ℕ
 place_behind tab row i zero = i
-place_behind tab row i (suc n) = if ltb row absent then (λ _. place_behind tab (col tab c_next row) (i + 1) n) else λ _. i
+place_behind tab row i (suc n) = if ltb row absent then (λ _. place_behind tab (col tab c_next row) (i + 1) n) otherwise λ _. i
 
 pub record Collects (tab : List ℕ) (row i left : ℕ) (before : List ℕ) (r : ℕ) (after : List ℕ) : Type 0 where
   pub array : after ≡ collected tab row i left before

@@ -4,7 +4,7 @@ use Rattle.std.specs.Prelude.{ℕ, ◌+◌, ◌≤◌, List, [], ◌∷◌, true
 use Rattle.std.proofs.Math.Option.{some}
 use Rattle.std.proofs.Math.ListN.{get_elem?}
 use Rattle.base.specs.Bytes.{same}
-use Rattle.base.specs.Choice.{if◌then◌else◌}
+use Rattle.base.specs.Choice.{if◌then◌otherwise◌}
 use Rattle.base.specs.Codes.{tokens_most}
 use Rattle.base.specs.Outcome.{Outcome, accepted, refused}
 use Rattle.base.specs.promises.Table.{col, c_kind, c_start, c_number}
@@ -16,7 +16,7 @@ use Rattle.lexer.specs.declared.Lexed.TheVariants.{Tokens, Refused}
 -- the number of a name: that of the first token that is a name with this text, and the number of tokens where there is none
 unfoldable pub first_named : List Token → List ℕ → ℕ
 first_named [] text = 0
-first_named (t ∷ ts) text = if is_name_lem t.kind && same t.text text then (λ _. 0) else λ _. first_named ts text + 1
+first_named (t ∷ ts) text = if is_name_lem t.kind && same t.text text then (λ _. 0) otherwise λ _. first_named ts text + 1
 
 -- row i holds t, a token of ts
 pub record RowOf (tab : List ℕ) (ts : List Token) (i : ℕ) (t : Token) : Type 0 where

@@ -1,7 +1,7 @@
 -- What the functions that scan a source answer: the definitions of the tokens in terms of positions.
 use Rattle.std.specs.Prelude.{ℕ, ◌+◌, ◌<◌, List, Bool, ◌&&◌, not, ◌≡◌, length, get_or, eqb}
 use Rattle.std.proofs.Math.Option.{Option, none, some}
-use Rattle.base.specs.Choice.{if◌then◌else◌}
+use Rattle.base.specs.Choice.{if◌then◌otherwise◌}
 use Rattle.lexer.specs.Bytes.{b_line_feed, b_slash, b_star, is_digit_lem, is_name_part_lem}
 use Rattle.lexer.specs.ByteKinds.{b_letter, b_digit, b_mark, byte_kind}
 use Rattle.lexer.specs.Tokens.{Item, gap, unclosed, nothing, token}
@@ -22,8 +22,8 @@ member Number b = is_digit_lem b
 
 abbrev pub delimiter_of_lem : ℕ → ℕ → Delimiter
 delimiter_of_lem a b =
-    if eqb a b_slash && eqb b b_star then (λ _. Open) else λ _.
-    if eqb a b_star && eqb b b_slash then (λ _. Close) else λ _. Other
+    if eqb a b_slash && eqb b b_star then (λ _. Open) otherwise λ _.
+    if eqb a b_star && eqb b b_slash then (λ _. Close) otherwise λ _. Other
 
 abbrev pub closing_of : Option ℕ → Closing
 closing_of none = Never

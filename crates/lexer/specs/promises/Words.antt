@@ -1,12 +1,12 @@
 -- The reserved words of one length, as the code has them: one after the other in a byte string, and their kinds beside it.
 use Rattle.std.specs.Prelude.{ℕ, List, [], ◌∷◌, Bool, true, ◌&&◌, ◌≡◌, length, take, drop, eqb, leb}
-use Rattle.base.specs.Choice.{if◌then◌else◌}
+use Rattle.base.specs.Choice.{if◌then◌otherwise◌}
 use Rattle.lexer.specs.Kinds.{Word, words}
 
 -- the words of length n
 abbrev pub has_length : ℕ → List Word → List Word
 has_length n [] = []
-has_length n (w ∷ ws) = if eqb (length w.text) n then (λ _. w ∷ has_length n ws) else λ _. has_length n ws
+has_length n (w ∷ ws) = if eqb (length w.text) n then (λ _. w ∷ has_length n ws) otherwise λ _. has_length n ws
 
 -- texts of n bytes each, with their kinds
 abbrev pub cut : ℕ → List ℕ → List ℕ → List Word

@@ -12,7 +12,7 @@ use Rattle.base.specs.Codes.{tokens_most}
 use Rattle.lexer.specs.Kinds.{is_name_lem}
 use Rattle.lexer.specs.Tokens.{Token}
 use Rattle.lexer.specs.promises.Rows.{first_named}
-use Rattle.lexer.specs.laws.RowLaws.{first-named, first-least}
+use Rattle.lexer.proofs.laws.RowLaws.{first-named, first-least}
 use Rattle.parser.specs.Tree.{Element, Element.int, Element.boolean, Element.fixed, Element.class, Ty, Ty.plain, Ty.array_of, Class, Method}
 use Rattle.parser.specs.Stream.{token_at, no_more, kind_at, start_at}
 use Rattle.parser.specs.promises.Post.{kind_in_table}

@@ -2,7 +2,7 @@
 use Rattle.std.specs.Prelude.{ℕ, ◌≤◌, ◌<◌, ◌≡◌, refl, List, [], ◌∷◌, ◌++◌, Bool, true, false, length}
 use Rattle.std.proofs.Common.{arith}
 use Rattle.std.proofs.Math.Option.{Option, none, some}
-use Rattle.base.specs.Choice.{if◌then◌else◌, option}
+use Rattle.base.specs.Choice.{if◌then◌otherwise◌, option}
 use Rattle.base.specs.Bytes.{same}
 use Rattle.base.specs.Codes.{tokens_most}
 use Rattle.lexer.specs.Tokens.{Token}
@@ -31,8 +31,8 @@ variable-left [] ws x e = absurd (none-some refl e)
 variable-left (v ∷ vs) ws x {s} e = go (same v.name.text x) (variable_named vs x) (variable_named (vs ++ ws) x) _ (λ t q. variable-left vs ws x q) e
   where
     go : (b : Bool) (o o' : Option Slot) (a : Slot) → ((t : Slot) → o ≡ some t → o' ≡ some t)
-        → (if b then (λ _. some a) else λ _. option o none λ s. some (moved 1 s)) ≡ some s
-        → (if b then (λ _. some a) else λ _. option o' none λ s. some (moved 1 s)) ≡ some s
+        → (if b then (λ _. some a) otherwise λ _. option o none λ s. some (moved 1 s)) ≡ some s
+        → (if b then (λ _. some a) otherwise λ _. option o' none λ s. some (moved 1 s)) ≡ some s
     go true o o' a f h = h
     go false none o' a f h = absurd (none-some refl h)
     go false (some t) o' a f h = rw (f t refl) h
@@ -49,8 +49,8 @@ variable-right [] ws x e h = h
 variable-right {ts} (v ∷ vs) ws x {r} e h = go (same v.name.text x) (variable_named vs x) (variable_named (vs ++ ws) x) _ (λ q. variable-right vs ws x q h) e
   where
     go : (b : Bool) (o o' : Option Slot) (a : Slot) → (o ≡ none → SlotTyped ts o' r)
-        → (if b then (λ _. some a) else λ _. option o none λ s. some (moved 1 s)) ≡ none
-        → SlotTyped ts (if b then (λ _. some a) else λ _. option o' none λ s. some (moved 1 s)) r
+        → (if b then (λ _. some a) otherwise λ _. option o none λ s. some (moved 1 s)) ≡ none
+        → SlotTyped ts (if b then (λ _. some a) otherwise λ _. option o' none λ s. some (moved 1 s)) r
     go true o o' a f h = absurd (none-some h refl)
     go false none o' a f h = typed-moved 1 (f refl)
     go false (some t) o' a f h = absurd (none-some h refl)

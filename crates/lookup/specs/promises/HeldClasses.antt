@@ -1,6 +1,6 @@
 -- The class table as the work table holds it: the rows of the declarations match their tokens and lead to one another, no list of them is
 -- longer than the tokens are many, and the index leads from the number of a name to the class of that name.
-use Rattle.base.specs.Choice.{if◌then◌else◌}
+use Rattle.base.specs.Choice.{if◌then◌otherwise◌}
 use Rattle.std.specs.Prelude.{ℕ, ◌+◌, ◌≤◌, ◌<◌, ◌≡◌, List, [], ◌∷◌, length, ltb}
 use Rattle.std.proofs.Math.Option.{Option, none, some}
 use Rattle.base.specs.promises.Table.{col, c_next, c_type, c_parent, c_parameters, c_locals, c_fields, c_methods, c_body, c_value, c_class}
@@ -21,7 +21,7 @@ use Rattle.typesystem.specs.ClassTable.{class_named, chain_within}
 
 -- column k of a row, `absent` past the last row
 unfoldable pub word_at : List ℕ → (k row : ℕ) → ℕ
-word_at tab k row = if ltb row absent then (λ _. col tab k row) else λ _. absent
+word_at tab k row = if ltb row absent then (λ _. col tab k row) otherwise λ _. absent
 
 -- the table has n tokens
 pub record Lexemes (tab : List ℕ) (n : ℕ) (ts : List Token) : Type 0 where

@@ -1,7 +1,7 @@
 -- What the look-ups ensure, whatever the tokens and the classes are that the table holds.
 use Rattle.std.specs.Prelude.{ℕ, ◌+◌, ◌-◌, ◌%◌, ◌≤◌, ◌<◌, ◌≡◌, List, [], ◌∷◌, Bool, false, ◌||◌, length, eqb, ltb}
 use Rattle.std.proofs.Math.Option.{Option, none, some}
-use Rattle.base.specs.Choice.{if◌then◌else◌, option}
+use Rattle.base.specs.Choice.{if◌then◌otherwise◌, option}
 use Rattle.base.specs.Word.{modulus}
 use Rattle.base.specs.promises.Table.{col, c_number, c_next}
 use Rattle.lexer.specs.Tokens.{Token}
@@ -23,7 +23,7 @@ pub record TypeOf (tab : List ℕ) (n row : ℕ) (r : ℕ) : Type 0 where
   pub says : (ts : List Token) → Lexemes tab n ts → (i : ℕ) → i ≡ row → (t : Ty) → TypeMatches ts i t → Codes ts t r
 
 pub record ElementOf (w r : ℕ) : Type 0 where
-  pub is : r ≡ (if ltb w array_mark then (λ _. w) else λ _. w - array_mark)
+  pub is : r ≡ (if ltb w array_mark then (λ _. w) otherwise λ _. w - array_mark)
 
 pub record Knows (tab : List ℕ) (n w : ℕ) (r : Bool) : Type 0 where
   pub says : (ts : List Token) (G : List Class) → ClassTableHeld tab n ts G → (t : Ty) → Codes ts t w → r ≡ known G (underlying t)

@@ -1,7 +1,7 @@
 -- What a row shows of the node that lies in it: kinds tell its form, and the form is an index, so that a law about one form has one clause.
 -- How the parts of a node are bounded (by the tokens among which they lie, by their number of nodes) is left to those who use it.
 use Rattle.std.specs.Prelude.{ℕ, ◌+◌, ◌≡◌, List, Bool, true, false, eqb}
-use Rattle.base.specs.Choice.{if◌then◌else◌}
+use Rattle.base.specs.Choice.{if◌then◌otherwise◌}
 use Rattle.base.specs.promises.Table.{c_start, c_number, c_begin, c_first, c_second, c_next, c_third}
 use Rattle.lexer.specs.Kinds.{k_literal, k_fixed_literal, k_true, k_false, k_this, k_new, k_dot, k_length, k_not, k_port}
 use Rattle.lexer.specs.Kinds.{k_open_bracket, k_open_brace, k_if, k_while, k_system}
@@ -38,25 +38,25 @@ pub data Form : Type 0 where
 
 unfoldable pub form_atom : ℕ → Form
 form_atom k =
-    if eqb k k_literal then (λ _. a_literal) else λ _.
-    if eqb k k_fixed_literal then (λ _. a_fixed_literal) else λ _.
-    if eqb k k_true then (λ _. a_truth true) else λ _.
-    if eqb k k_false then (λ _. a_truth false) else λ _.
-    if eqb k k_this then (λ _. a_this) else λ _.
+    if eqb k k_literal then (λ _. a_literal) otherwise λ _.
+    if eqb k k_fixed_literal then (λ _. a_fixed_literal) otherwise λ _.
+    if eqb k k_true then (λ _. a_truth true) otherwise λ _.
+    if eqb k k_false then (λ _. a_truth false) otherwise λ _.
+    if eqb k k_this then (λ _. a_this) otherwise λ _.
     a_variable
 
 -- by the kinds of a node's own token and of the two after it
 unfoldable pub form_compound : (k next third : ℕ) → Form
 form_compound k next third =
-    if eqb k k_new then (λ _. if eqb third k_open_bracket then (λ _. a_new_array) else λ _. a_new_object) else λ _.
-    if eqb k k_dot then (λ _. if eqb next k_length then (λ _. a_length) else λ _. a_call_shown) else λ _.
-    if eqb k k_not then (λ _. a_negation) else λ _.
-    if eqb k k_port then (λ _. a_port_get) else λ _.
-    if eqb k k_open_bracket then (λ _. an_element) else λ _.
+    if eqb k k_new then (λ _. if eqb third k_open_bracket then (λ _. a_new_array) otherwise λ _. a_new_object) otherwise λ _.
+    if eqb k k_dot then (λ _. if eqb next k_length then (λ _. a_length) otherwise λ _. a_call_shown) otherwise λ _.
+    if eqb k k_not then (λ _. a_negation) otherwise λ _.
+    if eqb k k_port then (λ _. a_port_get) otherwise λ _.
+    if eqb k k_open_bracket then (λ _. an_element) otherwise λ _.
     a_binary
 
 unfoldable pub form_e : (k next third : ℕ) → Form
-form_e k next third = if is_atom_lem k then (λ _. form_atom k) else λ _. form_compound k next third
+form_e k next third = if is_atom_lem k then (λ _. form_atom k) otherwise λ _. form_compound k next third
 
 -- of the expression in a row of a table of n tokens
 abbrev pub form_at : List ℕ → (n row : ℕ) → Form
@@ -64,12 +64,12 @@ form_at tab n row = form_e (kind_in_table tab n row) (kind_in_table tab n (row +
 
 unfoldable pub form_s : (k next : ℕ) → Form
 form_s k next =
-    if eqb k k_open_brace then (λ _. a_block_shown) else λ _.
-    if eqb k k_if then (λ _. a_conditional) else λ _.
-    if eqb k k_while then (λ _. a_loop) else λ _.
-    if eqb k k_system then (λ _. a_print) else λ _.
-    if eqb k k_port then (λ _. a_port_put) else λ _.
-    if eqb next k_open_bracket then (λ _. an_element_store) else λ _.
+    if eqb k k_open_brace then (λ _. a_block_shown) otherwise λ _.
+    if eqb k k_if then (λ _. a_conditional) otherwise λ _.
+    if eqb k k_while then (λ _. a_loop) otherwise λ _.
+    if eqb k k_system then (λ _. a_print) otherwise λ _.
+    if eqb k k_port then (λ _. a_port_put) otherwise λ _.
+    if eqb next k_open_bracket then (λ _. an_element_store) otherwise λ _.
     an_assignment
 
 -- THE NODE OF A FORM

@@ -2,7 +2,7 @@
 -- stand are kept as a set of rows; the children of a class are a list of rows that lead to one another.
 use Rattle.std.specs.Prelude.{ℕ, ◌+◌, ◌≤◌, ◌<◌, ◌≡◌, List, [], ◌∷◌, Bool, true, false, ◌&&◌, ◌||◌, length, get_or, set, eqb}
 use Rattle.base.specs.Bytes.{same}
-use Rattle.base.specs.Choice.{if◌then◌else◌, option}
+use Rattle.base.specs.Choice.{if◌then◌otherwise◌, option}
 use Rattle.base.specs.All.{All}
 use Rattle.base.specs.Outcome.{accepted}
 use Rattle.lexer.specs.Tokens.{Token}
@@ -48,7 +48,7 @@ is_child c k = option k.parent false λ p. same c p.text
 -- the rows of the classes of a list that extend the one named c
 unfoldable pub child_rows : List ℕ → List Class → List ℕ
 child_rows c [] = []
-child_rows c (k ∷ ks) = if is_child c k then (λ _. name_row k ∷ child_rows c ks) else λ _. child_rows c ks
+child_rows c (k ∷ ks) = if is_child c k then (λ _. name_row k ∷ child_rows c ks) otherwise λ _. child_rows c ks
 
 -- these rows lead to one another
 pub data RowsLinked (next : List ℕ) : ℕ → List ℕ → Type 0 where

@@ -1,6 +1,6 @@
 -- What the parser's functions require and ensure.
 use Rattle.std.specs.Prelude.{ℕ, ◌+◌, ◌*◌, ◌-◌, ◌≤◌, ◌<◌, ◌≡◌, List, [], ◌∷◌, Bool, true, false, ◌||◌, ◌&&◌, length, eqb, ltb}
-use Rattle.base.specs.Choice.{if◌then◌else◌, option}
+use Rattle.base.specs.Choice.{if◌then◌otherwise◌, option}
 use Rattle.base.specs.promises.Table.{col, c_kind, c_start}
 use Rattle.base.specs.Codes.{tokens_most, table_least}
 use Rattle.lexer.specs.Kinds.{is_name_lem, k_literal, k_fixed_literal, k_boolean, k_int, k_true, k_false, k_this, k_new, k_open_bracket}
@@ -17,7 +17,7 @@ use Rattle.parser.specs.promises.Layout.{row_of, store, given, list_top}
 
 -- the kind of token i of n, 0 past the last
 unfoldable pub kind_in_table : List ℕ → (n i : ℕ) → ℕ
-kind_in_table tab n i = if ltb i n then (λ _. col tab c_kind i) else λ _. 0
+kind_in_table tab n i = if ltb i n then (λ _. col tab c_kind i) otherwise λ _. 0
 
 -- `c_kind` and `c_start` hold the kinds and the positions of these n tokens
 pub record TokensIn (tab : List ℕ) (n : ℕ) (ts : List Token) : Type 0 where
@@ -55,9 +55,9 @@ pub record Parsable (tab : List ℕ) (n i : ℕ) : Type 0 where
 -- the levels by number
 unfoldable pub level_at : ℕ → Level
 level_at k =
-    if eqb k 0 then (λ _. conjunction) else λ _.
-    if eqb k 1 then (λ _. comparison) else λ _.
-    if eqb k 2 then (λ _. sum) else λ _.
+    if eqb k 0 then (λ _. conjunction) otherwise λ _.
+    if eqb k 1 then (λ _. comparison) otherwise λ _.
+    if eqb k 2 then (λ _. sum) otherwise λ _.
     product
 
 unfoldable pub is_operator_lem : (level kind : ℕ) → Bool
@@ -129,7 +129,7 @@ pub record LevelsPost (level top n first left i : ℕ) (before : List ℕ) (r : 
 -- how many tokens from i on are of these kinds, one after the other
 unfoldable pub matched_in : List ℕ → (n i : ℕ) → List ℕ → ℕ
 matched_in tab n i [] = 0
-matched_in tab n i (q ∷ qs) = if accepts q (kind_in_table tab n i) then (λ _. 1 + matched_in tab n (i + 1) qs) else λ _. 0
+matched_in tab n i (q ∷ qs) = if accepts q (kind_in_table tab n i) then (λ _. 1 + matched_in tab n (i + 1) qs) otherwise λ _. 0
 
 -- a list of statements, which may be empty
 pub record ListPost (n i : ℕ) (before : List ℕ) (r : Answer) (after : List ℕ) : Type 0 where

@@ -1,13 +1,13 @@
 -- What the functions of the operations promise one another.
 use Rattle.std.specs.Prelude.{ℕ, ◌+◌, ◌-◌, ◌*◌, ◌/◌, ◌≤◌, ◌<◌, ◌||◌, List, ◌≡◌, ℤ, pos, length, replicate, eqb, ltb, leb}
 use Rattle.std.proofs.Math.Option.{none, some}
-use Rattle.base.specs.Choice.{if◌then◌else◌}
+use Rattle.base.specs.Choice.{if◌then◌otherwise◌}
 use Rattle.base.specs.Outcome.{accepted}
 use Rattle.frames.specs.Lines.{Line}
 use Rattle.frames.specs.Operations as Operations
 use Rattle.frames.specs.Operations.{Strips, answer, begins, going_on}
 use Rattle.frames.specs.Parts.{Report, run_frames}
-use Rattle.frames.specs.laws.Turns.{Within}
+use Rattle.frames.proofs.laws.Turns.{Within}
 use Rattle.player.specs.declared.rounds.Meter.{Meter}
 use Rattle.player.specs.declared.run.Answer.{Answer}
 use Rattle.player.specs.declared.run.Limits.{Limits}
@@ -71,7 +71,7 @@ pub record IsPrice (p r : ℕ) : Type 0 where
 -- what is unfit, or 0; else what is lent is within its bounds
 pub record Unfit (l : Limits) (heap registers stack r : ℕ) : Type 0 where
   pub says : (m : Strips) → length m.heap ≡ heap → length m.registers ≡ registers → length m.stack ≡ stack
-      → Operations.unfit (limits_of_lem l) m ≡ (if ltb 0 r then (λ _. some r) else λ _. none)
+      → Operations.unfit (limits_of_lem l) m ≡ (if ltb 0 r then (λ _. some r) otherwise λ _. none)
   pub few : r < 1 → l.calls ≤ calls_most
   pub paid : r < 1 → 1 ≤ l.price
   pub sixteen : r < 1 → registers ≡ registers_count
@@ -104,7 +104,7 @@ pub record Fits (p : Record) (l : Limits) (count stack heap output tape r : ℕ)
 pub record Answered (e : Meter) (q : Record) (r : Answer) : Type 0 where
   pub is : r ≡ record {
     number = e.machine.number;
-    position = if eqb e.machine.number success then (λ _. 0) else λ _. line_bytes * e.machine.line;
+    position = if eqb e.machine.number success then (λ _. 0) otherwise λ _. line_bytes * e.machine.line;
     frames = e.frames;
     words = e.machine.words;
     printed = e.machine.printed;

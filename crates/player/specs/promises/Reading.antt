@@ -1,7 +1,7 @@
 -- Digits and lines of a text, as the code reads them.
 use Rattle.std.specs.Prelude.{ℕ, zero, suc, ◌+◌, ◌*◌, ◌/◌, ◌%◌, ◌≤◌, ◌<◌, List, [], ◌∷◌, ◌≡◌, length, get_or, drop, ltb}
 use Rattle.std.proofs.Math.Option.{Option, none, some}
-use Rattle.base.specs.Choice.{if◌then◌else◌, option}
+use Rattle.base.specs.Choice.{if◌then◌otherwise◌, option}
 use Rattle.base.specs.Outcome.{accepted, refused}
 use Rattle.frames.specs.Lines.{Line, line, digit_of, digits, single_line, lines}
 use Rattle.frames.specs.Machine.{Turn, bad, entered}
@@ -72,4 +72,4 @@ pub record FrameAt (s : List ℕ) (i r : ℕ) : Type 0 where
 
 -- the operand of the `entry` at a line, or 4294967296
 pub record EntryAt (s : List ℕ) (i r : ℕ) : Type 0 where
-  pub says : (k : ℕ → Turn) → entered (lines_in s) i k ≡ if ltb r modulus then (λ _. k r) else λ _. bad
+  pub says : (k : ℕ → Turn) → entered (lines_in s) i k ≡ if ltb r modulus then (λ _. k r) otherwise λ _. bad

@@ -21,8 +21,8 @@ use Rattle.lookup.specs.laws.HeldLaws.{kinds, word_in}
 use Rattle.printing.specs.Printed.{Lexeme, marks, spelling, spelt, name_token, element_token, type_tokens, declaration_tokens}
 use Rattle.printing.specs.Printed.{declarations_tokens, parameters_tokens, separator}
 use Rattle.printing.specs.Printed.{render}
-use Rattle.printing.specs.laws.Lexing.{lexeme}
-use Rattle.printing.specs.laws.Pieces.{of-declared}
+use Rattle.printing.proofs.laws.Lexing.{lexeme}
+use Rattle.printing.proofs.laws.Pieces.{of-declared}
 use Rattle.printer.specs.declared.job.Job.{Job}
 use Rattle.printer.specs.promises.Puts.{text_room, Puts, TokenPut}
 use Rattle.printer.specs.promises.Walks.{Whatever}

@@ -16,10 +16,10 @@ use Rattle.parser.specs.promises.Layout.{row_of}
 use Rattle.parser.specs.promises.Post.{is_atom_lem}
 use Rattle.reader.specs.promises.Matches.{TokenIs, NameIs, ElementMatches, NumeralMatches, Matches, operator_kind}
 use Rattle.printing.specs.Printed.{Lexeme, spelling, spelt, name_token, literal_token, element_token, kind_of, bare}
-use Rattle.printing.specs.laws.Lexing.{lexeme}
-use Rattle.printing.specs.laws.Digits.{copied, copied-fixed}
-use Rattle.printing.specs.laws.Spelled.{listed, spelled, spelled-text}
-use Rattle.printing.specs.laws.Fits.{name-word, token-here}
+use Rattle.printing.proofs.laws.Lexing.{lexeme}
+use Rattle.printing.proofs.laws.Digits.{copied, copied-fixed}
+use Rattle.printing.proofs.laws.Spelled.{listed, spelled, spelled-text}
+use Rattle.printing.proofs.laws.Fits.{name-word, token-here}
 
 module _ (s : List ℕ) (ts : List Token) (lexed : tokens s ≡ accepted ts) where
   pub spelt-lexeme : (i k : ℕ) → listed k spelled ≡ true → TokenIs ts i k → lexeme (token_at ts i) ≡ spelt k

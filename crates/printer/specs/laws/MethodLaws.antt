@@ -20,7 +20,7 @@ use Rattle.lookup.specs.laws.HeldLaws.{word_in}
 use Rattle.printing.specs.Printed.{Lexeme, marks, spelling, spelt, name_token, type_tokens, declaration_tokens, parameters_tokens}
 use Rattle.printing.specs.Printed.{declarations_tokens, bare, method_tokens, methods_tokens}
 use Rattle.printing.specs.Printed.{separator, render}
-use Rattle.printing.specs.laws.Pieces.{of-declared, of-method}
+use Rattle.printing.proofs.laws.Pieces.{of-declared, of-method}
 use Rattle.printer.specs.declared.job.Job.{Job}
 use Rattle.printer.specs.promises.Puts.{text_room, Puts}
 use Rattle.printer.specs.promises.Walks.{PartReached, AtMost, Whatever, PartPut, ValuePut}

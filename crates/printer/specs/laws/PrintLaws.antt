@@ -21,7 +21,7 @@ use Rattle.typecheck.specs.declared.check.Finding.TheVariants.{Program as found,
 use Rattle.typecheck.specs.promises.CheckPost.{Checked, FindsProgram, Leaves}
 use Rattle.printing.specs.Printed.{program_tokens, text}
 use Rattle.printing.specs.Print.{print_result, print, Prints}
-use Rattle.printing.specs.Tidy.{text-most}
+use Rattle.printing.proofs.Tidy.{text-most}
 use Rattle.printer.specs.promises.Puts.{text_room, BytesPut, Puts}
 use Rattle.printer.specs.promises.Units.{ProgramPut}
 use Rattle.printer.specs.promises.PrintPost.{WritesText}

@@ -13,14 +13,14 @@ use Rattle.lexer.specs.Tokens.{Token, Item, gap, unclosed, nothing, token, item,
 use Rattle.lexer.specs.promises.Scan.{piece_of}
 use Rattle.lexer.specs.declared.scan.Piece.{Piece}
 use Rattle.lexer.specs.declared.scan.Piece.TheVariants.{Gap, Unclosed, Nothing, Token as Whole}
-use Rattle.lexer.specs.laws.ItemLaws.{Good, good}
-use Rattle.lexer.specs.laws.RowLaws.{TokenOf, token-of}
+use Rattle.lexer.proofs.laws.ItemLaws.{Good, good}
+use Rattle.lexer.proofs.laws.RowLaws.{TokenOf, token-of}
 use Rattle.parser.specs.Stream.{no_more, token_at, start_at}
 use Rattle.lookup.specs.promises.HeldClasses.{word_at, Lexemes}
 use Rattle.lookup.specs.laws.HeldLaws.{start_word}
 use Rattle.printing.specs.Printed.{Lexeme, separator, render}
-use Rattle.printing.specs.laws.Appending.{render-append}
-use Rattle.printing.specs.laws.Lexing.{lexeme}
+use Rattle.printing.proofs.laws.Appending.{render-append}
+use Rattle.printing.proofs.laws.Lexing.{lexeme}
 use Rattle.printer.specs.promises.Puts.{text_room, BytesPut, Skips, Puts, bytes_between, TokenPut}
 
 -- ONE BEHIND THE OTHER

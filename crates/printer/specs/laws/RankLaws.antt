@@ -6,7 +6,7 @@ use borrow.Author.Tests.{eq-eqb, ne_eqb}
 use Rattle.lexer.specs.Kinds.{is_name_lem, k_literal, k_fixed_literal, k_true, k_false, k_this, k_port, k_and, k_less, k_plus, k_minus, k_times, k_not, k_new}
 use Rattle.lexer.specs.Kinds.{k_dot, k_open, k_open_bracket}
 use Rattle.lexer.specs.Tokens.{Token}
-use Rattle.lexer.specs.laws.ItemLaws.{kinds-apart}
+use Rattle.lexer.proofs.laws.ItemLaws.{kinds-apart}
 use Rattle.parser.specs.Tree.{Operator.and, Operator.less, Operator.plus, Operator.minus, Operator.times}
 use Rattle.parser.specs.Tree.{Expression, Numeral.int_literal, Numeral.fixed_literal}
 use Rattle.parser.specs.Tree.{Part.literal, Part.truth, Part.variable, Part.this, Part.new_array_lem, Part.new_object_lem, Part.negation, Part.binary}

@@ -5,7 +5,7 @@ use Rattle.std.proofs.Common.{sym, ◌∙◌, arith}
 use mathlib.Core.List.{List, [], ◌∷◌, ◌++◌, append_assoc}
 use borrow.Author.Tests.{ne_eqb}
 use Rattle.base.specs.Bytes.{bytes}
-use Rattle.base.specs.Choice.{if◌then◌else◌}
+use Rattle.base.specs.Choice.{if◌then◌otherwise◌}
 use Rattle.base.specs.Codes.{tokens_most}
 use Rattle.base.specs.Outcome.{accepted}
 use Rattle.base.specs.promises.Table.{c_first, c_second, c_third, c_next}
@@ -28,9 +28,9 @@ use Rattle.lookup.specs.promises.Shows.{ShowsS, shows-block, shows-conditional, 
 use Rattle.lookup.specs.promises.Shows.{shows-element-store, shows-port-put, GoesOnS, one-more-statement}
 use Rattle.lookup.specs.laws.ShowLaws.{BoundsS, shown_s, goes-on_s, ended_s}
 use Rattle.printing.specs.Printed.{Lexeme, marks, spelling, spelt, name_token, own, tightness, bare, separator, render}
-use Rattle.printing.specs.laws.Lexing.{lexeme}
-use Rattle.printing.specs.laws.Appending.{render-append}
-use Rattle.printing.specs.laws.Pieces.{of-block, of-conditional, of-loop, of-print, of-assign, of-assign-element, of-port-put, of-sequence}
+use Rattle.printing.proofs.laws.Lexing.{lexeme}
+use Rattle.printing.proofs.laws.Appending.{render-append}
+use Rattle.printing.proofs.laws.Pieces.{of-block, of-conditional, of-loop, of-print, of-assign, of-assign-element, of-port-put, of-sequence}
 use Rattle.printer.specs.declared.job.Job.{Job}
 use Rattle.printer.specs.promises.Puts.{text_room, Puts, TokenPut}
 use Rattle.printer.specs.promises.Walks.{PartReached, AtMost, placed, Whatever, PartPut, EnclosedPut, StatementPut, ValuePut}

@@ -26,8 +26,8 @@ use Rattle.printing.specs.Printed.{Lexeme, marks, spelling, spelt, name_token, d
 use Rattle.printing.specs.Printed.{class_tokens, classes_tokens}
 use Rattle.printing.specs.Printed.{program_tokens}
 use Rattle.printing.specs.Printed.{separator, render}
-use Rattle.printing.specs.laws.Lexing.{lexeme}
-use Rattle.printing.specs.laws.Pieces.{of-class, of-program}
+use Rattle.printing.proofs.laws.Lexing.{lexeme}
+use Rattle.printing.proofs.laws.Pieces.{of-class, of-program}
 use Rattle.printer.specs.declared.job.Job.{Job}
 use Rattle.printer.specs.promises.Puts.{text_room, Puts, TokenPut}
 use Rattle.printer.specs.promises.Walks.{PartReached, AtMost, Whatever, PartPut}

@@ -6,7 +6,7 @@ use Rattle.std.proofs.Common.{◌∙◌, true≢false, arith}
 use mathlib.Core.List.{List, [], ◌∷◌, ◌++◌, append_assoc}
 use borrow.Author.Tests.{le-leb, lt-leb, ne_eqb}
 use Rattle.base.specs.Bytes.{bytes}
-use Rattle.base.specs.Choice.{if◌then◌else◌}
+use Rattle.base.specs.Choice.{if◌then◌otherwise◌}
 use Rattle.base.specs.Codes.{tokens_most}
 use Rattle.base.specs.Outcome.{accepted}
 use Rattle.base.specs.Word.{modulus}
@@ -36,9 +36,9 @@ use Rattle.printing.specs.Printed.{Lexeme, marks, spelling, spelt, name_token, e
 use Rattle.printing.specs.Printed.{bare}
 use Rattle.printing.specs.Printed.{separator}
 use Rattle.printing.specs.Printed.{left_of, right_of, print_in, render}
-use Rattle.printing.specs.laws.Lexing.{lexeme}
-use Rattle.printing.specs.laws.Appending.{bare-append, render-append}
-use Rattle.printing.specs.laws.Pieces.{of-new-array, of-negation, of-binary, of-element, of_length, of-call, of-port-get, of-arguments}
+use Rattle.printing.proofs.laws.Lexing.{lexeme}
+use Rattle.printing.proofs.laws.Appending.{bare-append, render-append}
+use Rattle.printing.proofs.laws.Pieces.{of-new-array, of-negation, of-binary, of-element, of_length, of-call, of-port-get, of-arguments}
 use Rattle.printer.specs.declared.job.Job.{Job}
 use Rattle.printer.specs.promises.Puts.{text_room, Puts, TokenPut}
 use Rattle.printer.specs.promises.Ranks.{tightness_of}

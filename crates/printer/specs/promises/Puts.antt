@@ -7,7 +7,7 @@ use Rattle.lexer.specs.Tokens.{Token, tokens}
 use Rattle.parser.specs.Stream.{token_at}
 use Rattle.lookup.specs.promises.HeldClasses.{Lexemes}
 use Rattle.printing.specs.Printed.{render}
-use Rattle.printing.specs.laws.Lexing.{lexeme}
+use Rattle.printing.proofs.laws.Lexing.{lexeme}
 
 -- how many bytes are counted; no text is longer (`text-most`)
 abbrev pub text_room : ℕ

@@ -14,7 +14,7 @@ use Rattle.parser.specs.Measure.{nodes}
 use Rattle.lookup.specs.promises.HeldClasses.{word_at, Lexemes}
 use Rattle.lookup.specs.promises.Shows.{PartAt, Form, Shows, ShowsS}
 use Rattle.printing.specs.Printed.{Lexeme, spelt, own, tightness, bracketed, bare, render}
-use Rattle.printing.specs.laws.Lexing.{lexeme}
+use Rattle.printing.proofs.laws.Lexing.{lexeme}
 use Rattle.printer.specs.declared.job.Job.{Job}
 use Rattle.printer.specs.promises.Puts.{text_room, Puts}
 

@@ -6,7 +6,7 @@ use Rattle.std.proofs.Common.{ap, ◌∙◌, eqb-true}
 use Rattle.std.proofs.Math.Option.{Option, none, some}
 use native.Mathlib.Omega.{arith}
 use Rattle.std.proofs.lemmas.Bool.{eqb-false}
-use Rattle.base.specs.Choice.{if◌then◌else◌}
+use Rattle.base.specs.Choice.{if◌then◌otherwise◌}
 use Rattle.lexer.specs.Kinds.{k_end, k_and, k_less, k_plus, k_minus, k_times, k_open_bracket, is_name_lem}
 use Rattle.lexer.specs.Tokens.{Token}
 use Rattle.parser.specs.Tree.{Operator, Operator.and, Operator.less, Operator.plus, Operator.minus, Operator.times, Element, Sort, Part}
@@ -35,10 +35,10 @@ use Rattle.reader.specs.promises.Matches.{ClassesMatch, ProgramMatches, NumeralM
 
 -- the kind of an operator's token
 picked : (k q : ℕ) (a o : Operator) (r : Option Operator) → q ≡ operator_kind a → (r ≡ some o → k ≡ operator_kind o)
-    → (if eqb k q then (λ _. some a) else λ _. r) ≡ some o → k ≡ operator_kind o
+    → (if eqb k q then (λ _. some a) otherwise λ _. r) ≡ some o → k ≡ operator_kind o
 picked k q a o r e f = go (eqb k q) refl
   where
-    go : (b : Bool) → eqb k q ≡ b → (if b then (λ _. some a) else λ _. r) ≡ some o → k ≡ operator_kind o
+    go : (b : Bool) → eqb k q ≡ b → (if b then (λ _. some a) otherwise λ _. r) ≡ some o → k ≡ operator_kind o
     go true h z = let same : a ≡ o = cc in eqb-true k q h ∙ e ∙ ap operator_kind same
     go false h z = f z
 

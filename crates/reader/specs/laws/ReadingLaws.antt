@@ -12,7 +12,7 @@ use Rattle.base.specs.promises.Table.{cell, col, c_kind, c_start, c_number}
 use Rattle.base.specs.Outcome.{accepted, refused}
 use Rattle.lexer.specs.Tokens.{Token, tokens}
 use Rattle.lexer.specs.promises.Rows.{Rows}
-use Rattle.lexer.specs.laws.RowLaws.{token-not-end, starts-increase}
+use Rattle.lexer.proofs.laws.RowLaws.{token-not-end, starts-increase}
 use Rattle.parser.specs.declared.answer.Answer.{Answer}
 use Rattle.parser.specs.declared.answer.Answer.TheVariants.{At, Bad}
 use Rattle.parser.specs.Tree.{Program}

@@ -1,6 +1,6 @@
 -- What the functions of Read ensure: the answer of the definition, and where it accepts, the tokens and the tree in the table.
 use Rattle.std.specs.Prelude.{ℕ, ◌≤◌, ◌≡◌, List, length, ltb}
-use Rattle.base.specs.Choice.{if◌then◌else◌, option}
+use Rattle.base.specs.Choice.{if◌then◌otherwise◌, option}
 use Rattle.base.specs.Codes.{source_most, too_deep, tokens_most}
 use Rattle.base.specs.Outcome.{Outcome, accepted, refused}
 use Rattle.base.specs.promises.Table.{col, c_start}
@@ -43,7 +43,7 @@ pub record MeasurePost (tab : List ℕ) (n : ℕ) (a : Filled) : Type 0 where
 
 -- the position of token k, or the source's length
 unfoldable pub place_in : List ℕ → (n k size : ℕ) → ℕ
-place_in tab n k size = if ltb k n then (λ _. col tab c_start k) else λ _. size
+place_in tab n k size = if ltb k n then (λ _. col tab c_start k) otherwise λ _. size
 
 -- the code's answer as document 01 counts it
 abbrev pub read_answer_of : ReadAnswer → SpecAnswer

@@ -3,7 +3,7 @@
 use Rattle.std.specs.Prelude.{ℕ, ◌≤◌, ◌<◌, min, ◌≡◌, refl, List, [], ◌∷◌, ◌≢◌, Bool, true, false, ◌&&◌, length, ltb}
 use Rattle.std.proofs.Common.{sym, ap, arith}
 use Rattle.std.proofs.Math.Option.{Option, none, some}
-use Rattle.base.specs.Choice.{if◌then◌else◌}
+use Rattle.base.specs.Choice.{if◌then◌otherwise◌}
 use Rattle.base.specs.promises.Table.{col, c_next}
 use Rattle.base.specs.Codes.{tokens_most, table_least}
 use Rattle.lexer.specs.Tokens.{Token}
@@ -92,7 +92,7 @@ pub record Walkable (tab : List ℕ) (n : ℕ) : Type 0 where
 
 -- the row after this one in a list; where there is no list, or the link does not go up, none
 unfoldable pub follower : List ℕ → (chain : Bool) → (row : ℕ) → ℕ
-follower tab chain row = if chain && ltb row (col tab c_next row) then (λ _. col tab c_next row) else λ _. absent
+follower tab chain row = if chain && ltb row (col tab c_next row) then (λ _. col tab c_next row) otherwise λ _. absent
 
 -- a part is a list
 abbrev pub is_list : Sort → Bool

@@ -5,7 +5,7 @@ use Rattle.std.specs.Prelude.{ℕ, zero, suc, ◌+◌, Bool, List, [], ◌∷◌
 use Rattle.std.proofs.Math.Option.{Option, none, some}
 use Rattle.std.proofs.Math.ListN.{get_elem?}
 use Rattle.std.proofs.Common.{length-set}
-use Rattle.base.specs.Choice.{if◌then◌else◌}
+use Rattle.base.specs.Choice.{if◌then◌otherwise◌}
 use Rattle.base.specs.Codes.{null_reference}
 use Rattle.parser.specs.Tree.{Element, Place, Operator, Class}
 use Rattle.typesystem.specs.ClassTable.{Context, Meaning, Meaning.of_row, Meaning.of_object, meaning, meaning_type}
@@ -107,7 +107,7 @@ module _ {Q : Request Core → Type 0} (q : Closed Q) where
   array-cell-by (array t n) k f = f t n
   array-cell-by (slot v) k f = q.at-stuck
 
-  pub choice-by : (b : Bool) (x y : Unit {0} → Request Core) → Q (x tt) → Q (y tt) → Q (if b then x else y)
+  pub choice-by : (b : Bool) (x y : Unit {0} → Request Core) → Q (x tt) → Q (y tt) → Q (if b then x otherwise y)
   choice-by b x y f g = by-test Q b x y (λ _. f) (λ _. g)
 
   pub innermost-by : (cs : List Call) (k : ℕ → Context → List Value → List Call → Request Core)

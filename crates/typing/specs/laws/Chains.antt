@@ -7,7 +7,7 @@ use Rattle.std.proofs.Math.Path.{refl, ap}
 use mathlib.Core.List.{List, [], ◌∷◌}
 use Rattle.std.proofs.lemmas.Bool.{false≢true}
 use Rattle.std.proofs.Math.Option.{Option, none, some}
-use Rattle.base.specs.Choice.{if◌then◌else◌, option}
+use Rattle.base.specs.Choice.{if◌then◌otherwise◌, option}
 use Rattle.base.specs.Bytes.{same}
 use Rattle.base.specs.All.{All}
 use Rattle.parser.specs.Tree.{Name, Element.class, Class}
@@ -68,7 +68,7 @@ tall-one {G} {n = suc n} (tall-more x s) (tall-more y t) = ap suc (tall-one s (s
 -- A TABLE WITHOUT A CLASS: it is one shorter, and finds every other class as before
 without : List Class → List ℕ → List Class
 without [] c = []
-without (k ∷ G) c = if same (class_name k) c then (λ _. G) else λ _. k ∷ without G c
+without (k ∷ G) c = if same (class_name k) c then (λ _. G) otherwise λ _. k ∷ without G c
 
 length_without : (G : List Class) (c : List ℕ) {k : Class} → class_named G c ≡ some k → length G ≡ suc (length (without G c))
 unfolding class_named without

@@ -5,7 +5,7 @@ use Rattle.std.proofs.Common.{sym, ◌∙◌, subst}
 use Rattle.std.proofs.Math.Option.{Option, none, some, none-ne-some}
 use Rattle.std.proofs.Math.ListN.{get_elem?}
 use Rattle.base.specs.Bytes.{same}
-use Rattle.base.specs.Choice.{if◌then◌else◌, option}
+use Rattle.base.specs.Choice.{if◌then◌otherwise◌, option}
 use Rattle.base.specs.Outcome.{Outcome, accepted, refused, ◌>>=◌}
 use Rattle.base.specs.All.{All, all_nil, all_cons}
 use Rattle.base.specs.laws.Lists.{all-at}
@@ -15,12 +15,12 @@ use Rattle.base.specs.laws.Tests.{same-equal}
 
 -- what holds of the branch that a choice takes holds of the choice
 pub by-test : {B : Type 0} (P : B → Type 0) (b : Bool) (x y : Unit {0} → B) → (b ≡ true → P (x tt)) → (b ≡ false → P (y tt))
-    → P (if b then x else y)
+    → P (if b then x otherwise y)
 by-test P true x y f g = f refl
 by-test P false x y f g = g refl
 
 -- which branch a choice took
-pub taken : {B R : Type 0} (b : Bool) (x y : Unit {0} → B) {z : B} → (if b then x else y) ≡ z → (b ≡ true → x tt ≡ z → R)
+pub taken : {B R : Type 0} (b : Bool) (x y : Unit {0} → B) {z : B} → (if b then x otherwise y) ≡ z → (b ≡ true → x tt ≡ z → R)
     → (b ≡ false → y tt ≡ z → R) → R
 taken {R = R} b x y {z = z} e f g = by-test (λ v. v ≡ z → R) b x y f g e
 
@@ -49,7 +49,7 @@ bound (accepted a) k e = (a, refl, e)
 bound (refused n p) k e = absurd (refused-accepted e)
 
 -- a test that refuses where it fails
-pub passed : {A : Type 0} (b : Bool) (x : Unit {0} → Outcome A) (n p : ℕ) {a : A} → (if b then x else λ _. refused n p) ≡ accepted a
+pub passed : {A : Type 0} (b : Bool) (x : Unit {0} → Outcome A) (n p : ℕ) {a : A} → (if b then x otherwise λ _. refused n p) ≡ accepted a
     → (b ≡ true) × (x tt ≡ accepted a)
 passed b x n p e = taken b x _ e (λ t q. (t, q)) (λ t q. absurd (refused-accepted q))
 
@@ -59,7 +59,7 @@ pub present : {A B : Type 0} (o : Option A) (n p : ℕ) (k : A → Outcome B) {b
 present o n p k e = held o e (λ t q. absurd (refused-accepted q)) (λ a t q. (a, t, q))
 
 -- a test that refuses where it succeeds
-pub failed : {A : Type 0} (b : Bool) (n p : ℕ) (x : Unit {0} → Outcome A) {a : A} → (if b then (λ _. refused n p) else x) ≡ accepted a
+pub failed : {A : Type 0} (b : Bool) (n p : ℕ) (x : Unit {0} → Outcome A) {a : A} → (if b then (λ _. refused n p) otherwise x) ≡ accepted a
     → (b ≡ false) × (x tt ≡ accepted a)
 failed b n p x e = taken b _ x e (λ t q. absurd (refused-accepted q)) (λ t q. (t, q))
 
@@ -92,7 +92,7 @@ module _ {A : Type 0} (f : List A → Outcome (Unit {0})) (g : A → Outcome (Un
 
 -- the first element of a list that has a name: it stands in the list, and the name is its own
 module _ {A : Type 0} (name : A → List ℕ) (c : List ℕ) (f : List A → Option A)
-    (none_left : f [] ≡ none) (one_more : (x : A) (l : List A) → f (x ∷ l) ≡ (if same (name x) c then (λ _. some x) else λ _. f l)) where
+    (none_left : f [] ≡ none) (one_more : (x : A) (l : List A) → f (x ∷ l) ≡ (if same (name x) c then (λ _. some x) otherwise λ _. f l)) where
   first_found : (l : List A) {a : A} → f l ≡ some a → (i : ℕ) × (get_elem? l i ≡ some a) × (name a ≡ c)
   first_found [] e = absurd (none-some none_left e)
   first_found (x ∷ l) {a} e =

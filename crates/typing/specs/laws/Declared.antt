@@ -9,7 +9,7 @@ use Rattle.std.proofs.Math.Option.{some}
 use borrow.Author.Tests.{ltb-true, lt-ltb}
 use Rattle.std.proofs.Math.Dec.{ltb}
 use Rattle.std.proofs.lemmas.List.{length-map}
-use Rattle.base.specs.Choice.{if◌then◌else◌}
+use Rattle.base.specs.Choice.{if◌then◌otherwise◌}
 use Rattle.base.specs.Codes.{variables_most}
 use Rattle.base.specs.Outcome.{Outcome, accepted, refused, ◌>>=◌}
 use Rattle.base.specs.All.{All, all_nil, all_cons}
@@ -33,7 +33,7 @@ use Rattle.typing.specs.laws.Distinctness.{unused-nil, Fresh, fresh-none, fresh-
 module _ (G : List Class) where
   -- one more variable, before the next stage
   new-variable : (earlier : List (List ℕ)) (v : Variable) (n : ℕ) (x : Unit {0} → Outcome (Unit {0}))
-      → (known_type G v.type >>= λ _. if occurs (text_of v) earlier then (λ _. refused n v.name.start) else x) ≡ accepted tt
+      → (known_type G v.type >>= λ _. if occurs (text_of v) earlier then (λ _. refused n v.name.start) otherwise x) ≡ accepted tt
       → Known G v × (occurs (text_of v) earlier ≡ false) × (x tt ≡ accepted tt)
   new-variable earlier v n x h =
       let k = bound (known_type G v.type) _ h in
@@ -61,7 +61,7 @@ module _ (G : List Class) where
   unfolding variables
   variables-sound earlier [] l h = (all_nil, fresh-none, omega arith)
   variables-sound earlier (v ∷ vs) l h =
-      let o = new-variable earlier v _ (λ _. if ltb (length earlier) variables_most then (λ _. variables G (text_of v ∷ earlier) vs) else λ _. refused _ _) h in
+      let o = new-variable earlier v _ (λ _. if ltb (length earlier) variables_most then (λ _. variables G (text_of v ∷ earlier) vs) otherwise λ _. refused _ _) h in
       let m = passed (ltb (length earlier) variables_most) (λ _. variables G (text_of v ∷ earlier) vs) _ _ o.2 in
       let w = variables-sound (text_of v ∷ earlier) vs (ltb-true (length earlier) variables_most m.0) m.1 in
       (all_cons o.0 w.0, fresh-more o.1 w.1, omega (arith, w.2))

@@ -1,6 +1,6 @@
 -- What the writer's functions ensure, whatever the tree is that the table holds, in whatever context.
 use Rattle.std.specs.Prelude.{ℕ, suc, ◌+◌, ◌≤◌, ◌<◌, ◌≡◌, List, ◌∷◌, Bool, true, false, length, eqb}
-use Rattle.base.specs.Choice.{if◌then◌else◌}
+use Rattle.base.specs.Choice.{if◌then◌otherwise◌}
 use Rattle.base.specs.Word.{modulus}
 use Rattle.base.specs.promises.Table.{rows, c_number, c_begin, c_first, c_second, c_third}
 use Rattle.lexer.specs.Kinds.{k_if}
@@ -132,7 +132,7 @@ pub record ScalesPost (tab : List ℕ) (s : Scope) (kind row : ℕ) (r : Bool) :
 
 -- of a statement that has a test, by the kind of its first token
 unfoldable pub form_tested : ℕ → Form
-form_tested k = if eqb k k_if then (λ _. a_conditional) else λ _. a_loop
+form_tested k = if eqb k k_if then (λ _. a_conditional) otherwise λ _. a_loop
 
 -- code for which there is room is written
 abbrev pub Written : (ts : List Token) (f : List Instruction → List Instruction) (stop at : ℕ) (c c' : List ℕ) (r : ℕ) → Type 0

@@ -2,7 +2,7 @@
 use native.Mathlib.Omega.{arith}
 use lib.ListN.{drop, length-drop}
 use Rattle.lexer.specs.Bytes.{is_name_part_lem}
-use Rattle.lexer.specs.laws.ItemLaws.{run_short}
+use Rattle.lexer.proofs.laws.ItemLaws.{run_short}
 use Rattle.lexer.proofs.Items.{piece-word}
 use Rattle.lexer.proofs.scan.word.Goals as goal
 

@@ -1,7 +1,7 @@
 -- `lexer::words::word_kind` meets its contract: at each length the words in the code are those of the definition, and there are no others.
 use mathlib.Core.Path.{refl}
 use Rattle.lexer.specs.Kinds.{words}
-use Rattle.lexer.specs.laws.WordLengths.{no_word}
+use Rattle.lexer.proofs.laws.WordLengths.{no_word}
 use Rattle.lexer.proofs.Reserved.{listed}
 use Rattle.lexer.proofs.words.word_kind.Goals as goal
 

@@ -1,0 +1,2 @@
+-- Theorems, and the laws that they rest on.
+pub mod laws

@@ -1,0 +1,5 @@
+-- Theorems, and the laws that they rest on.
+pub mod laws
+pub mod Lessons
+pub mod Paused
+pub mod Written

@@ -1,0 +1,4 @@
+-- Theorems, and the laws that they rest on.
+pub mod laws
+pub mod Joined
+pub mod Reading

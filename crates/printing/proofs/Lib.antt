@@ -1,0 +1,3 @@
+-- Theorems, and the laws that they rest on.
+pub mod laws
+pub mod Tidy
