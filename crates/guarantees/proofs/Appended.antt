@@ -9,42 +9,17 @@ use Rattle.base.specs.All.{All}
 use Rattle.base.specs.Choice.{option}
 use Rattle.base.specs.Outcome.{Outcome}
 use Rattle.device.specs.Device.{IsByte}
-use Rattle.lexer.specs.Tokens.{Token}
-use Rattle.parser.specs.Tree.{Class, Program}
-use Rattle.parser.specs.Grammar.{DerivesProgram}
+use Rattle.parser.specs.Tree.{Program}
 use Rattle.typesystem.specs.Check.{checking}
 use Rattle.acceptance.specs.Accepted.{Allowed, allowed-accepted}
 use Rattle.semantics.specs.Limits.{Limits, Report, run}
 use Rattle.semantics.specs.Run.{RunAnswer, Strips, limits_of_lem, unfit, Reports, after_run, refusal, RunMeets, Runs}
-use Rattle.appended.specs.More.{with_more, ClassDeclarations}
-use Rattle.appended.proofs.laws.Lexing.{has-tokens, tokens-begin}
-use Rattle.appended.proofs.laws.Programs.{appended-same}
-use Rattle.appended.proofs.laws.Sources.{tree-begins, program-closed}
-use Rattle.guarantees.proofs.laws.Literals.{accepted-literals}
+use Rattle.appended.specs.More.{ClassDeclarations}
+use Rattle.guarantees.proofs.RunAppended.{run-appended}
 
 -- the lesson s of the tree p, and s with t behind it, of the tree q: both are accepted
 module _ (s t : List ℕ) (p q : Program) (A : Allowed s p) (B : Allowed (s ++ t) q) where
-  -- The tree of the whole is the lesson's with classes behind its own: the same names, values, token numbers and positions.
-  pub tree-appended : (ks : List Class) × (q ≡ with_more p ks)
-  tree-appended =
-      let h = A.readable in
-      let g = B.readable in
-      let own = has-tokens s A.stream h.lexed in
-      let w = tokens-begin t (program-closed h.derived) own (has-tokens (s ++ t) B.stream g.lexed) in
-      tree-begins A.stream w.0 h.derived (subst (λ (ts : List Token). DerivesProgram ts q) w.1 g.derived)
-
   module _ (tape : List ℕ) (bytes : All IsByte tape) where
-    -- Both runs report the same, under all limits: result, position, steps, words, climbs, printed numbers and registers.
-    pub run-appended : (L : Limits) → run q L tape ≡ run p L tape
-    run-appended L =
-        let w = tree-appended in
-        appended-same p q L tape bytes A.typed (accepted-literals s p (allowed-accepted s p A))
-        (record {
-          statement = ap (λ (x : Program). x.statement) w.1;
-          more = w.0;
-          classes = ap (λ (x : Program). x.classes) w.1;
-        })
-
     -- Run may answer, and leave in what was lent, for the whole just what it may for the lesson.
     pub runs-appended : (budget calls : ℕ) (before : Strips) (a : RunAnswer) (after : Strips)
         → Runs s budget calls tape before a after ↔ Runs (s ++ t) budget calls tape before a after
@@ -57,7 +32,7 @@ module _ (s t : List ℕ) (p q : Program) (A : Allowed s p) (B : Allowed (s ++ t
         meets : Met (checking (s ++ t)) ≡ Met (checking s)
         meets =
             ap (λ (v : Outcome Program). RunMeets v budget calls tape before a after) (allowed-accepted (s ++ t) q B)
-            ∙ ap (λ (r : Report). Reports r a × (after ≡ after_run r before)) (run-appended (limits_of_lem budget calls before))
+            ∙ ap (λ (r : Report). Reports r a × (after ≡ after_run r before)) (run-appended s t p q A B tape bytes (limits_of_lem budget calls before))
             ∙ sym (ap (λ (v : Outcome Program). RunMeets v budget calls tape before a after) (allowed-accepted s p A))
 
         whole : option (unfit calls before) (Met (checking (s ++ t))) (λ n. (a ≡ refusal n 0) × (after ≡ before))

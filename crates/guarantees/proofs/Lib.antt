@@ -1,4 +1,6 @@
 -- Theorems, and the laws that they rest on.
 pub mod laws
+pub mod TreeAppended
+pub mod RunAppended
 pub mod Appended
 pub mod Demand

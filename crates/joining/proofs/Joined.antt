@@ -23,12 +23,15 @@ use Rattle.typing.specs.laws.Choices.{bound, refused-accepted}
 use Rattle.semantics.specs.Limits.{Limits, run}
 use Rattle.semantics.specs.Run.{RunAnswer, Strips, Runs}
 use Rattle.appended.specs.More.{with_more}
-use Rattle.guarantees.proofs.Appended.{run-appended, runs-appended}
+use Rattle.guarantees.proofs.RunAppended.{run-appended}
+use Rattle.guarantees.proofs.Appended.{runs-appended}
 use Rattle.joining.specs.Library.{LibraryReading, reading_library}
 use Rattle.joining.specs.Join.{names_of, kept_classes, kept_text, join_text, as_library, joining}
 use Rattle.joining.specs.Join.{join_result, join, Joins}
 use Rattle.joining.specs.Copy.{Copy}
-use Rattle.joining.proofs.Reading.{FindsLibrary, library-exactly, ReadableLibrary, readable-library}
+use Rattle.joining.specs.Found.{FindsLibrary}
+use Rattle.joining.specs.Text.{JoinedText}
+use Rattle.joining.proofs.Reading.{library-exactly, ReadableLibrary, readable-library}
 use Rattle.joining.proofs.laws.Adding.{many-tokens, tokens-few}
 use Rattle.joining.proofs.laws.Lengths.{kept-most, classes-few}
 use Rattle.joining.proofs.laws.Again.{nothing-kept}
@@ -109,14 +112,6 @@ module _ {s lib table before : List ℕ} {a : WriteAnswer} {tableExit after : Li
 -- a line feed behind the lesson, and one for each of 512 classes: a class has four tokens or more
 abbrev pub more_most : ℕ
 more_most = 513
-
--- of a lesson of the tree p and a library of the tokens ls and the classes ks
-pub record JoinedText (text : List ℕ) (p : Program) (ls : List Token) (ks : List Class) : Type 0 where
-  -- Whenever it passes Read, its tree is the lesson's with the kept classes behind its own.
-  pub tree : (r : Reading) → reading text ≡ accepted r
-      → (cs : List Class) × All2 (Copy ls) (kept_classes (names_of p) ks) cs × (r.tree ≡ with_more p cs)
-  -- Read refuses it with 10 or 15 only.
-  pub refusals : (n q : ℕ) → reading text ≡ refused n q → (n ≡ source_too_long) ⊎ (n ≡ too_many_tokens)
 
 refused-same : {A : Type 0} {o : Outcome A} {n m p q : ℕ} → o ≡ refused n p → o ≡ refused m q → m ≡ n
 refused-same a b = cc

@@ -3,3 +3,5 @@ pub mod Library
 pub mod Join
 pub mod Copy
 pub mod Rows
+pub mod Found
+pub mod Text

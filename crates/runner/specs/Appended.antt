@@ -10,7 +10,7 @@ use Rattle.parser.specs.Tree.{Program}
 use Rattle.semantics.specs.Limits.{Limits, Report, run}
 use Rattle.semantics.specs.Run.{RunMeets}
 use Rattle.acceptance.specs.Accepted.{Allowed, allowed-accepted}
-use Rattle.guarantees.proofs.Appended.{run-appended}
+use Rattle.guarantees.proofs.RunAppended.{run-appended}
 use Rattle.runner.specs.Demand.{RunCall, limits, printed}
 use Rattle.runner.specs.laws.DemandLaws.{one_answer, meets, shown-is, registers-are}
 

@@ -18,10 +18,7 @@ use Rattle.lexer.specs.Bytes.{b_line_feed, b_slash, b_star, b_ampersand, b_dot, 
 use Rattle.lexer.specs.Kinds.{Word, words, k_literal, k_fixed_literal, k_close_brace, kind_in, word_kind_lem, mark_kind_lem}
 use Rattle.lexer.specs.Tokens.{Item, gap, unclosed, nothing, token, longest_run, begins, closing, comment, numeral, item}
 use Rattle.lexer.proofs.laws.ItemLaws.{chosen, run_short}
-
--- nothing is put behind, or something that begins with a line feed
-abbrev pub NewLine : List ℕ → Type 0
-NewLine u = get_or u 0 b_line_feed ≡ b_line_feed
+use Rattle.appended.specs.Behind.{NewLine, Settled}
 
 -- n bytes of bs, then u: some are left, or u is a new line
 abbrev Room : ℕ → List ℕ → List ℕ → Type 0
@@ -76,10 +73,6 @@ closing-kept d i (a ∷ b ∷ bs) u e =
 -- bytes that go on with a literal: a point and a digit
 abbrev pub going_on : List ℕ → Bool
 going_on rest = eqb (get_or rest 0 0) b_dot && is_digit_lem (get_or rest 1 0)
-
--- more than one byte, or one that is no point, or a new line behind
-abbrev Settled : List ℕ → List ℕ → Type 0
-Settled rest u = ((0 < length rest) × (length rest ≡ 1 → get_or rest 0 0 ≢ b_dot)) ⊎ NewLine u
 
 abbrev pub literal_item : Bool → (whole rest : List ℕ) → Item
 literal_item b whole rest =

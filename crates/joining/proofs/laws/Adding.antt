@@ -13,7 +13,8 @@ use Rattle.base.specs.Outcome.{accepted, refused}
 use Rattle.lexer.specs.Bytes.{b_line_feed, is_blank}
 use Rattle.lexer.specs.Tokens.{Token, gap, token, item, turn, tokens_from, tokens}
 use Rattle.typing.specs.laws.Choices.{refused-accepted}
-use Rattle.appended.proofs.laws.Items.{NewLine, Kept, item-kept}
+use Rattle.appended.specs.Behind.{NewLine}
+use Rattle.appended.proofs.laws.Items.{Kept, item-kept}
 use Rattle.appended.proofs.laws.Lexing.{Fine, HasTokens, no_byte, a-gap, a-token, has-tokens-at, has-tokens}
 
 -- TO THE FUNCTION
