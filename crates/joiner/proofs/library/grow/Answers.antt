@@ -3,12 +3,7 @@ use Rattle.joiner.proofs.Filling.{grow-at, grow-bad}
 use Rattle.joiner.proofs.library.grow.Goals as goal
 
 pub returns-in-At : goal.returns-in-At
-returns-in-At c = grow-at c.classes-a.ensures
-    c.requires.few
-    c.requires.big c.in-At.is
-    c.measure.ensures
+returns-in-At c = search grow-at
 
 pub returns-in-Bad : goal.returns-in-Bad
-returns-in-Bad c = grow-bad c.classes-a.ensures
-    c.requires.few c.in-Bad.is
-    c.place.ensures
+returns-in-Bad c = search grow-bad
