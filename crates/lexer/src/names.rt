@@ -40,10 +40,8 @@ fn bucket(text: &[u8]) -> usize
     ensures { (result ≡ bucket_from 0 text.now) × (result < rows) }
 {
     let mut h: usize = 0;
-    let mut i: usize = 0;
-    while i < text.len() {
-        h = (h * 31 + text[i] as usize) % BUCKETS;
-        i += 1;
+    for &b in text {
+        h = (h * 31 + b as usize) % BUCKETS;
     }
     h
 }
@@ -53,11 +51,7 @@ pub fn clear_buckets(table: &mut [u32])
     requires { table_least ≤ length table.old }
     ensures { NoNames table.new rows }
 {
-    let mut b: usize = 0;
-    while b < BUCKETS {
-        table[HEADS + b] = 0;
-        b += 1;
-    }
+    table[HEADS..HEADS + BUCKETS].fill(0);
 }
 
 // Whether the token of a row has these bytes.
