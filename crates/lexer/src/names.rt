@@ -11,8 +11,6 @@ ghost use Rattle.lexer.specs.Kinds.{is_name_lem};
 ghost use Rattle.lexer.specs.promises.Rows.{first_named};
 ghost use Rattle.lexer.specs.promises.Chains.{bucket_from, NoNames, text_from, tokens_of, token_row, stored_row, Sought, Adding, Extended};
 
-use super::bytes::equal;
-
 // Where the columns of the table begin: the token's position, its name's number or literal's value, the head of a bucket, the link of a
 // chain, the token's length. Its kind stands in column 0.
 const STARTS: usize = 2048;
@@ -61,7 +59,7 @@ fn has_text(source: &[u8], table: &[u32], row: usize, text: &[u8]) -> bool
 {
     let start = table[STARTS + row] as usize;
     let end = start + table[LENGTHS + row] as usize;
-    equal(&source[start..end], text)
+    &source[start..end] == text
 }
 
 // The number of the name with these bytes, where `count` rows are filled: `count` where no row has them.
