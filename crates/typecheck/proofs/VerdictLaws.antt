@@ -25,12 +25,15 @@ use Rattle.typesystem.specs.Check.{all_bodies, judged, checking, check_answer, c
 use Rattle.typing.specs.laws.Agreement.{program-acyclic}
 use Rattle.acceptance.specs.Read.{readable-exactly}
 use Rattle.acceptance.specs.Accepted.{allowed}
-use Rattle.lookup.specs.declared.answer.Judged.{Judged}
-use Rattle.lookup.specs.declared.answer.Judged.TheVariants.{Fine, Refused}
+use Rattle.std.specs.Prelude.{Result, Ok, Err}
+use Rattle.base.specs.declared.refusal.Reason.TheVariants as reason
+use Rattle.base.specs.declared.refusal.Refusal.{Refusal}
+use Rattle.base.specs.promises.Refusals.{number_of}
+use Rattle.lookup.specs.promises.Answers.{Judged, Typed}
 use Rattle.lookup.specs.promises.HeldClasses.{word_at, Lexemes, ClassesHeld, no-classes, more-classes}
 use Rattle.lookup.specs.laws.HeldLaws.{word_in, row-there}
 use Rattle.lookup.specs.promises.Lookups.{Many, many-none, many_more, Counts}
-use Rattle.lookup.specs.promises.Answers.{as_judged, as_judged-fine, as_judged-refused, goes_on, stops}
+use Rattle.lookup.specs.promises.Answers.{told, told-fine, told-refused, goes_on, stops}
 use Rattle.declarations.specs.promises.Marking.{StampsBelow}
 use Rattle.declarations.specs.promises.Judgements.{ClassesAt, ParentsJudged, ChainsJudged, DeclarationsJudged}
 use Rattle.declarations.specs.promises.Indexing.{Ready, IndexMade}
@@ -53,14 +56,14 @@ classes-at h e = record { here = e; stand = h.world.classes; few = h.world.few }
 
 module _ {tab : List ℕ} {n classes first : ℕ} {v : Judged} (f : DeclarationsJudged tab n classes n first v) where
   declared : (ts : List Token) (p : Program) → Ready tab n ts p → length p.classes ≡ classes → row_classes p.classes ≡ first
-      → v ≡ as_judged (declarations p.classes p.classes)
+      → told v ≡ (declarations p.classes p.classes)
   declared ts p h l e = f.says ts p.classes h.world l p.classes (classes-at h e) h.own
 
-  pub contents-refused : {k q : ℕ} → v ≡ Refused k q → ContentsJudged tab n classes first (Refused k q)
+  pub contents-refused : {z : Refusal} → v ≡ Err z → ContentsJudged tab n classes first (Err z)
   contents-refused is =
       record { says = λ ts p h l e. rw (stops (declarations p.classes p.classes) (λ _. all_bodies p) (declared ts p h l e) is) }
 
-  pub contents-bodies : {u : ℕ} → v ≡ Fine u → {r : Judged} → BodiesJudged tab n classes r → ContentsJudged tab n classes first r
+  pub contents-bodies : v ≡ Ok tt → {r : Judged} → BodiesJudged tab n classes r → ContentsJudged tab n classes first r
   contents-bodies is g =
       record { says = λ ts p h l e. rw (goes_on (declarations p.classes p.classes) (λ _. all_bodies p) (declared ts p h l e) is) (g.says ts p h l) }
 
@@ -68,14 +71,14 @@ module _ {tab : List ℕ} {n classes first : ℕ} {v : Judged} (f : Declarations
 
 module _ {tab : List ℕ} {n classes first : ℕ} {v : Judged} (f : ChainsJudged tab classes n first v) where
   chains-told : (ts : List Token) (p : Program) → Ready tab n ts p → length p.classes ≡ classes → row_classes p.classes ≡ first
-      → v ≡ as_judged (ending_chains p.classes p.classes)
+      → told v ≡ (ending_chains p.classes p.classes)
   chains-told ts p h l e = f.says n ts p.classes h.world l p.classes (classes-at h e)
 
-  pub chained_refused : {k q : ℕ} → v ≡ Refused k q → ChainedJudged tab n classes first (Refused k q)
+  pub chained_refused : {z : Refusal} → v ≡ Err z → ChainedJudged tab n classes first (Err z)
   chained_refused is =
       record { says = λ ts p h l e. rw (stops (ending_chains p.classes p.classes) (λ _. contents_of p) (chains-told ts p h l e) is) }
 
-  pub chained-contents : {u : ℕ} → v ≡ Fine u → {r : Judged} → ContentsJudged tab n classes first r → ChainedJudged tab n classes first r
+  pub chained-contents : v ≡ Ok tt → {r : Judged} → ContentsJudged tab n classes first r → ChainedJudged tab n classes first r
   chained-contents is g =
       record { says = λ ts p h l e. rw (goes_on (ending_chains p.classes p.classes) (λ _. contents_of p) (chains-told ts p h l e) is) (g.says ts p h l e) }
 
@@ -91,30 +94,30 @@ first-row : (tab : List ℕ) {n : ℕ} {ts : List Token} {p : Program} → Ready
 first-row tab h e = sym (e ∙ word_in tab c_next 0 (omega arith) h.first)
 
 module _ {tab : List ℕ} {n first : ℕ} (e₆ : first ≡ word_at tab c_next 0) {v : Judged} (f : ParentsJudged tab n first v) where
-  parents-told : (ts : List Token) (p : Program) → Ready tab n ts p → v ≡ as_judged (known_parents p.classes p.classes)
+  parents-told : (ts : List Token) (p : Program) → Ready tab n ts p → told v ≡ (known_parents p.classes p.classes)
   parents-told ts p h = f.says n ts p.classes h.world p.classes (classes-at h (first-row tab h e₆))
 
-  pub indexed-refused : {k q : ℕ} → v ≡ Refused k q → IndexedJudged tab n (declined k q)
+  pub indexed-refused : {z : Refusal} → v ≡ Err z → IndexedJudged tab n (declined k q)
   indexed-refused is =
-      record { says = λ ts p h d. rw (as_judged-refused (known_parents p.classes p.classes) (parents-told ts p h) is) }
+      record { says = λ ts p h d. rw (told-refused (known_parents p.classes p.classes) (parents-told ts p h) is) }
 
-  module _ {u : ℕ} (is : v ≡ Fine u) {classes : ℕ} (many : Counts tab n first classes) {c : Judged} (g : ChainedJudged tab n classes first c) where
+  module _ {u : ℕ} (is : v ≡ Ok u) {classes : ℕ} (many : Counts tab n first classes) {c : Judged} (g : ChainedJudged tab n classes first c) where
     counted : (ts : List Token) (p : Program) → Ready tab n ts p → length p.classes ≡ classes
     counted ts p h =
         sym (many.says (length p.classes)
         (subst (λ (i : ℕ). Many tab i (length p.classes)) (first-row tab h e₆) (many-classes h.world.tokens h.world.classes)) h.world.few)
 
-    later-told : (ts : List Token) (p : Program) → Ready tab n ts p → c ≡ as_judged (chains_on p)
+    later-told : (ts : List Token) (p : Program) → Ready tab n ts p → told c ≡ (chains_on p)
     later-told ts p h = g.says ts p h (counted ts p h) (first-row tab h e₆)
 
     known-told : (ts : List Token) (p : Program) → Ready tab n ts p → parents_on p ≡ (chains_on p >>= λ _. accepted p)
     known-told ts p h = goes_on (known_parents p.classes p.classes) (λ _. chains_on p >>= λ _. accepted p) (parents-told ts p h) is
 
-    pub indexed-later : {k q : ℕ} → c ≡ Refused k q → IndexedJudged tab n (declined k q)
+    pub indexed-later : {z : Refusal} → c ≡ Err z → IndexedJudged tab n (declined k q)
     indexed-later is' =
         record { says = λ ts p h d. rw (known-told ts p h, stops (chains_on p) (λ _. accepted p) (later-told ts p h) is') }
 
-    pub indexed-found : {w : ℕ} → c ≡ Fine w → IndexedJudged tab n (found n classes)
+    pub indexed-found : c ≡ Ok tt → IndexedJudged tab n (found n classes)
     indexed-found is' =
         record {
           says = λ ts p h d. rw (known-told ts p h, goes_on (chains_on p) (λ _. accepted p) (later-told ts p h) is') (holding ts p h d);
@@ -143,20 +146,20 @@ stages p = ap (λ (o : Outcome Program). known_parents p.classes p.classes >>= �
     go (refused n q) b = refl
 
 module _ {n : ℕ} {before middle : List ℕ} {v : Judged} (f : IndexMade n before v middle) where
-  pub tree-refused : {k q : ℕ} → v ≡ Refused k q → TreeJudged n before (declined k q) middle
+  pub tree-refused : {z : Refusal} → v ≡ Err z → TreeJudged n before (declined k q) middle
   unfolding judged
   tree-refused is =
       record {
         says = λ rd h l.
-            rw (as_judged-refused (distinct_classes (rd.tree.main.text ∷ []) rd.tree.classes) (f.says rd h l).0 is);
+            rw (told-refused (distinct_classes (rd.tree.main.text ∷ []) rd.tree.classes) (f.says rd h l).0 is);
       }
 
-  pub tree-indexed : {u : ℕ} → v ≡ Fine u → {r : Finding} → IndexedJudged middle n r → TreeJudged n before r middle
+  pub tree-indexed : v ≡ Ok tt → {r : Finding} → IndexedJudged middle n r → TreeJudged n before r middle
   unfolding judged
   tree-indexed is g =
       record {
         says = λ rd h l.
-            let d = as_judged-fine (distinct_classes (rd.tree.main.text ∷ []) rd.tree.classes) (f.says rd h l).0 is in
+            let d = told-fine (distinct_classes (rd.tree.main.text ∷ []) rd.tree.classes) (f.says rd h l).0 is in
             rw (d, stages rd.tree) (g.says rd.stream rd.tree ((f.says rd h l).1 d) h.derived);
       }
 
@@ -193,7 +196,7 @@ promised s d p after e q h =
     }
 
 module _ (s : List ℕ) (a : Filled) (middle : List ℕ) (f : Fills (reading s) a middle) where
-  finds-refused : (after : List ℕ) {n q : ℕ} → a ≡ notRead n q → FindsProgram s (checking s) (declined n q) after
+  finds-refused : (after : List ℕ) {z : Refusal} → a ≡ notRead n q → FindsProgram s (checking s) (declined n q) after
   unfolding checking
   finds-refused after {n} {q} is = go (reading s) f
     where
@@ -213,7 +216,7 @@ module _ (s : List ℕ) (a : Filled) (middle : List ℕ) (f : Fills (reading s) 
           by (refused k p) q x = x
       go (refused k p) e h = let z = h in apart (cc)
 
-  pub find-refused : (after : List ℕ) {n q : ℕ} → a ≡ notRead n q → Leaves s (checking s) (declined n q) after
+  pub find-refused : (after : List ℕ) {z : Refusal} → a ≡ notRead n q → Leaves s (checking s) (declined n q) after
   find-refused after {n} {q} is =
       let x = finds-refused after is in
       record { answers = told-right s (checking s) (declined n q) after x; finds = x }
@@ -232,7 +235,7 @@ module _ (s : List ℕ) (a : Filled) (middle : List ℕ) (f : Fills (reading s) 
       go (refused k p) h = let z = h in apart (cc)
 
   -- what is told of it
-  pub answer-refused : {n q : ℕ} → a ≡ notRead n q → {x : CheckAnswer} → check_answer_of x ≡ told (declined n q)
+  pub answer-refused : {z : Refusal} → a ≡ notRead n q → {x : CheckAnswer} → check_answer_of x ≡ told (declined n q)
       → check_answer_of x ≡ check_answer (checking s)
   answer-refused is t = t ∙ (find-refused [] is).answers
 
@@ -262,6 +265,6 @@ pub told-found : {f : Finding} {n k : ℕ} → f ≡ found n k → {r : CheckAns
     → check_answer_of r ≡ told f
 told-found is e₁ e₂ e₃ = rw (is, e₁, e₂, e₃)
 
-pub told-unfit : {f : Finding} {n q : ℕ} → f ≡ declined n q → {r : CheckAnswer} → r.number ≡ n → r.position ≡ q → r.classes ≡ 0
+pub told-unfit : {f : Finding} {z : Refusal} → f ≡ declined n q → {r : CheckAnswer} → r.number ≡ n → r.position ≡ q → r.classes ≡ 0
     → check_answer_of r ≡ told f
 told-unfit is e₁ e₂ e₃ = rw (is, e₁, e₂, e₃)

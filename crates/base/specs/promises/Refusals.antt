@@ -56,7 +56,11 @@ number_of reason.CallsFull = Codes.calls_full
 number_of reason.OutputFull = Codes.output_full
 number_of reason.Broken = 99
 
--- the outcome of a stage that a result says
+-- the refusal for a reason at a position
+abbrev pub refusal : {A : Type 0} → Reason → (position : ℕ) → Result A Refusal
+refusal reason p = Err (record { reason = reason; position = p })
+
+-- the outcome of a stage that a result tells
 abbrev pub outcome : {A B : Type 0} → (A → B) → Result A Refusal → Outcome B
 outcome of (Ok a) = accepted (of a)
 outcome of (Err r) = refused (number_of r.reason) r.position

@@ -11,10 +11,13 @@ use Rattle.parser.specs.promises.Post.{kind_in_table}
 use Rattle.reader.specs.promises.Spans.{Among}
 use Rattle.typesystem.specs.ClassTable.{Context, method_of}
 use Rattle.typesystem.specs.Judge.{judge, must, for_array, arity, invocation, look_up}
-use Rattle.lookup.specs.declared.answer.Judged.{Judged}
-use Rattle.lookup.specs.declared.answer.Judged.TheVariants.{Fine, Refused}
+use Rattle.std.specs.Prelude.{Result, Ok, Err}
+use Rattle.base.specs.declared.refusal.Reason.TheVariants as reason
+use Rattle.base.specs.declared.refusal.Refusal.{Refusal}
+use Rattle.base.specs.promises.Refusals.{number_of}
+use Rattle.lookup.specs.promises.Answers.{Judged, Typed}
 use Rattle.lookup.specs.promises.HeldClasses.{word_at, NameNumber, Codes, ListedAt, ClassTableHeld}
-use Rattle.lookup.specs.promises.Answers.{as_judged, Judges}
+use Rattle.lookup.specs.promises.Answers.{told, Judges}
 use Rattle.lookup.specs.promises.Shows.{PartAt, Form, a_new_array, a_length, form_atom, form_compound}
 use Rattle.bodies.specs.declared.scope.Scope.{Scope}
 use Rattle.bodies.specs.promises.Scoping.{InScope, PartIn, ShowsIn}
@@ -27,8 +30,8 @@ pub record Invoked (tab : List ℕ) (ts : List Token) (first end row : ℕ) (m :
 
 -- the answer for a node of this type, by that for its last part
 pub data TypedPost (t : ℕ) (part : Judged) : Judged → Type 0 where
-  typed-fine : {u : ℕ} → part ≡ Fine u → TypedPost t part (Fine t)
-  typed-refused : {n p : ℕ} → part ≡ Refused n p → TypedPost t part (Refused n p)
+  typed-fine : part ≡ Ok tt → TypedPost t part (Ok t)
+  typed-refused : {z : Refusal} → part ≡ Err z → TypedPost t part (Err z)
 
 module _ (tab : List ℕ) (s : Scope) where
   -- a name, which is a whole expression or the target of an assignment
@@ -64,15 +67,15 @@ module _ (tab : List ℕ) (s : Scope) where
 
   -- an expression in any row; one that is fine lies in the range
   pub record ExpressionPost (first end row : ℕ) (r : Judged) : Type 0 where
-    pub among : {t : ℕ} → r ≡ Fine t → Among first end row
+    pub among : {t : ℕ} → r ≡ Ok t → Among first end row
     pub says : (ts : List Token) (G : List Class) (Γ : Context) → InScope tab ts G Γ s → (e : Expression) → PartIn tab ts row first end e
         → Judges ts (judge G Γ e) r
 
   -- an expression that must fit a type
   pub record OperandPost (first end row want : ℕ) (r : Judged) : Type 0 where
-    pub among : {t : ℕ} → r ≡ Fine t → Among first end row
+    pub among : {t : ℕ} → r ≡ Ok t → Among first end row
     pub says : (ts : List Token) (G : List Class) (Γ : Context) → InScope tab ts G Γ s → (e : Expression) → PartIn tab ts row first end e
-        → (t : Ty) → Codes ts t want → r ≡ as_judged (judge G Γ e >>= λ u. must G e t u)
+        → (t : Ty) → Codes ts t want → told r ≡ (judge G Γ e >>= λ u. must G e t u)
 
   -- an expression that must be an array, with the type of what it holds
   pub record ArrayPost (first end row : ℕ) (r : Judged) : Type 0 where
@@ -96,7 +99,7 @@ module _ (tab : List ℕ) (s : Scope) where
   pub record ArgumentsPost (first end row parameter : ℕ) (r : Judged) : Type 0 where
     pub says : (ts : List Token) (G : List Class) (Γ : Context) → InScope tab ts G Γ s → (es : Part arguments)
         → PartIn tab ts row first end es → (n : ℕ) (vs : List Variable) → ListedAt tab n ts parameter vs → arity es ≡ length vs
-        → r ≡ as_judged (judge G Γ es vs)
+        → told r ≡ (judge G Γ es vs)
 
 -- `new C()`, in a table of n tokens
 pub record ObjectPost (tab : List ℕ) (n row : ℕ) (r : Judged) : Type 0 where

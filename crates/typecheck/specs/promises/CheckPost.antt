@@ -19,8 +19,12 @@ use Rattle.typesystem.specs.ClassTable.{class_named}
 use Rattle.typesystem.specs.TypingRules.{Ends, ProgramTyped}
 use Rattle.typesystem.specs.Declarations.{known_parents, ending_chains, declarations}
 use Rattle.typesystem.specs.Check.{all_bodies, judged, CheckAnswer as SpecAnswer, check_answer}
-use Rattle.lookup.specs.declared.answer.Judged.{Judged}
-use Rattle.lookup.specs.promises.Answers.{as_judged}
+use Rattle.std.specs.Prelude.{Result, Ok, Err}
+use Rattle.base.specs.declared.refusal.Reason.TheVariants as reason
+use Rattle.base.specs.declared.refusal.Refusal.{Refusal}
+use Rattle.base.specs.promises.Refusals.{number_of}
+use Rattle.lookup.specs.promises.Answers.{Judged, Typed}
+use Rattle.lookup.specs.promises.Answers.{told}
 use Rattle.declarations.specs.promises.Indexing.{Ready}
 use Rattle.typecheck.specs.declared.check.Finding.{Finding}
 use Rattle.typecheck.specs.declared.check.Finding.TheVariants.{Program as found, Refused as declined}
@@ -81,11 +85,11 @@ parents_on p = known_parents p.classes p.classes >>= λ _. chains_on p >>= λ _.
 
 pub record ContentsJudged (tab : List ℕ) (n classes first : ℕ) (r : Judged) : Type 0 where
   pub says : (ts : List Token) (p : Program) → Ready tab n ts p → length p.classes ≡ classes → row_classes p.classes ≡ first
-      → r ≡ as_judged (contents_of p)
+      → told r ≡ contents_of p
 
 pub record ChainedJudged (tab : List ℕ) (n classes first : ℕ) (r : Judged) : Type 0 where
   pub says : (ts : List Token) (p : Program) → Ready tab n ts p → length p.classes ≡ classes → row_classes p.classes ≡ first
-      → r ≡ as_judged (chains_on p)
+      → told r ≡ chains_on p
 
 pub record IndexedJudged (tab : List ℕ) (n : ℕ) (r : Finding) : Type 0 where
   pub says : (ts : List Token) (p : Program) → Ready tab n ts p → DerivesProgram ts p → ProgramDecided ts (parents_on p) r tab
