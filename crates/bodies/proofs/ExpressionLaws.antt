@@ -49,7 +49,7 @@ use Rattle.bodies.specs.declared.scope.Scope.{Scope}
 use Rattle.bodies.specs.promises.Scoping.{InScope, PartIn, NameTyped}
 use Rattle.bodies.specs.promises.OperatorPost.{OperationPost}
 use Rattle.bodies.specs.promises.ExpressionPost.{Invoked, NamePost, ThisPost, NodeJudged, NodePost, AtomPost, CreationPost}
-use Rattle.bodies.specs.promises.ExpressionPost.{DottedPost, ExpressionPost, OperandPost, TypedPost, typed-fine, typed-refused, ArrayPost, NewArrayPost}
+use Rattle.bodies.specs.promises.ExpressionPost.{DottedPost, ExpressionPost, OperandPost, ArrayPost, NewArrayPost}
 use Rattle.bodies.specs.promises.ExpressionPost.{LengthPost, InvocationPost, ArgumentsPost}
 use Rattle.bodies.specs.promises.ExpressionPost.{ObjectPost, SameCount}
 use Rattle.bodies.proofs.PartLaws.{judges-fine, judges-refused, judged-fine, judged-refused, goes, halts, plain_code, array-code}
@@ -57,7 +57,7 @@ use Rattle.bodies.proofs.PartLaws.{array-fine, array-refused, few-tokens}
 use Rattle.bodies.proofs.PartLaws.{one_more, seen-in, start_of}
 
 -- a form by another name
-formed : {tab : List ℕ} {s : Scope} {F H : Form} {first end row : ℕ} {r : Judged} → F ≡ H → NodePost tab s F first end row r
+formed : {tab : List ℕ} {s : Scope} {F H : Form} {first end row : ℕ} {r : Typed} → F ≡ H → NodePost tab s F first end row r
     → NodePost tab s H first end row r
 formed {tab} {s} {first = first} {end = end} {row = row} {r = r} e f = subst (λ (J : Form). NodePost tab s J first end row r) e f
 
@@ -97,7 +97,7 @@ module _ {tab : List ℕ} {s : Scope} {row : ℕ} where
       go p none (no_name q) = absurd (omega arith)
       go p (some c) (a-name sp) = well (code-plain (code-class sp))
 
-module _ {tab : List ℕ} {s : Scope} {kind row : ℕ} {r : Judged} where
+module _ {tab : List ℕ} {s : Scope} {kind row : ℕ} {r : Typed} where
   -- what is answered to a form is answered to a kind of that form
   atom : {F : Form} → F ≡ form_atom kind → ((first end : ℕ) → NodeJudged tab s F first end row r) → AtomPost tab s kind row r
   atom f g = record { says = λ first end. (formed f (record { says = g first end })).says }
@@ -246,11 +246,11 @@ module _ {tab : List ℕ} {s : Scope} {first end row : ℕ} where
   expression-behind high =
       record { among = λ is. apart (cc); says = λ ts G Γ i e h. absurd (omega (arith, (inside e h.within).high, h.at)) }
 
-  module _ (low : first ≤ row) (high : row < end) {k : ℕ} (kind : k ≡ kind_in_table tab s.tokens row) {r : Judged} where
+  module _ (low : first ≤ row) (high : row < end) {k : ℕ} (kind : k ≡ kind_in_table tab s.tokens row) {r : Typed} where
     -- the kinds tell the form
-    told : {F : Form} → form_e k (kind_in_table tab s.tokens (row + 1)) (kind_in_table tab s.tokens (row + 2)) ≡ F
+    by_kinds : {F : Form} → form_e k (kind_in_table tab s.tokens (row + 1)) (kind_in_table tab s.tokens (row + 2)) ≡ F
         → NodeJudged tab s F first end row r → ExpressionPost tab s first end row r
-    told f g =
+    by_kinds f g =
         record {
           among = λ is. record { low = low; high = high };
           says = λ ts G Γ i e h. g ts G Γ i e (seen-in i first end (by kind ∙ f) e h);
@@ -264,11 +264,11 @@ module _ {tab : List ℕ} {s : Scope} {first end row : ℕ} where
     alone : (k' : ℕ) → k ≡ k'
         → NodeJudged tab s (form_e k' (kind_in_table tab s.tokens (row + 1)) (kind_in_table tab s.tokens (row + 2))) first end row r
         → ExpressionPost tab s first end row r
-    alone k' is g = told (ap (λ (j : ℕ). form_e j (kind_in_table tab s.tokens (row + 1)) (kind_in_table tab s.tokens (row + 2))) is) g
+    alone k' is g = by_kinds (ap (λ (j : ℕ). form_e j (kind_in_table tab s.tokens (row + 1)) (kind_in_table tab s.tokens (row + 2))) is) g
 
     pub expression-atom : {a : Bool} → a ≡ is_atom_lem k → a ≡ true → AtomPost tab s k row r → ExpressionPost tab s first end row r
     unfolding form_e
-    expression-atom ea is f = told (rw (sym ea ∙ is)) (f.says first end)
+    expression-atom ea is f = by_kinds (rw (sym ea ∙ is)) (f.says first end)
 
     pub expression-new : k ≡ k_new → CreationPost tab s first end row r → ExpressionPost tab s first end row r
     unfolding form_e is_atom_lem is_name_lem
@@ -286,17 +286,21 @@ module _ {tab : List ℕ} {s : Scope} {first end row : ℕ} where
         → (k ≡ k_open_bracket → ⊥) → NodePost tab s a_binary first end row r → ExpressionPost tab s first end row r
     unfolding form_e form_compound
     expression-binary ea other n₁ n₂ n₃ n₄ n₅ f =
-        told (rw (sym ea ∙ other, ne_eqb k k_new n₁, ne_eqb k k_dot n₂, ne_eqb k k_not n₃, ne_eqb k k_port n₄, ne_eqb k k_open_bracket n₅)) f.says
+        by_kinds (rw (sym ea ∙ other, ne_eqb k k_new n₁, ne_eqb k k_dot n₂, ne_eqb k k_not n₃, ne_eqb k k_port n₄, ne_eqb k k_open_bracket n₅)) f.says
 
--- a last part that must fit, of a node with a type of its own
+-- the answer for a node by that for its last part, which must fit: the node has a type of its own, unless the part is refused
+pub data LastPart (t : ℕ) (part : Judged) : Typed → Type 0 where
+  last-fine : part ≡ Ok tt → LastPart t part (Ok t)
+  last-refused : {z : Refusal} → part ≡ Err z → LastPart t part (Err z)
+
 module _ {tab : List ℕ} {s : Scope} {first end row want answer : ℕ} {v : Judged} (f : OperandPost tab s first end row want v) where
-  last : {r : Judged} → TypedPost answer v r → (ts : List Token) (G : List Class) (Γ : Context) → InScope tab ts G Γ s → (e : Expression)
+  last : {r : Typed} → LastPart answer v r → (ts : List Token) (G : List Class) (Γ : Context) → InScope tab ts G Γ s → (e : Expression)
       → PartIn tab ts row first end e → (t u : Ty) → Codes ts t want → Codes ts u answer
       → Judges ts (judge G Γ e >>= λ v. must G e t v >>= λ _. accepted u) r
-  last (typed-fine is) ts G Γ i e h t u c d =
+  last (last-fine is) ts G Γ i e h t u c d =
       judged-fine (goes (judge G Γ e) (must G e t) (accepted u) (f.says ts G Γ i e h t c) is) d
-  last (typed-refused is) ts G Γ i e h t u c d =
-      judged-refused (halts (judge G Γ e) (must G e t) (accepted u) (f.says ts G Γ i e h t c) is)
+  last (last-refused {z = z} is) ts G Γ i e h t u c d =
+      judged-refused z (halts (judge G Γ e) (must G e t) (accepted u) (f.says ts G Γ i e h t c) is)
 
 -- the kinds of a node with one part, which is of its own type, and the number of that type
 pub data Unary : (kind want : ℕ) → Type 0 where
@@ -305,12 +309,12 @@ pub data Unary : (kind want : ℕ) → Type 0 where
 
 pub expression-unary : {k' want : ℕ} → Unary k' want → {tab : List ℕ} {s : Scope} {first end row k : ℕ} → first ≤ row → row < end
     → k ≡ kind_in_table tab s.tokens row → k ≡ k' → {part : ℕ} → part ≡ word_at tab c_first row → {after end' : ℕ} → after ≡ row + 1 → end' ≡ end
-    → {v r : Judged} → OperandPost tab s after end' part want v → TypedPost want v r → ExpressionPost tab s first end row r
+    → {v : Judged} {r : Typed} → OperandPost tab s after end' part want v → LastPart want v r → ExpressionPost tab s first end row r
 unfolding form_e form_compound is_atom_lem is_name_lem judge
 expression-unary {k'} u {tab} {s} {first} {end} {row} from below kind is {part} e₄ {after} {end'} low high {v} {r} f g =
     alone from below kind k' is (go u f g)
   where
-    go : {k' want : ℕ} → Unary k' want → OperandPost tab s after end' part want v → TypedPost want v r
+    go : {k' want : ℕ} → Unary k' want → OperandPost tab s after end' part want v → LastPart want v r
         → NodeJudged tab s (form_e k' (kind_in_table tab s.tokens (row + 1)) (kind_in_table tab s.tokens (row + 2))) first end row r
     go of-not f g ts G Γ i t (shows-negation {e = e} st x) =
         last f g ts G Γ i e (rw (e₄, low, high) x) (plain boolean) (plain boolean) (code-plain (code-boolean refl)) (code-plain (code-boolean refl))
@@ -319,7 +323,7 @@ expression-unary {k'} u {tab} {s} {first} {end} {row} from below kind is {part} 
 
 -- PARTS THAT MUST FIT
 
-module _ {tab : List ℕ} {s : Scope} {first end row want : ℕ} {v : Judged} (f : ExpressionPost tab s first end row v) where
+module _ {tab : List ℕ} {s : Scope} {first end row want : ℕ} {v : Typed} (f : ExpressionPost tab s first end row v) where
   module _ {t : ℕ} (is : v ≡ Ok t) {b : Bool} (g : Fits tab s.tokens s.classes t want b) where
     pub operand-fits : b ≡ true → OperandPost tab s first end row want (Ok tt)
     operand-fits yes' =
@@ -343,8 +347,8 @@ module _ {tab : List ℕ} {s : Scope} {first end row want : ℕ} {v : Judged} (f
   operand-refused is = record { among = λ z. apart (cc); says = λ ts G Γ i e h u c. rw (judges-refused (f.says ts G Γ i e h) is) }
 
 -- an expression that fits lies in the range
-module _ {tab : List ℕ} {s : Scope} {first end row want : ℕ} {v : Judged} (f : OperandPost tab s first end row want v) {w : ℕ}
-    (is : v ≡ Ok w) where
+module _ {tab : List ℕ} {s : Scope} {first end row want : ℕ} {v : Judged} (f : OperandPost tab s first end row want v)
+    (is : v ≡ Ok tt) where
   pub operand_low : first ≤ row
   operand_low = (f.among is).low
 
@@ -353,7 +357,7 @@ module _ {tab : List ℕ} {s : Scope} {first end row want : ℕ} {v : Judged} (f
 
 -- ARRAYS
 
-module _ {tab : List ℕ} {s : Scope} {first end row : ℕ} {v : Judged} (f : ExpressionPost tab s first end row v) where
+module _ {tab : List ℕ} {s : Scope} {first end row : ℕ} {v : Typed} (f : ExpressionPost tab s first end row v) where
   pub array-unjudged : {z : Refusal} → v ≡ Err z → ArrayPost tab s first end row (Err z)
   array-unjudged is = record { says = λ ts G Γ i e h. rw (judges-refused (f.says ts G Γ i e h) is) ill }
 
@@ -379,17 +383,17 @@ module _ {tab : List ℕ} {s : Scope} {first end row : ℕ} {v : Judged} (f : Ex
 -- `a[i]` and `a.length`
 
 module _ {tab : List ℕ} {s : Scope} {first row left first' until : ℕ} (e₄ : left ≡ word_at tab c_first row) (low : first' ≡ first)
-    (high : until ≡ row) {v : Judged} (f : ArrayPost tab s first' until left v) where
+    (high : until ≡ row) {v : Typed} (f : ArrayPost tab s first' until left v) where
   pub element-first : {z : Refusal} → v ≡ Err z → {end : ℕ} → NodePost tab s an_element first end row (Err z)
   unfolding judge
-  element-first {n} {p} is {end} = record { says = go }
+  element-first {z = z} is {end} = record { says = go }
     where
       go : NodeJudged tab s an_element first end row (Err z)
       go ts G Γ i e (shows-element {a = a} {i = j} st x y) =
-          judged-refused (array-refused (place_e a).start _ (judge G Γ a) (f.says ts G Γ i a (rw (e₄, low, high) x)) is)
+          judged-refused z (array-refused (place_e a).start _ (judge G Γ a) (f.says ts G Γ i a (rw (e₄, low, high) x)) is)
 
-  pub element-second : v ≡ Ok tt → {right : ℕ} → right ≡ word_at tab c_second row → {end after end' : ℕ} → after ≡ row + 1 → end' ≡ end
-      → {u r : Judged} → OperandPost tab s after end' right int_number u → TypedPost w u r → NodePost tab s an_element first end row r
+  pub element-second : {w : ℕ} → v ≡ Ok w → {right : ℕ} → right ≡ word_at tab c_second row → {end after end' : ℕ} → after ≡ row + 1 → end' ≡ end
+      → {u : Judged} {r : Typed} → OperandPost tab s after end' right int_number u → LastPart w u r → NodePost tab s an_element first end row r
   unfolding judge
   element-second is e₅ {end} low' high' {r = r} g d = record { says = go }
     where
@@ -399,15 +403,15 @@ module _ {tab : List ℕ} {s : Scope} {first row left first' until : ℕ} (e₄ 
           (f.says ts G Γ i a (rw (e₄, low, high) x)) is in
           rw w.1 (last g d ts G Γ i j (rw (e₅, low', high') y) (plain int) (plain w.0) (code-plain (code-int refl)) w.2)
 
-  length-refused : {z : Refusal} → v ≡ Err z → LengthPost tab s first row (Err z)
+  pub length-refused : {z : Refusal} → v ≡ Err z → LengthPost tab s first row (Err z)
   unfolding judge
   length-refused {z = z} is = record { says = λ end. go end }
     where
       go : (end : ℕ) → NodeJudged tab s a_length first end row (Err z)
       go end ts G Γ i t (shows-length {e = e} st x) =
-          judged-refused (array-refused (place_e e).start _ (judge G Γ e) (f.says ts G Γ i e (rw (e₄, low, high) x)) is)
+          judged-refused z (array-refused (place_e e).start _ (judge G Γ e) (f.says ts G Γ i e (rw (e₄, low, high) x)) is)
 
-  length-fine : v ≡ Ok tt → LengthPost tab s first row (Ok int_number)
+  pub length-fine : {w : ℕ} → v ≡ Ok w → LengthPost tab s first row (Ok int_number)
   unfolding judge
   length-fine is = record { says = λ end. go end }
     where
@@ -416,15 +420,11 @@ module _ {tab : List ℕ} {s : Scope} {first row left first' until : ℕ} (e₄ 
           let w = array-fine (place_e e).start (λ _. accepted (plain int)) (judge G Γ e) (f.says ts G Γ i e (rw (e₄, low, high) x)) is in
           judged-fine w.1 (code-plain (code-int refl))
 
-  pub length-typed : {r : Judged} → TypedPost int_number v r → LengthPost tab s first row r
-  length-typed (typed-fine is) = length-fine is
-  length-typed (typed-refused is) = length-refused is
-
 -- `new T[e]`
 
 module _ {tab : List ℕ} {s : Scope} {end row t : ℕ} (type : TypeOf tab s.tokens (row + 1) t) {b : Bool} (f : Knows tab s.tokens t b) where
-  pub new-array-known : b ≡ true → {part : ℕ} → part ≡ word_at tab c_first row → {after end' : ℕ} → after ≡ row + 1 → end' ≡ end → {v r : Judged}
-      → OperandPost tab s after end' part int_number v → TypedPost t v r → NewArrayPost tab s end row r
+  pub new-array-known : b ≡ true → {part : ℕ} → part ≡ word_at tab c_first row → {after end' : ℕ} → after ≡ row + 1 → end' ≡ end → {v : Judged} {r : Typed}
+      → OperandPost tab s after end' part int_number v → LastPart t v r → NewArrayPost tab s end row r
   unfolding judge
   new-array-known is e₄ low high {r = r} g d = record { says = λ first. go first }
     where
@@ -450,18 +450,18 @@ pub data LeftFirst : Form → Type 0 where
   of-call : LeftFirst a_call_shown
 
 pub left-refused : {F : Form} → LeftFirst F → {tab : List ℕ} {s : Scope} {first end row left : ℕ} → left ≡ word_at tab c_first row
-    → {first' until : ℕ} → first' ≡ first → until ≡ row → {v : Judged} → ExpressionPost tab s first' until left v → {z : Refusal} → v ≡ Err z → NodePost tab s F first end row (Err z)
+    → {first' until : ℕ} → first' ≡ first → until ≡ row → {v : Typed} → ExpressionPost tab s first' until left v → {z : Refusal} → v ≡ Err z → NodePost tab s F first end row (Err z)
 unfolding judge
-left-refused l {tab} {s} {first} {end} {row} e₄ low high f {n} {p} is = record { says = go l }
+left-refused l {tab} {s} {first} {end} {row} e₄ low high f {z = z} is = record { says = go l }
   where
     go : {F : Form} → LeftFirst F → NodeJudged tab s F first end row (Err z)
-    go of-binary ts G Γ i e (shows-binary {l = l} st k x y) = judged-refused (rw (judges-refused (f.says ts G Γ i l (rw (e₄, low, high) x)) is))
-    go of-call ts G Γ i t (shows-call {e = e} st sp q x y) = judged-refused (rw (judges-refused (f.says ts G Γ i e (rw (e₄, low, high) x)) is))
+    go of-binary ts G Γ i e (shows-binary {l = l} st k x y) = judged-refused z (rw (judges-refused (f.says ts G Γ i l (rw (e₄, low, high) x)) is))
+    go of-call ts G Γ i t (shows-call {e = e} st sp q x y) = judged-refused z (rw (judges-refused (f.says ts G Γ i e (rw (e₄, low, high) x)) is))
 
 -- OPERATIONS
 
 module _ {tab : List ℕ} {s : Scope} {first end row left first' until : ℕ} (e₄ : left ≡ word_at tab c_first row) (low : first' ≡ first)
-    (high : until ≡ row) {v : Judged} (f : ExpressionPost tab s first' until left v) where
+    (high : until ≡ row) {v : Typed} (f : ExpressionPost tab s first' until left v) where
   module _ {t : ℕ} (is : v ≡ Ok t) {k : ℕ} (kind : k ≡ kind_in_table tab s.tokens row) {answer : ℕ} (g : OperationPost k t answer) where
     pub binary-wrong : no_type ≤ answer → {at₃ : ℕ} → at₃ ≡ word_at tab c_begin left → NodePost tab s a_binary first end row (refusal reason.WrongType at₃)
     unfolding judge
@@ -475,7 +475,7 @@ module _ {tab : List ℕ} {s : Scope} {first end row left first' until : ℕ} (e
             rw (w.1, z, e₃, start_of i first' until h) ill
 
     pub binary-right : answer < no_type → {right : ℕ} → right ≡ word_at tab c_second row → {after end' : ℕ} → after ≡ row + 1 → end' ≡ end
-        → {u r : Judged} → OperandPost tab s after end' right t u → TypedPost answer u r → NodePost tab s a_binary first end row r
+        → {u : Judged} {r : Typed} → OperandPost tab s after end' right t u → LastPart answer u r → NodePost tab s a_binary first end row r
     unfolding judge
     binary-right fine e₅ low' high' {r = r} h d = record { says = go }
       where
@@ -487,7 +487,7 @@ module _ {tab : List ℕ} {s : Scope} {first end row left first' until : ℕ} (e
 
 -- `new` AND `.`
 
-module _ {tab : List ℕ} {s : Scope} {first end row k : ℕ} {r : Judged} where
+module _ {tab : List ℕ} {s : Scope} {first end row k : ℕ} {r : Typed} where
   -- a form of which the code has read the kind that tells it from the other
   module _ (kind : k ≡ kind_in_table tab s.tokens (row + 2)) where
     third : {F : Form} → form_compound k_new (kind_in_table tab s.tokens (row + 1)) k ≡ F → NodeJudged tab s F first end row r
@@ -522,7 +522,7 @@ module _ {tab : List ℕ} {s : Scope} {first end row k : ℕ} {r : Judged} where
 -- CALLS
 
 module _ {tab : List ℕ} {s : Scope} {first end row left first' until : ℕ} (e₄ : left ≡ word_at tab c_first row) (low : first' ≡ first)
-    (high : until ≡ row) {v : Judged} (f : ExpressionPost tab s first' until left v) where
+    (high : until ≡ row) {v : Typed} (f : ExpressionPost tab s first' until left v) where
   module _ {t : ℕ} (is : v ≡ Ok t) where
     pub call-plain : int_number ≤ t → {at₃ : ℕ} → at₃ ≡ word_at tab c_begin left → NodePost tab s a_call_shown first end row (refusal reason.WrongType at₃)
     unfolding judge
@@ -543,7 +543,7 @@ module _ {tab : List ℕ} {s : Scope} {first end row left first' until : ℕ} (e
             let w = judges-fine (f.says ts G Γ i e h) is in
             rw w.1 (pick ts (few-tokens i) e (sym (start_of i first' until h) ∙ sym e₃) w.0 w.2 _)
 
-    pub call-object : t < int_number → {after end' : ℕ} → after ≡ row + 1 → end' ≡ end → {r : Judged} → InvocationPost tab s after end' row t r
+    pub call-object : t < int_number → {after end' : ℕ} → after ≡ row + 1 → end' ≡ end → {r : Typed} → InvocationPost tab s after end' row t r
         → NodePost tab s a_call_shown first end row r
     unfolding judge
     call-object near low' high' {r} g = record { says = go }
@@ -621,7 +621,7 @@ module _ {tab : List ℕ} {s : Scope} {first end row c x f : ℕ} (e₂ : x ≡ 
           absurd (omega (arith, e, row-there i.world.tokens F.method.name.row (st F refl).head.name.token.there))
 
   -- an invocation is answered where the method is there
-  found : (near : f < absent) (r : Judged)
+  found : (near : f < absent) (r : Typed)
       → ((ts : List Token) (G : List Class) (Γ : Context) (i : InScope tab ts G Γ s) (m : Name) (es : Part arguments)
       → Invoked tab ts first end row m es → (F : Found) → f ≡ F.method.name.row → MethodHeld tab s.tokens ts F.method
       → Judges ts (invocation m (arity es) (judge G Γ es) (some F)) r)
@@ -660,24 +660,19 @@ module _ {tab : List ℕ} {s : Scope} {first end row c x f : ℕ} (e₂ : x ≡ 
                 (eqb-true (arity es) (length F.method.parameters) q),
           )
 
-      invocation-fine : v ≡ Ok tt → {t r : ℕ} → t ≡ word_at tab c_type f → TypeOf tab s.tokens t r
+      pub invocation-fine : v ≡ Ok tt → {t r : ℕ} → t ≡ word_at tab c_type f → TypeOf tab s.tokens t r
           → InvocationPost tab s first end row c (Ok r)
       invocation-fine is {r = r} e₃ type =
           found near (Ok r) λ ts G Γ i m es h F z st.
           let q = answered i m es h F z st in
-          rw (q.0, told-fine (judge G Γ es F.method.parameters) q.1 is)
+          rw (q.0, told-fine q.1 is)
           (well (result-code tab s first end row c x f i taken near e₄ F z st e₃ type))
 
-      invocation-refused : {z : Refusal} → v ≡ Err z → InvocationPost tab s first end row c (Err z)
+      pub invocation-refused : {z : Refusal} → v ≡ Err z → InvocationPost tab s first end row c (Err z)
       invocation-refused {z = z} is =
           found near (Err z) λ ts G Γ i m es h F z st.
           let q = answered i m es h F z st in
-          rw (q.0, told-refused (judge G Γ es F.method.parameters) q.1 is) ill
-
-      pub invocation-typed : {t u : ℕ} → t ≡ word_at tab c_type f → TypeOf tab s.tokens t u → {r : Judged} → TypedPost u v r
-          → InvocationPost tab s first end row c r
-      invocation-typed e₃ type (typed-fine is) = invocation-fine is e₃ type
-      invocation-typed e₃ type (typed-refused is) = invocation-refused is
+          rw (q.0, told-refused q.1 is) ill
 
 -- ARGUMENTS
 

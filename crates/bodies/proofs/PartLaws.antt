@@ -2,7 +2,7 @@
 -- tokens.
 use Prim.Native.Nat.{ℕ, ◌+◌, ◌-◌, ◌≤◌, ◌<◌}
 use native.Mathlib.Omega.{arith}
-use mathlib.Core.Path.{◌≡◌, refl, ◌∙◌, subst}
+use mathlib.Core.Path.{◌≡◌, refl, ap, ◌∙◌, subst}
 use mathlib.Core.List.{List}
 use lib.ListN.{length}
 use Rattle.base.specs.Outcome.{Outcome, accepted, refused, ◌>>=◌}
@@ -19,7 +19,6 @@ use Rattle.typing.specs.laws.Choices.{bind_assoc, refused-accepted}
 use Rattle.typesystem.specs.ClassTable.{Context}
 use Rattle.typesystem.specs.Judge.{for_array}
 use Rattle.std.specs.Prelude.{Result, Ok, Err}
-use Rattle.base.specs.declared.refusal.Reason.TheVariants as reason
 use Rattle.base.specs.declared.refusal.Refusal.{Refusal}
 use Rattle.base.specs.promises.Refusals.{number_of}
 use Rattle.lookup.specs.promises.Answers.{Judged, Typed}
@@ -33,37 +32,38 @@ use Rattle.bodies.specs.promises.Scoping.{InScope, PartIn, ShowsIn, ShowsStateme
 
 -- ANSWERS
 
-pub judges-fine : {ts : List Token} {o : Outcome Ty} {v : Judged} {w : ℕ} → Judges ts o v → v ≡ Ok w
+pub judges-fine : {ts : List Token} {o : Outcome Ty} {v : Typed} {w : ℕ} → Judges ts o v → v ≡ Ok w
     → (t : Ty) × (o ≡ accepted t) × Codes ts t w
 judges-fine {ts} {w = w} (well {t = t} {w = u} c) e = let z : u ≡ w = cc in (t, refl, subst (Codes ts t) z c)
 judges-fine ill e = apart (cc)
 
-pub judges-refused : {ts : List Token} {o : Outcome Ty} {v : Judged} {z : Refusal} → Judges ts o v → v ≡ Err z → o ≡ refused n p
+pub judges-refused : {ts : List Token} {o : Outcome Ty} {v : Typed} {z : Refusal} → Judges ts o v → v ≡ Err z
+    → o ≡ refused (number_of z.reason) z.position
 judges-refused (well c) e = apart (cc)
-judges-refused ill e = cc
+judges-refused {z = z} (ill {q = q}) e = let w : q ≡ z = cc in ap (λ (x : Refusal). refused (number_of x.reason) x.position) w
 
-pub judged-refused : {ts : List Token} {o : Outcome Ty} {z : Refusal} → o ≡ refused n p → Judges ts o (Err z)
-judged-refused e = rw e ill
+pub judged-refused : {ts : List Token} {o : Outcome Ty} (z : Refusal) → o ≡ refused (number_of z.reason) z.position → Judges ts o (Err z)
+judged-refused z e = rw e ill
 
 pub judged-fine : {ts : List Token} {o : Outcome Ty} {t : Ty} {w : ℕ} → o ≡ accepted t → Codes ts t w → Judges ts o (Ok w)
 judged-fine e c = rw e (well c)
 
 -- the answer for a part that must fit, and what follows
-pub goes : {A : Type 0} (o : Outcome Ty) (test : Ty → Outcome (Unit {0})) (next : Outcome A) {v : Judged} {w : ℕ}
-    → told v ≡ (o >>= test) → v ≡ Ok w
+pub goes : {A : Type 0} (o : Outcome Ty) (test : Ty → Outcome (Unit {0})) (next : Outcome A) {v : Judged}
+    → told v ≡ (o >>= test) → v ≡ Ok tt
     → (o >>= λ t. test t >>= λ _. next) ≡ next
 goes o test next e is = bind_assoc o test (λ _. next) ∙ rest
   where
     rest : (o >>= test >>= λ _. next) ≡ next
-    rest = rw (told-fine (o >>= test) e is)
+    rest = rw (told-fine e is)
 
 pub halts : {A : Type 0} (o : Outcome Ty) (test : Ty → Outcome (Unit {0})) (next : Outcome A) {v : Judged} {z : Refusal}
     → told v ≡ (o >>= test) → v ≡ Err z
-    → (o >>= λ t. test t >>= λ _. next) ≡ refused n p
-halts o test next {n = n} {p = p} e is = bind_assoc o test (λ _. next) ∙ rest
+    → (o >>= λ t. test t >>= λ _. next) ≡ refused (number_of z.reason) z.position
+halts o test next {z = z} e is = bind_assoc o test (λ _. next) ∙ rest
   where
-    rest : (o >>= test >>= λ _. next) ≡ refused n p
-    rest = rw (told-refused (o >>= test) e is)
+    rest : (o >>= test >>= λ _. next) ≡ refused (number_of z.reason) z.position
+    rest = rw (told-refused e is)
 
 -- ARRAYS, by the number of a type
 
@@ -78,7 +78,7 @@ array-code {ts} {w = w} few (code-array {t = s} {v = v} c e) high =
     (s, refl, let z : v ≡ w - array_mark = omega arith in code-plain (subst (ElementCodes ts s) z c))
 
 -- the answer for a part that must be an array, and what follows
-module _ {A : Type 0} {ts : List Token} (p : ℕ) (k : Element → Outcome A) {v : Judged} where
+module _ {A : Type 0} {ts : List Token} (p : ℕ) (k : Element → Outcome A) {v : Typed} where
   pub array-fine : (o : Outcome Ty) {w : ℕ} → Judges ts (o >>= λ t. for_array p t λ u. accepted (plain u)) v → v ≡ Ok w
       → (s : Element) × ((o >>= λ t. for_array p t k) ≡ k s) × Codes ts (plain s) w
   array-fine (accepted (plain t)) h e = absurd (refused-accepted (judges-fine h e).1)
@@ -89,7 +89,7 @@ module _ {A : Type 0} {ts : List Token} (p : ℕ) (k : Element → Outcome A) {v
   array-fine (refused n q) h e = absurd (refused-accepted (judges-fine h e).1)
 
   pub array-refused : (o : Outcome Ty) {z : Refusal} → Judges ts (o >>= λ t. for_array p t λ u. accepted (plain u)) v → v ≡ Err z
-      → (o >>= λ t. for_array p t k) ≡ refused n q
+      → (o >>= λ t. for_array p t k) ≡ refused (number_of z.reason) z.position
   array-refused (accepted (plain t)) h e = let z = judges-refused h e in cc
   array-refused (accepted (array_of t)) h e = let z = judges-refused h e in apart (cc)
   array-refused (refused i j) h e = let z = judges-refused h e in cc

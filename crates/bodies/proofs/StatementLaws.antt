@@ -63,7 +63,7 @@ module _ {tab : List ℕ} {s : Scope} {first end row index want : ℕ} (e₄ : i
             (g.says ts G Γ sc e (rw e₅ y) t c);
       }
 
-module _ {tab : List ℕ} {s : Scope} {first end row : ℕ} {v : Judged} (f : NamePost tab s row v) where
+module _ {tab : List ℕ} {s : Scope} {first end row : ℕ} {v : Typed} (f : NamePost tab s row v) where
   pub assignment-refused : {z : Refusal} → v ≡ Err z → StatementNodePost tab s an_assignment first end row (Err z)
   unfolding judge
   assignment-refused {z = z} is = record { says = go }
@@ -131,7 +131,7 @@ module _ {tab : List ℕ} {n : ℕ} {ts : List Token} (lx : Lexemes tab n ts) {t
     unfolding printable
     not-printed f = rw (not_int, other-codes lx (code-plain (code_fixed refl)) c (λ z. f (sym z)))
 
-module _ {tab : List ℕ} {s : Scope} {first end row part : ℕ} (e₄ : part ≡ word_at tab c_first row) {v : Judged}
+module _ {tab : List ℕ} {s : Scope} {first end row part : ℕ} (e₄ : part ≡ word_at tab c_first row) {v : Typed}
     (f : ExpressionPost tab s first end part v) where
   pub print-refused : {z : Refusal} → v ≡ Err z → StatementNodePost tab s a_print first end row (Err z)
   unfolding judge
@@ -239,9 +239,9 @@ module _ {tab : List ℕ} {s : Scope} {first end row : ℕ} where
   -- the kind of its token, and the range of its parts
   module _ (from : first ≤ row) (below : row < end) {k after end' : ℕ} (kind : k ≡ kind_in_table tab s.tokens row) (low : after ≡ row + 1) (high : end' ≡ end) {r : Judged} where
     -- the kinds tell the form
-    told : {F : Form} → form_s k (kind_in_table tab s.tokens (row + 1)) ≡ F → StatementJudged tab s F after end' row r
+    by_kinds : {F : Form} → form_s k (kind_in_table tab s.tokens (row + 1)) ≡ F → StatementJudged tab s F after end' row r
         → StatementPost tab s first end row r
-    told f g =
+    by_kinds f g =
         record {
           among = λ is. record { low = from; high = below };
           says = λ ts G Γ sc t h.
@@ -252,7 +252,7 @@ module _ {tab : List ℕ} {s : Scope} {first end row : ℕ} where
     -- this kind alone tells it
     alone : (k' : ℕ) → k ≡ k' → StatementJudged tab s (form_s k' (kind_in_table tab s.tokens (row + 1))) after end' row r
         → StatementPost tab s first end row r
-    alone k' is g = told (ap (λ (j : ℕ). form_s j (kind_in_table tab s.tokens (row + 1))) is) g
+    alone k' is g = by_kinds (ap (λ (j : ℕ). form_s j (kind_in_table tab s.tokens (row + 1))) is) g
 
     pub statement-block : k ≡ k_open_brace → {part : ℕ} → part ≡ word_at tab c_first row → ListPost tab s after end' part r
         → StatementPost tab s first end row r
@@ -286,18 +286,18 @@ module _ {tab : List ℕ} {s : Scope} {first end row : ℕ} where
       pub statement-element : k' ≡ k_open_bracket → StatementNodePost tab s an_element_store after end' row r → StatementPost tab s first end row r
       unfolding form_s
       statement-element is f =
-          told (rw (ne_eqb k k_open_brace n₁, ne_eqb k k_if n₂, ne_eqb k k_while n₃, ne_eqb k k_system n₄, ne_eqb k k_port n₅, sym next ∙ is)) f.says
+          by_kinds (rw (ne_eqb k k_open_brace n₁, ne_eqb k k_if n₂, ne_eqb k k_while n₃, ne_eqb k k_system n₄, ne_eqb k k_port n₅, sym next ∙ is)) f.says
 
       pub statement-assignment : (k' ≡ k_open_bracket → ⊥) → StatementNodePost tab s an_assignment after end' row r → StatementPost tab s first end row r
       unfolding form_s
       statement-assignment other f =
-          told (rw (ne_eqb k k_open_brace n₁, ne_eqb k k_if n₂, ne_eqb k k_while n₃, ne_eqb k k_system n₄, ne_eqb k k_port n₅, sym next, ne_eqb k' k_open_bracket other))
+          by_kinds (rw (ne_eqb k k_open_brace n₁, ne_eqb k k_if n₂, ne_eqb k k_while n₃, ne_eqb k k_system n₄, ne_eqb k k_port n₅, sym next, ne_eqb k' k_open_bracket other))
           f.says
 
 -- LISTS
 
 -- a statement that is fine lies in the range
-module _ {tab : List ℕ} {s : Scope} {first end row : ℕ} {v : Judged} (f : StatementPost tab s first end row v) {w : ℕ} (is : v ≡ Ok w)
+module _ {tab : List ℕ} {s : Scope} {first end row : ℕ} {v : Judged} (f : StatementPost tab s first end row v) (is : v ≡ Ok tt)
   where
     pub statement-low : first ≤ row
     statement-low = (f.among is).low

@@ -71,7 +71,7 @@ filled s ts short lexed j p q {a} {tab} is f = go (program_deep p) refl is
     go none d e =
         subst (λ (o : Outcome Reading). Fills o a tab) (sym (read-well s short ts lexed p j q d)) (e, f)
     go (some at) d e =
-        subst (λ (o : Outcome Reading). Fills o a tab) (sym (not-shallow s short ts lexed p j at q d)) (ap (λ (r : Result Counts Refusal). outcome (λ c. c) r) e)
+        subst (λ (o : Outcome Reading). Fills o a tab) (sym (not-shallow s short ts lexed p j at q d)) (ap (λ (r : Result Counts Refusal). outcome (λ _. tt) r) e)
 
 at-answer : {n : ℕ} {T T₁ : List ℕ} {r₁ r : Result Part Misfit} → r₁ ≡ r → ProgramPost n T r₁ T₁ → ProgramPost n T r T₁
 at-answer {n} {T} {T₁} e p = subst (λ (r : Result Part Misfit). ProgramPost n T r T₁) e p

@@ -67,4 +67,4 @@ outcome of (Err r) = refused (number_of r.reason) r.position
 
 -- a result is the refusal of this number at this position
 abbrev pub Refuses : {A : Type 0} → Result A Refusal → (number position : ℕ) → Type 0
-Refuses r n p = outcome (λ a. a) r ≡ refused n p
+Refuses r n p = ◌≡◌ {A = Outcome (Unit {0})} (outcome (λ _. tt) r) (refused n p)

@@ -21,7 +21,7 @@ use Rattle.bodies.specs.promises.Scoping.{InScope, PartIn, ShowsStatement}
 module _ (tab : List ℕ) (s : Scope) where
   -- a statement in any row; one that is fine lies in the range
   pub record StatementPost (first end row : ℕ) (r : Judged) : Type 0 where
-    pub among : {t : ℕ} → r ≡ Ok t → Among first end row
+    pub among : r ≡ Ok tt → Among first end row
     pub says : (ts : List Token) (G : List Class) (Γ : Context) → InScope tab ts G Γ s → (t : Statement) → PartIn tab ts row first end t
         → told r ≡ (judge G Γ t)
 
