@@ -3,10 +3,9 @@
 use crate::words::Words;
 use crate::wrong::{Failure, Wrong};
 use crate::{output, strip};
-use base::codes;
+use base::refusal::Refusal;
 use menu::menu::menu;
 use std::io::{self, Write};
-use typecheck::check::CheckAnswer;
 
 // The longest strip: a word for each token, which is more than there can be classes, so the rest of it can be looked at too.
 const STRIP_MOST: usize = 2048;
@@ -21,15 +20,16 @@ fn write_strip<W: Write>(out: &mut W, strip: &[u32], n: usize) -> io::Result<boo
 }
 
 // Writes the answer, and looks at the table and the strip, of which a refusal writes nothing.
-fn write<W: Write>(out: &mut W, a: CheckAnswer, table: &[u32], strip: &[u32]) -> io::Result<()> {
-    let CheckAnswer {
-        number,
-        position,
-        classes,
-    } = a;
+fn write<W: Write>(
+    out: &mut W,
+    answer: Result<usize, Refusal>,
+    table: &[u32],
+    strip: &[u32],
+) -> io::Result<()> {
+    let (number, position) = output::told(&answer);
+    let classes = answer.unwrap_or(0);
     write!(out, "{number} {position} {classes}")?;
-    let written = if number == codes::SUCCESS { classes } else { 0 };
-    let is_strip_right = write_strip(out, strip, written)?;
+    let is_strip_right = write_strip(out, strip, classes)?;
     output::end(out, is_strip_right && strip::is_right(table, number))
 }
 

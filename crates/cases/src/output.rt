@@ -1,6 +1,7 @@
-// What the program writes beside the answers' own numbers: lists of numbers, the end of an answer, the usage, and what is wrong with a case.
+// What all answers have: a number and a position, lists of numbers and an end; the usage, and what is wrong with a case.
 use crate::page;
 use crate::wrong::Wrong;
+use base::refusal::{Reason, Refusal};
 use itoa::Integer;
 use std::io::{self, Write};
 
@@ -23,6 +24,19 @@ does not hold what it should.
 // Writes the usage.
 pub fn usage<W: Write>(out: &mut W) -> io::Result<()> {
     out.write_all(USAGE)
+}
+
+// The number and the position of an answer: 0 and 0 after success.
+pub fn told<T>(answer: &Result<T, Refusal>) -> (u32, usize) {
+    match answer {
+        Ok(_) => (0, 0),
+        Err(refusal) => (refusal.number(), refusal.position),
+    }
+}
+
+// Whether a number is that of one of these reasons.
+pub fn is_one_of(number: u32, reasons: &[Reason]) -> bool {
+    reasons.iter().any(|reason| u32::from(*reason) == number)
 }
 
 // Writes a list of numbers, where it has any.

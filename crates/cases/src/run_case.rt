@@ -1,7 +1,7 @@
 // The operation run: `run TABLE BUDGET CALLS HEAP OUT REGS TAPE HEX` is answered by `NUMBER POSITION STEPS CLIMBS WORDS REGISTERS`, and
 // where numbers were printed by ` :` and these.
 use crate::{output, page, strip};
-use base::codes;
+use base::refusal::Reason;
 use runner::run::{RunAnswer, run};
 use std::io::{self, Write};
 
@@ -21,22 +21,18 @@ pub struct Lent<'a> {
     pub registers: &'a mut [u8],
 }
 
-// Whether this number ends a run: all others refuse the call.
-fn is_run(number: u32) -> bool {
-    matches!(
-        number,
-        codes::SUCCESS
-            | codes::NULL_REFERENCE
-            | codes::INDEX_OUT_OF_RANGE
-            | codes::NEGATIVE_SIZE
-            | codes::REGISTER_OUT_OF_RANGE
-            | codes::VALUE_OUT_OF_RANGE
-            | codes::BUDGET_SPENT
-            | codes::HEAP_FULL
-            | codes::CALLS_FULL
-            | codes::OUTPUT_FULL
-    )
-}
+// The ends of a run beside success: all other numbers refuse the call.
+const ENDS: [Reason; 9] = [
+    Reason::NullReference,
+    Reason::IndexOutOfRange,
+    Reason::NegativeSize,
+    Reason::RegisterOutOfRange,
+    Reason::ValueOutOfRange,
+    Reason::BudgetSpent,
+    Reason::HeapFull,
+    Reason::CallsFull,
+    Reason::OutputFull,
+];
 
 impl Lent<'_> {
     fn fill(&mut self) {
@@ -48,7 +44,7 @@ impl Lent<'_> {
 
     // Writes the registers that a run leaves, or `-` where the call was refused; and answers whether a refusal left them as they were.
     fn write_registers<W: Write>(&self, out: &mut W, number: u32) -> io::Result<bool> {
-        if is_run(number) {
+        if number == 0 || output::is_one_of(number, &ENDS) {
             page::write_bytes(out, self.registers)?;
             return Ok(true);
         }

@@ -1,5 +1,6 @@
 // Strips that are lent to an operation: filled beforehand, looked at afterwards.
-use base::codes;
+use crate::output::is_one_of;
+use base::refusal::Reason;
 
 // What a strip is made of.
 pub trait Marked: Copy + PartialEq + Default {
@@ -47,20 +48,17 @@ fn is_wiped<T: Marked>(strip: &[T]) -> bool {
     strip.iter().all(|x| *x == T::default())
 }
 
-// Whether an end with this number touches nothing: refusals of what is lent, and of the call limit.
-fn is_untouched(number: u32) -> bool {
-    matches!(
-        number,
-        codes::TABLE_TOO_SHORT
-            | codes::CALL_LIMIT_OUT_OF_RANGE
-            | codes::HEAP_TOO_LONG
-            | codes::REGISTERS_NOT_SIXTEEN
-    )
-}
+// The refusals that touch nothing: those of what is lent, and of the call limit.
+const TOUCHES_NOTHING: [Reason; 4] = [
+    Reason::TableTooShort,
+    Reason::CallLimitOutOfRange,
+    Reason::HeapTooLong,
+    Reason::RegistersNotSixteen,
+];
 
 // Whether a work table or a heap strip holds what document 01 says after an end with this number: what touches something wipes it.
 pub fn is_right<T: Marked>(strip: &[T], number: u32) -> bool {
-    if is_untouched(number) {
+    if is_one_of(number, &TOUCHES_NOTHING) {
         is_marked(strip, 0)
     } else {
         is_wiped(strip)

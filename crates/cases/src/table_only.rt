@@ -3,9 +3,9 @@
 use crate::words::Words;
 use crate::wrong::Failure;
 use crate::{output, strip};
-use reader::read::{ReadAnswer, read};
+use reader::read::{Counts, read};
 use std::io::Write;
-use typecheck::check::{CheckAnswer, check};
+use typecheck::check::check;
 
 // Answers a case of read.
 pub fn answer_read<W: Write>(
@@ -15,12 +15,12 @@ pub fn answer_read<W: Write>(
 ) -> Result<(), Failure> {
     let source = words.bytes()?;
     strip::fill(table);
-    let ReadAnswer {
-        number,
-        position,
-        tokens,
-        nodes,
-    } = read(source, table);
+    let answer = read(source, table);
+    let (number, position) = output::told(&answer);
+    let Counts { tokens, nodes } = answer.unwrap_or(Counts {
+        tokens: 0,
+        nodes: 0,
+    });
     write!(out, "{number} {position} {tokens} {nodes}")?;
     Ok(output::end(out, strip::is_right(table, number))?)
 }
@@ -33,11 +33,9 @@ pub fn answer_check<W: Write>(
 ) -> Result<(), Failure> {
     let source = words.bytes()?;
     strip::fill(table);
-    let CheckAnswer {
-        number,
-        position,
-        classes,
-    } = check(source, table);
+    let answer = check(source, table);
+    let (number, position) = output::told(&answer);
+    let classes = answer.map_or(0, |sizes| sizes.classes);
     write!(out, "{number} {position} {classes}")?;
     Ok(output::end(out, strip::is_right(table, number))?)
 }

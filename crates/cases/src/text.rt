@@ -1,7 +1,6 @@
 // The answer of an operation that writes a text into a strip of bytes: `NUMBER POSITION COUNT`, and after success ` : ` and the text.
 use crate::{output, page, strip};
-use base::codes;
-use base::write::WriteAnswer;
+use base::refusal::Refusal;
 use std::io::{self, Write};
 
 // The longest strip: longer than every text, so the rest of it can be looked at too. The longest is that of a lesson and a library of
@@ -19,17 +18,22 @@ fn write_first<W: Write>(out: &mut W, bytes: &[u8], count: usize) -> io::Result<
 }
 
 // Writes the answer, and looks at the table and the strip: the rest of it, all of it after a refusal, is to be as it was beforehand.
-pub fn write<W: Write>(out: &mut W, a: WriteAnswer, table: &[u32], bytes: &[u8]) -> io::Result<()> {
-    let WriteAnswer {
-        number,
-        position,
-        count,
-    } = a;
-    write!(out, "{number} {position} {count}")?;
-    let is_strip_right = if number == codes::SUCCESS {
-        write_first(out, bytes, count)?
-    } else {
-        strip::is_marked(bytes, 0)
+pub fn write<W: Write>(
+    out: &mut W,
+    answer: Result<usize, Refusal>,
+    table: &[u32],
+    bytes: &[u8],
+) -> io::Result<()> {
+    let (number, position) = output::told(&answer);
+    let is_strip_right = match answer {
+        Ok(count) => {
+            write!(out, "{number} {position} {count}")?;
+            write_first(out, bytes, count)?
+        }
+        Err(_) => {
+            write!(out, "{number} {position} 0")?;
+            strip::is_marked(bytes, 0)
+        }
     };
     output::end(out, is_strip_right && strip::is_right(table, number))
 }
