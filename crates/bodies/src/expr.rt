@@ -57,22 +57,14 @@ fn atom(table: &[u32], fields: &[u32], s: Scope, k: u32, row: usize) -> Result<u
     requires { Judgeable table.now fields.now s }
     ensures { AtomPost table.now s k row result }
 {
-    if k == kinds::LITERAL {
-        return Ok(INT);
+    match k {
+        kinds::LITERAL => Ok(INT),
+        kinds::FIXED_LITERAL => Ok(FIXED),
+        kinds::TRUE => Ok(BOOLEAN),
+        kinds::FALSE => Ok(BOOLEAN),
+        kinds::THIS => receiver(table, s, row),
+        _ => name(table, fields, s, row),
     }
-    if k == kinds::FIXED_LITERAL {
-        return Ok(FIXED);
-    }
-    if k == kinds::TRUE {
-        return Ok(BOOLEAN);
-    }
-    if k == kinds::FALSE {
-        return Ok(BOOLEAN);
-    }
-    if k == kinds::THIS {
-        return receiver(table, s, row);
-    }
-    name(table, fields, s, row)
 }
 
 // `new C()`: 24.
@@ -179,9 +171,10 @@ pub fn operand(
     if fits(table, s.tokens, s.classes, t, want) {
         return Ok(());
     }
+    let position = word(table, columns::BEGIN, row);
     Err(Refusal {
         reason: Reason::WrongType,
-        position: word(table, columns::BEGIN, row),
+        position,
     })
 }
 

@@ -26,10 +26,8 @@ fn clear(table: &mut [u32], n: usize)
     requires { Walkable table.old n }
     ensures { table.new ≡ cleared n table.old }
 {
-    let mut i: usize = 0;
-    while i < n {
+    for i in 0..n {
         wipe(table, i);
-        i += 1;
     }
 }
 
