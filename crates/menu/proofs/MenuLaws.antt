@@ -133,31 +133,6 @@ module _ {tab : List ℕ} {classes : ℕ} {before : List ℕ} where
     pub fill-never : (unwritten ≡ 0 → ⊥) → (a : Result ℕ Refusal) → FillsStrip tab classes before (listing_of a after)
     fill-never some a = record { says = λ n ts p r d t l. absurd (some (omega (arith, (told r d l).1, many-same (each-once t)))) }
 
--- THE ANSWER
-
-module _ (s : List ℕ) (f : Finding) (middle before : List ℕ) (l : Leaves s (checking s) f middle) where
-  pub answer-found : {z : Sizes} → f ≡ Ok z → (r : Result ℕ Refusal) {after : List ℕ} → FillsStrip middle z.classes before (listing_of r after)
-      → listing_of r after ≡ listing (checking s) before
-  answer-found {z} is r {after} g = go (checking s) l.finds
-    where
-      go : (w : Outcome Program) → FindsProgram s w f middle → listing_of r after ≡ listing w before
-      go (accepted p) h =
-          let y = h.answer in
-          let c : length p.classes ≡ z.classes = cc in
-          g.says (length h.stream) h.stream p h.ready h.derived h.typed c
-      go (refused m q) h = let y : Refuses {A = Sizes} (Ok z) m q = subst (λ (g : Finding). Refuses g m q) is h in apart (cc)
-
-  pub answer-unfit : {q : Refusal} → f ≡ Err q → listing_of (Err q) before ≡ listing (checking s) before
-  answer-unfit {q} is = go (checking s) l.finds
-    where
-      go : (w : Outcome Program) → FindsProgram s w f middle → listing_of (Err q) before ≡ listing w before
-      go (accepted p) h = let y = h.answer in apart (cc)
-      go (refused m p) h =
-          let y : Refuses {A = Sizes} (Err q) m p = subst (λ (g : Finding). Refuses g m p) is h in
-          let a : number_of q.reason ≡ m = cc in
-          let b : q.position ≡ p = cc in
-          rw (a, b)
-
 -- THE OPERATION
 
 module _ (s table before : List ℕ) where
