@@ -107,7 +107,7 @@ module _ {n size : ℕ} {T T₁ : List ℕ} {r₁ : Result Part Misfit} (p : Pro
             let holds : HoldsProgram T₁ q.tree = subst (λ (u : List ℕ). HoldsProgram u q.tree) (sym q.stored) (holds-stored ts q.tree d f T big) in
             let rows = rows-kept T T₁ ts f p.kept h in
             let is = m.says ts (at-tokens ts en rows) q.tree holds (matches ts q.tree d) (program-order ts f (rising s ts lexed) d) in
-            filled s ts short lexed j q.tree q.parsed (subst (λ (z : ℕ). a ≡ option (program_deep q.tree) (tree z (program_nodes q.tree)) (λ at. refusal reason.TooDeep at)) (sym en) is)
+            filled s ts short lexed z.next q.tree q.parsed (subst (λ (z : ℕ). a ≡ option (program_deep q.tree) (tree z (program_nodes q.tree)) (λ at. refusal reason.TooDeep at)) (sym en) is)
             (record { rows = rows; few = f; holds = holds; derived = d });
       }
 

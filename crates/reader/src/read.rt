@@ -52,9 +52,9 @@ fn grow(table: &mut [u32], n: usize, size: usize) -> Result<Counts, Refusal>
     ensures { GrowPost n size table.old result table.new }
 {
     match decl::program(table, n) {
-        parser::answer::Answer::At(_, _) => measure(table, n),
-        parser::answer::Answer::Bad(misfit) => {
-            let position = place(table, n, misfit, size);
+        Ok(_) => measure(table, n),
+        Err(misfit) => {
+            let position = place(table, n, misfit.token, size);
             Err(Refusal {
                 reason: Reason::NotInGrammar,
                 position,
