@@ -27,11 +27,15 @@ fn mend(tree: &mut [u32], v: usize)
     requires { (length tree.old ≡ tree_size) × (v < rows) }
     ensures { Mended v tree.old tree.new }
 {
-    if v == 0 {
-        return;
+    let mut node = v;
+    while node != 0 {
+        put(
+            tree,
+            node,
+            cell(tree, 2 * node).min(cell(tree, 2 * node + 1)),
+        );
+        node /= 2;
     }
-    put(tree, v, cell(tree, 2 * v).min(cell(tree, 2 * v + 1)));
-    mend(tree, v / 2);
 }
 
 // Puts a row into the set.
