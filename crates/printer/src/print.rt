@@ -6,6 +6,7 @@ ghost use Rattle.printing.specs.Print.{print_result, Prints};
 ghost use Rattle.base.specs.promises.Answers.{write_answer_of, write_result_of};
 ghost use Rattle.printer.specs.promises.PrintPost.{WritesText};
 
+use crate::lesson::Lesson;
 use crate::unit::program;
 use base::codes;
 use base::fill::zero_words;
@@ -19,8 +20,14 @@ fn write(source: &[u8], table: &[u32], strip: &mut [u8], n: usize) -> WriteAnswe
     ensures { WritesText source.now table.now n strip.old (write_result_of result strip.new) }
 {
     let bytes = byte_kinds();
+    let lesson = Lesson {
+        source,
+        bytes: &bytes,
+        table,
+        n,
+    };
     let mut none = [0u8; 0];
-    let size = program(source, &bytes, table, &mut none, n);
+    let size = program(&lesson, &mut none);
     if strip.len() < size {
         return WriteAnswer {
             number: codes::TEXT_TOO_LONG,
@@ -28,7 +35,7 @@ fn write(source: &[u8], table: &[u32], strip: &mut [u8], n: usize) -> WriteAnswe
             count: 0,
         };
     }
-    let count = program(source, &bytes, table, strip, n);
+    let count = program(&lesson, strip);
     WriteAnswer {
         number: codes::SUCCESS,
         position: 0,

@@ -1,5 +1,5 @@
 -- What the functions of the operation Print return meets their contracts: the first walk counts the text's bytes, the second writes them.
-use Rattle.std.specs.Prelude.{ℕ, ◌+◌, ◌≤◌, ◌<◌, ◌≡◌, refl, List, ◌++◌, length, drop}
+use Rattle.std.specs.Prelude.{ℕ, ◌≤◌, ◌<◌, ◌≡◌, refl, List, length}
 use Rattle.std.proofs.Common.{arith, sym, ◌∙◌, subst, lt-ltb, le-ltb}
 use Rattle.std.proofs.Math.Path.{ap}
 use Rattle.std.proofs.Math.ListN.{replicate}
@@ -22,7 +22,7 @@ use Rattle.typecheck.specs.promises.CheckPost.{Checked, FindsProgram, Leaves}
 use Rattle.printing.specs.Printed.{program_tokens, text}
 use Rattle.printing.specs.Print.{print_result, print, Prints}
 use Rattle.printing.proofs.Tidy.{text-most}
-use Rattle.printer.specs.promises.Puts.{text_room, BytesPut, Puts}
+use Rattle.printer.specs.promises.Puts.{text_room, BytesPut}
 use Rattle.printer.specs.promises.Units.{ProgramPut}
 use Rattle.printer.specs.promises.PrintPost.{WritesText}
 use Rattle.printer.specs.laws.PutLaws.{filled}
