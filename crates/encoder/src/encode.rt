@@ -8,54 +8,43 @@ ghost use Rattle.base.specs.promises.Answers.{write_answer_of, write_result_of};
 ghost use Rattle.frames.specs.Operations.{Encodes};
 ghost use Rattle.encoder.specs.promises.Encoding.{PassPost, BothPost, WritesFrames};
 
-use crate::frame::{behind, plain};
-use crate::names::{classes, each};
-use crate::plan::Plan;
+use crate::frame::{END, count, plain};
+use crate::names::{NONE, classes, each};
+use crate::plan::{Lesson, Plan};
 use crate::tables::tables;
 use base::codes;
 use base::fill::zero_words;
 use base::write::WriteAnswer;
 use lookup::rows::word;
 use parser::columns;
+use parser::columns::ROWS;
 use typecheck::check::{Finding, find};
+use writer::code::ROOM;
 use writer::prepare::prepare;
 
+// How many words an array has of the code, of rows, of numbers of names, and of method names.
+const CODE_WORDS: usize = 4 * ROOM;
+
+const NUMBERS: usize = ROWS + 1;
+
+const NAMES: usize = 8192;
+
 // All frames, where the strip reaches; the answer is how many bytes they have.
-fn pass(
-    table: &[u32],
-    code: &[u32],
-    entries: &[u32],
-    numbers: &[u32],
-    marks: &[u32],
-    names: &[u32],
-    strip: &mut [u8],
-    p: Plan,
-) -> usize
-    requires { Walkable table.now p.tokens × (p.lines ≤ 8192) × (p.classes ≤ 2048) × (p.methods ≤ 4194304) }
-    ensures { PassPost table.now code.now entries.now numbers.now marks.now
-        names.now p strip.old strip.new result }
+fn pass(l: &Lesson, strip: &mut [u8]) -> usize
+    ensures { PassPost l.now.table.now l.now.code.now l.now.entries.now l.now.classes.now l.now.methods.now
+        l.now.names.now l.now.plan strip.old strip.new result }
 {
-    let at = plain(code, numbers, marks, strip, p, 0, p.lines, 0);
-    tables(table, entries, names, strip, p, 0, p.methods, at)
+    let at = plain(l, strip);
+    tables(l, strip, at)
 }
 
 // Counts the bytes, with a strip to which nothing of them goes that is kept, and writes them where the strip is long enough.
-fn both(
-    table: &[u32],
-    code: &[u32],
-    entries: &[u32],
-    numbers: &[u32],
-    marks: &[u32],
-    names: &[u32],
-    strip: &mut [u8],
-    p: Plan,
-) -> WriteAnswer
-    requires { Walkable table.now p.tokens × (p.lines ≤ 8192) × (p.classes ≤ 2048) × (p.methods ≤ 4194304) }
-    ensures { BothPost table.now code.now entries.now numbers.now marks.now
-        names.now p strip.old strip.new result }
+fn both(l: &Lesson, strip: &mut [u8]) -> WriteAnswer
+    ensures { BothPost l.now.table.now l.now.code.now l.now.entries.now l.now.classes.now l.now.methods.now
+        l.now.names.now l.now.plan strip.old strip.new result }
 {
     let mut none = [0u8; 1];
-    let bytes = pass(table, code, entries, numbers, marks, names, &mut none, p);
+    let bytes = pass(l, &mut none);
     if strip.len() < bytes {
         return WriteAnswer {
             number: codes::FRAMES_TOO_SHORT,
@@ -63,7 +52,7 @@ fn both(
             count: 0,
         };
     }
-    pass(table, code, entries, numbers, marks, names, strip, p);
+    pass(l, strip);
     WriteAnswer {
         number: codes::SUCCESS,
         position: 0,
@@ -76,22 +65,31 @@ fn written(table: &[u32], strip: &mut [u8], tokens: usize, many: usize) -> Write
     requires { Walkable table.now tokens × (many ≤ 2048) }
     ensures { WritesFrames table.now tokens many strip.old (write_result_of result strip.new) }
 {
-    let mut code = [255u32; 32768];
-    let mut entries = [0u32; 2048];
+    let mut code = [END; CODE_WORDS];
+    let mut entries = [0u32; ROWS];
     prepare(table, &mut code, &mut entries, tokens, many);
-    let mut numbers = [2048u32; 2049];
-    let mut marks = [4294967295u32; 2049];
-    let mut names = [0u32; 8192];
+    let mut numbers = [ROWS as u32; NUMBERS];
+    let mut marks = [NONE as u32; NUMBERS];
+    let mut names = [0u32; NAMES];
     let first = word(table, columns::NEXT, columns::CLASS_LIST);
     classes(table, &mut numbers, many, first, 0);
     let methods = each(table, &mut marks, &mut names, tokens, many, first, 0);
-    let p = Plan {
+    let plan = Plan {
         tokens,
         classes: many,
-        lines: behind(&code, 0, 8192),
+        lines: count(&code),
         methods,
     };
-    both(table, &code, &entries, &numbers, &marks, &names, strip, p)
+    let l = Lesson {
+        table,
+        code: &code,
+        entries: &entries,
+        classes: &numbers,
+        methods: &marks,
+        names: &names,
+        plan,
+    };
+    both(&l, strip)
 }
 
 // What Encode answers, and the strip; the table is left filled.
