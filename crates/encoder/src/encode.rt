@@ -12,13 +12,12 @@ use crate::frame::{END, count, plain};
 use crate::names::{NONE, classes, each};
 use crate::plan::{Lesson, Plan};
 use crate::tables::tables;
-use base::codes;
-use base::fill::zero_words;
-use base::write::WriteAnswer;
+use base::bounds::TABLE_LEAST;
+use base::refusal::{Reason, Refusal};
 use lookup::rows::word;
 use parser::columns;
 use parser::columns::ROWS;
-use typecheck::check::{Finding, find};
+use typecheck::check::find;
 use writer::code::ROOM;
 use writer::prepare::prepare;
 
@@ -39,29 +38,24 @@ fn pass(l: &Lesson, strip: &mut [u8]) -> usize
 }
 
 // Counts the bytes, with a strip to which nothing of them goes that is kept, and writes them where the strip is long enough.
-fn both(l: &Lesson, strip: &mut [u8]) -> WriteAnswer
+fn both(l: &Lesson, strip: &mut [u8]) -> Result<usize, Refusal>
     ensures { BothPost l.now.table.now l.now.code.now l.now.entries.now l.now.classes.now l.now.methods.now
         l.now.names.now l.now.plan strip.old strip.new result }
 {
     let mut none = [0u8; 1];
     let bytes = pass(l, &mut none);
     if strip.len() < bytes {
-        return WriteAnswer {
-            number: codes::FRAMES_TOO_SHORT,
+        return Err(Refusal {
+            reason: Reason::FramesTooShort,
             position: 0,
-            count: 0,
-        };
+        });
     }
     pass(l, strip);
-    WriteAnswer {
-        number: codes::SUCCESS,
-        position: 0,
-        count: bytes,
-    }
+    Ok(bytes)
 }
 
 // Writes the frames of the accepted lesson that the table holds, where the strip is long enough.
-fn written(table: &[u32], strip: &mut [u8], tokens: usize, many: usize) -> WriteAnswer
+fn written(table: &[u32], strip: &mut [u8], tokens: usize, many: usize) -> Result<usize, Refusal>
     requires { Walkable table.now tokens × (many ≤ 2048) }
     ensures { WritesFrames table.now tokens many strip.old (write_result_of result strip.new) }
 {
@@ -93,33 +87,25 @@ fn written(table: &[u32], strip: &mut [u8], tokens: usize, many: usize) -> Write
 }
 
 // What Encode answers, and the strip; the table is left filled.
-fn answer(source: &[u8], table: &mut [u32], strip: &mut [u8]) -> WriteAnswer
+fn answer(source: &[u8], table: &mut [u32], strip: &mut [u8]) -> Result<usize, Refusal>
     requires { table_least ≤ length table.old }
     ensures { write_result_of result strip.new ≡ encode_result (checking source.now) strip.old }
 {
-    let f = find(source, table);
-    match f {
-        Finding::Program(tokens, many) => written(table, strip, tokens, many),
-        Finding::Refused(number, position) => WriteAnswer {
-            number,
-            position,
-            count: 0,
-        },
-    }
+    let sizes = find(source, table)?;
+    written(table, strip, sizes.tokens, sizes.classes)
 }
 
-// The operation. 1 work table too short, which touches nothing.
-pub fn encode(source: &[u8], table: &mut [u32], strip: &mut [u8]) -> WriteAnswer
+// The operation: how many bytes were written. A work table that is too short is not touched.
+pub fn encode(source: &[u8], table: &mut [u32], strip: &mut [u8]) -> Result<usize, Refusal>
     ensures { Encodes source.now table.old strip.old (write_answer_of result) table.new strip.new }
 {
-    if table.len() < codes::TABLE_LEAST {
-        return WriteAnswer {
-            number: codes::TABLE_TOO_SHORT,
+    if table.len() < TABLE_LEAST {
+        return Err(Refusal {
+            reason: Reason::TableTooShort,
             position: 0,
-            count: 0,
-        };
+        });
     }
-    let a = answer(source, table, strip);
-    zero_words(table);
-    a
+    let encoded = answer(source, table, strip);
+    table.fill(0);
+    encoded
 }

@@ -13,12 +13,12 @@ use Rattle.base.specs.laws.Lists.{get-get_d}
 use Rattle.base.specs.Outcome.{Outcome, accepted}
 use Rattle.base.specs.promises.Table.{c_start}
 use Rattle.lexer.specs.Tokens.{Token, tokens}
-use Rattle.lexer.specs.declared.Lexed.{Lexed}
-use Rattle.lexer.specs.declared.Lexed.TheVariants.{Tokens}
+use Rattle.base.specs.declared.refusal.Refusal.{Refusal}
 use Rattle.lexer.specs.promises.Rows.{Rows, Lexes}
 use Rattle.lexer.proofs.laws.RowLaws.{accepted-of-answer, refused-of-answer}
-use Rattle.parser.specs.declared.answer.Answer.{Answer}
-use Rattle.parser.specs.declared.answer.Answer.TheVariants.{At, Bad}
+use Rattle.parser.specs.promises.Answers.{Answer, At, Bad}
+use Rattle.parser.specs.declared.answer.Part.{Part}
+use Rattle.parser.specs.declared.answer.Misfit.{Misfit}
 use Rattle.parser.specs.Tree.{Class}
 use Rattle.parser.specs.Stream.{token_at, no_more}
 use Rattle.parser.specs.promises.Layout.{row_classes, store_classes}
@@ -121,23 +121,23 @@ module _ {n size : ℕ} {T T₁ : List ℕ} {r₁ : Answer} (p : DeclPost class_
     | no l ↦ simp (le-ltb k n (omega arith), le-ltb k (length ls) (omega arith)) (sym es)
   ]
 
-  pub grow-bad : {k v : ℕ} → r₁ ≡ Bad k → v ≡ place_in T₁ n k size → GrowsClasses n size T (Err v) T₁
-  grow-bad {k} {v} e ev =
+  pub grow-bad : {m : Misfit} {v : ℕ} → r₁ ≡ Err m → v ≡ place_in T₁ n m.token size → GrowsClasses n size T (Err v) T₁
+  grow-bad {m} {v} e ev =
       record {
         says = λ lib ls es short lexed en h.
             let b = refused-at (at-tokens ls en h) (at-answer e p) in
-            subst (λ (o : Outcome LibraryReading). LibraryFills o (Err v) T₁) (sym (not-parsed lib short ls lexed k b))
-            (ap Err (place_of lib ls k v es en h ev));
+            subst (λ (o : Outcome LibraryReading). LibraryFills o (Err v) T₁) (sym (not-parsed lib short ls lexed m.token b))
+            (ap Err (place_of lib ls m.token v es en h ev));
       }
 
-  pub grow-at : {x j : ℕ} {a : Result (ℕ × ℕ) ℕ} → table_least ≤ length T → r₁ ≡ At x j → MeasuresClasses T₁ n x a → GrowsClasses n size T a T₁
-  grow-at {x} {j} {a} big e m =
+  pub grow-at : {z : Part} {a : Result (ℕ × ℕ) ℕ} → table_least ≤ length T → r₁ ≡ Ok z → MeasuresClasses T₁ n z.row a → GrowsClasses n size T a T₁
+  grow-at {z} {a} big e m =
       record {
         says = λ lib ls es short lexed en h.
             let t = at-tokens ls en h in
             let q = parsed-at t (at-answer e p) in
             let ks = q.classes in
-            let d = library-sound ls (proper lib ls lexed) ks j q.parsed in
+            let d = library-sound ls (proper lib ls lexed) ks z.next q.parsed in
             let f : length ls ≤ tokens_most = omega arith in
             let holds : HoldsClasses T₁ ks =
             subst (λ (u : List ℕ). HoldsClasses u ks) (sym q.stored) ((classes-lie d).holds f T (store_classes ks T) big (λ k i _ _. refl))
@@ -148,28 +148,28 @@ module _ {n size : ℕ} {T T₁ : List ℕ} {r₁ : Answer} (p : DeclPost class_
             (classes-order ls f (rising lib ls lexed) d (omega arith)).1 in
             let is₂ : a ≡ option (classes_deep ks) (Ok (length ls, row_classes ks)) (λ at. Err at) =
             is ∙ (λ i. option (classes_deep ks) (Ok (sym en i, sym q.row i)) (λ at. Err at)) in
-            filled lib ls short lexed j ks q.parsed is₂ (record { rows = rows; few = f; holds = holds; derived = d });
+            filled lib ls short lexed z.next ks q.parsed is₂ (record { rows = rows; few = f; holds = holds; derived = d });
       }
 
 -- FROM BYTES
 pub fill-long : (lib T : List ℕ) → source_most < length lib → LibraryFills (reading_library lib) (Err 0) T
 fill-long lib T l = subst (λ (o : Outcome LibraryReading). LibraryFills o (Err 0) T) (sym (too_long lib l)) refl
 
-module _ (lib T : List ℕ) (l : Lexed) (short : length lib ≤ source_most) (h : Lexes (tokens lib) l T) where
-  at-lexed : {l₂ : Lexed} → l ≡ l₂ → Lexes (tokens lib) l₂ T
-  at-lexed e = subst (λ (x : Lexed). Lexes (tokens lib) x T) e h
+module _ (lib T : List ℕ) (l : Result ℕ Refusal) (short : length lib ≤ source_most) (h : Lexes (tokens lib) l T) where
+  at-lexed : {l₂ : Result ℕ Refusal} → l ≡ l₂ → Lexes (tokens lib) l₂ T
+  at-lexed e = subst (λ (x : Result ℕ Refusal). Lexes (tokens lib) x T) e h
 
-  pub fill-tokens : {n : ℕ} {a : Result (ℕ × ℕ) ℕ} {T₁ : List ℕ} → l ≡ Tokens n → GrowsClasses n (length lib) T a T₁
+  pub fill-tokens : {n : ℕ} {a : Result (ℕ × ℕ) ℕ} {T₁ : List ℕ} → l ≡ Ok n → GrowsClasses n (length lib) T a T₁
       → LibraryFills (reading_library lib) a T₁
   fill-tokens e g =
       let x = accepted-of-answer (tokens lib) T (at-lexed e) in g.says lib x.items refl short x.is (sym x.count) x.rows
 
-  pub fill-refused : {m p : ℕ} → l ≡ Lexed.Refused m p → LibraryFills (reading_library lib) (Err p) T
-  fill-refused {m} {p} e =
-      subst (λ (o : Outcome LibraryReading). LibraryFills o (Err p) T)
-      (sym (not-lexed lib short (refused-of-answer (tokens lib) T (at-lexed e)))) refl
+  pub fill-refused : (q : Refusal) → l ≡ Err q → LibraryFills (reading_library lib) (Err q.position) T
+  fill-refused q e =
+      subst (λ (o : Outcome LibraryReading). LibraryFills o (Err q.position) T)
+      (sym (not-lexed lib short (refused-of-answer (tokens lib) q T (at-lexed e)))) refl
 
 -- the number of tokens that the lexer answers
-pub lexed-few : (lib T : List ℕ) {l : Lexed} {n : ℕ} → Lexes (tokens lib) l T → l ≡ Tokens n → n ≤ tokens_most
+pub lexed-few : (lib T : List ℕ) {l : Result ℕ Refusal} {n : ℕ} → Lexes (tokens lib) l T → l ≡ Ok n → n ≤ tokens_most
 lexed-few lib T h e =
-    let x = accepted-of-answer (tokens lib) T (subst (λ (y : Lexed). Lexes (tokens lib) y T) e h) in omega (arith, x.few, x.count)
+    let x = accepted-of-answer (tokens lib) T (subst (λ (y : Result ℕ Refusal). Lexes (tokens lib) y T) e h) in omega (arith, x.few, x.count)

@@ -15,8 +15,7 @@ use Rattle.parser.specs.Read.{Reading, reading, table_after}
 use Rattle.parser.specs.Tree.{Class}
 use Rattle.parser.specs.promises.Layout.{row_classes}
 use Rattle.reader.specs.promises.ReadPost.{Fills}
-use Rattle.reader.specs.declared.read.Filled.{Filled}
-use Rattle.reader.specs.declared.read.Filled.TheVariants.{Tree}
+use Rattle.reader.specs.declared.read.Counts.{Counts}
 use Rattle.reader.specs.laws.Matching.{classes-match}
 use Rattle.acceptance.specs.Read.{Readable, readable-exactly}
 use Rattle.joining.specs.Library.{LibraryReading, reading_library}
@@ -27,7 +26,9 @@ use Rattle.joiner.specs.promises.Names.{classes_most, positions_of, ListedFrom, 
 use Rattle.joiner.specs.promises.Texts.{kept_from, overlay, Overlaid}
 use Rattle.base.specs.promises.Answers.{write_answer_of}
 use Rattle.joiner.specs.promises.JoinPost.{JoinAnswered, LessonHeld}
-use Rattle.base.specs.declared.write.WriteAnswer.{WriteAnswer}
+use Rattle.base.specs.declared.refusal.Reason.TheVariants as reason
+use Rattle.base.specs.declared.refusal.Refusal.{Refusal}
+use Rattle.base.specs.promises.Refusals.{number_of, refusal, Refuses}
 use Rattle.std.specs.Prelude.{Result, Ok, Err}
 use Rattle.joining.proofs.laws.Lengths.{classes-few, lesson-few}
 use Rattle.joiner.specs.laws.TextLaws.{kept-is}
@@ -58,12 +59,12 @@ module _ (s ks before : List ℕ) {kept_classes : ℕ} (e : kept_classes ≡ len
   size_is = omega (arith, e, length-append s (b_line_feed ∷ ks))
 
   pub text-short : length before < length s + 1 + kept_classes
-      → JoinAnswered (join_result (accepted (s ++ b_line_feed ∷ ks)) before) (record { number = 67; position = 0; count = 0 }) before
+      → JoinAnswered (join_result (accepted (s ++ b_line_feed ∷ ks)) before) (refusal reason.JoinedTooLong 0) before
   text-short l = record { is = rw (lt-ltb (length before) (length (s ++ b_line_feed ∷ ks)) (omega (arith, size_is))) refl }
 
   pub text-done : {after : List ℕ} → length s + 1 + kept_classes ≤ length before → Overlaid before 0 (s ++ b_line_feed ∷ ks) after
       → JoinAnswered (join_result (accepted (s ++ b_line_feed ∷ ks)) before)
-      (record { number = 0; position = 0; count = length s + 1 + kept_classes }) after
+      (Ok (length s + 1 + kept_classes)) after
   text-done {after} l w =
       let text = s ++ b_line_feed ∷ ks in
       let strip : after ≡ text ++ drop (length text) before = w.is ∙ front text [] before (omega (arith, size_is)) in
@@ -120,7 +121,7 @@ module _ (s tab lib before : List ℕ) (L : LessonHeld s tab) where
       tokens_most
   tokens-few tab₁ f e = let F = library-found lib f e in omega (arith, F.tokens, F.held.few)
 
-  pub under-classes : {count n first : ℕ} {names after : List ℕ} {h : Result (ℕ × ℕ) ℕ} {r : WriteAnswer} (tab₁ : List ℕ)
+  pub under-classes : {count n first : ℕ} {names after : List ℕ} {h : Result (ℕ × ℕ) ℕ} {r : Result ℕ Refusal} (tab₁ : List ℕ)
       → NamesKept tab count names → count ≤ length names → LibraryFills (reading_library lib) h tab₁ → h ≡ Ok (n, first)
       → JoinAnswered (join_result (accepted (s ++ b_line_feed ∷
       kept_from s (take count names) (length (take count names)) lib tab₁ n first classes_most)) before) r after
@@ -145,48 +146,47 @@ module _ (s tab lib before : List ℕ) (L : LessonHeld s tab) where
       record { is = w.is ∙ ap (λ (o : Outcome (List ℕ)). join_result o before) (sym text) }
 
   pub under-refused : {at : ℕ} {h : Result (ℕ × ℕ) ℕ} (tab₁ : List ℕ) → LibraryFills (reading_library lib) h tab₁ → h ≡ Err at
-      → JoinAnswered (join_result (joining s lib) before) (record { number = 66; position = at; count = 0 }) before
+      → JoinAnswered (join_result (joining s lib) before) (refusal reason.LibraryRefused at) before
   unfolding joining
   under-refused {at} tab₁ f e = let w = library-at lib tab₁ f e in record { is = rw (L.is, w.1) refl }
 
 -- THE LESSON
 
 module _ (s lib before : List ℕ) where
-  pub lesson-held : {f : Filled} {tab : List ℕ} {t k : ℕ} → Fills (reading s) f tab → f ≡ Tree t k → LessonHeld s tab
-  lesson-held {f} {tab} {t} {k} w e = go (reading s) refl w
+  pub lesson-held : {f : Result Counts Refusal} {tab : List ℕ} {z : Counts} → Fills (reading s) f tab → f ≡ Ok z → LessonHeld s tab
+  lesson-held {f} {tab} {z} w e = go (reading s) refl w
     where
       go : (o : Outcome Reading) → reading s ≡ o → Fills o f tab → LessonHeld s tab
       go (accepted r) q w = record { found = r; is = q; held = w.1 }
-      go (refused n p) q w = let z : Tree t k ≡ Filled.Refused n p = sym e ∙ w in apart (cc)
+      go (refused n p) q w = apart (cc)
 
-  pub lesson-refused : {f : Filled} (tab : List ℕ) {n p : ℕ} → Fills (reading s) f tab → f ≡ Filled.Refused n p
-      → JoinAnswered (join_result (joining s lib) before) (record { number = n; position = p; count = 0 }) before
+  pub lesson-refused : {f : Result Counts Refusal} (tab : List ℕ) {x : Refusal} → Fills (reading s) f tab → f ≡ Err x
+      → JoinAnswered (join_result (joining s lib) before) (Err x) before
   unfolding joining
-  lesson-refused {f} tab {n} {p} w e = go (reading s) refl w
+  lesson-refused {f} tab {x} w e = go (reading s) refl w
     where
       go : (o : Outcome Reading) → reading s ≡ o → Fills o f tab
           → JoinAnswered (join_result (reading s >>= λ r. as_library (reading_library lib) >>= λ l. accepted
           (join_text s r.tree lib l.stream l.classes)) before)
-          (record { number = n; position = p; count = 0 }) before
-      go (accepted r) q w = let z : Filled.Refused n p ≡ Tree _ _ = sym e ∙ w.0 in apart (cc)
+          (Err x) before
+      go (accepted r) q w = let z = w.0 in apart (cc)
       go (refused m k) q w =
-          let z : Filled.Refused m k ≡ Filled.Refused n p = sym w ∙ e in
-          let z₁ : m ≡ n = cc in
-          let z₂ : k ≡ p = cc in
+          let z₁ : m ≡ number_of x.reason = cc in
+          let z₂ : k ≡ x.position = cc in
           record { is = rw (q ∙ (λ j. refused (z₁ j) (z₂ j))) refl }
 
 -- THE OPERATION
 
 module _ (s lib table before : List ℕ) where
   pub join-short : length table < table_least
-      → Joins s lib table before (record { number = table_too_short; position = 0; count = 0 }) table before
+      → Joins s lib table before (write_answer_of (refusal reason.TableTooShort 0)) table before
   unfolding join table_after
   join-short l = record {
     answer = rw (lt-ltb (length table) table_least l) refl;
     cleared = rw (lt-ltb (length table) table_least l) refl;
   }
 
-  pub join-answer : {a : WriteAnswer} {after last : List ℕ} (tab : List ℕ) → table_least ≤ length table → JoinAnswered
+  pub join-answer : {a : Result ℕ Refusal} {after last : List ℕ} (tab : List ℕ) → table_least ≤ length table → JoinAnswered
       (join_result (joining s lib) before) a after
       → length tab ≡ length table → last ≡ replicate (length tab) 0 → Joins s lib table before (write_answer_of a) last after
   unfolding join table_after

@@ -13,11 +13,10 @@ use crate::library;
 use crate::names::{CLASSES_MOST, keep};
 use crate::sources::Sources;
 use crate::text::{copy, kept_size, write_kept};
-use base::codes;
-use base::fill::zero_words;
-use base::write::WriteAnswer;
+use base::bounds::TABLE_LEAST;
+use base::refusal::{Reason, Refusal};
 use lexer::bytes::byte_kinds;
-use reader::read::{Filled, fill};
+use reader::read::fill;
 
 // Writes the lesson, a line feed and the kept classes.
 fn write_text(s: &Sources, first: usize, strip: &mut [u8])
@@ -34,7 +33,7 @@ fn write_text(s: &Sources, first: usize, strip: &mut [u8])
 }
 
 // The text, where the strip is long enough.
-fn text(s: &Sources, first: usize, strip: &mut [u8]) -> WriteAnswer
+fn text(s: &Sources, first: usize, strip: &mut [u8]) -> Result<usize, Refusal>
     ensures { JoinAnswered (join_result (accepted (s.now.lesson.now ++ b_line_feed ∷
         kept_from s.now.lesson.now s.now.names.now (length s.now.names.now) s.now.library.now s.now.table.now s.now.n first classes_most))
         strip.old) result strip.new }
@@ -42,22 +41,17 @@ fn text(s: &Sources, first: usize, strip: &mut [u8]) -> WriteAnswer
     let kept = kept_size(s, first, CLASSES_MOST);
     let size = s.lesson.len() + 1 + kept;
     if strip.len() < size {
-        return WriteAnswer {
-            number: codes::JOINED_TOO_LONG,
+        return Err(Refusal {
+            reason: Reason::JoinedTooLong,
             position: 0,
-            count: 0,
-        };
+        });
     }
     write_text(s, first, strip);
-    WriteAnswer {
-        number: codes::SUCCESS,
-        position: 0,
-        count: size,
-    }
+    Ok(size)
 }
 
 // The library, once the lesson is in the table: its names are kept while the library takes its place.
-fn under(lesson: &[u8], table: &mut [u32], library: &[u8], strip: &mut [u8]) -> WriteAnswer
+fn under(lesson: &[u8], table: &mut [u32], library: &[u8], strip: &mut [u8]) -> Result<usize, Refusal>
     requires { (table_least ≤ length table.old) × LessonHeld lesson.now table.old }
     ensures { JoinAnswered (join_result (joining lesson.now library.now) strip.old) result
         strip.new }
@@ -77,44 +71,35 @@ fn under(lesson: &[u8], table: &mut [u32], library: &[u8], strip: &mut [u8]) -> 
             };
             text(&s, first, strip)
         }
-        Err(at) => WriteAnswer {
-            number: codes::LIBRARY_REFUSED,
+        Err(at) => Err(Refusal {
+            reason: Reason::LibraryRefused,
             position: at,
-            count: 0,
-        },
+        }),
     }
 }
 
 // What Join answers, and the strip; the table is left filled.
-fn stages(lesson: &[u8], table: &mut [u32], library: &[u8], strip: &mut [u8]) -> WriteAnswer
+fn stages(lesson: &[u8], table: &mut [u32], library: &[u8], strip: &mut [u8]) -> Result<usize, Refusal>
     requires { table_least ≤ length table.old }
     ensures { JoinAnswered (join_result (joining lesson.now library.now) strip.old) result
         strip.new }
 {
-    let f = fill(lesson, table);
-    match f {
-        Filled::Tree(_tokens, _nodes) => under(lesson, table, library, strip),
-        Filled::Refused(number, position) => WriteAnswer {
-            number,
-            position,
-            count: 0,
-        },
-    }
+    fill(lesson, table)?;
+    under(lesson, table, library, strip)
 }
 
-// The operation Join.
-pub fn join(lesson: &[u8], table: &mut [u32], library: &[u8], strip: &mut [u8]) -> WriteAnswer
+// The operation Join. The answer is how many bytes were written.
+pub fn join(lesson: &[u8], table: &mut [u32], library: &[u8], strip: &mut [u8]) -> Result<usize, Refusal>
     ensures { Joins lesson.now library.now table.old strip.old (write_answer_of result)
         table.new strip.new }
 {
-    if table.len() < codes::TABLE_LEAST {
-        return WriteAnswer {
-            number: codes::TABLE_TOO_SHORT,
+    if table.len() < TABLE_LEAST {
+        return Err(Refusal {
+            reason: Reason::TableTooShort,
             position: 0,
-            count: 0,
-        };
+        });
     }
-    let a = stages(lesson, table, library, strip);
-    zero_words(table);
-    a
+    let joined = stages(lesson, table, library, strip);
+    table.fill(0);
+    joined
 }

@@ -5,9 +5,8 @@ ghost use Rattle.reader.specs.promises.WalkPost.{Walkable};
 ghost use Rattle.joining.specs.Library.{reading_library};
 ghost use Rattle.joiner.specs.promises.LibraryPost.{LibraryFills, GrowsClasses, MeasuresClasses};
 
-use base::codes;
-use lexer::{Lexed, lex};
-use parser::answer::Answer;
+use base::bounds::SOURCE_MOST;
+use lexer::lex;
 use parser::decl;
 use reader::read::place;
 use reader::walk;
@@ -32,8 +31,8 @@ fn grow(table: &mut [u32], n: usize, size: usize) -> Result<(usize, usize), usiz
 {
     let a = decl::classes(table, n, 0);
     match a {
-        Answer::At(first, _next) => measure(table, n, first),
-        Answer::Bad(k) => Err(place(table, n, k, size)),
+        Ok(part) => measure(table, n, part.row),
+        Err(misfit) => Err(place(table, n, misfit.token, size)),
     }
 }
 
@@ -43,12 +42,11 @@ pub fn fill(library: &[u8], table: &mut [u32]) -> Result<(usize, usize), usize>
     requires { table_least ≤ length table.old }
     ensures { LibraryFills (reading_library library.now) result table.new }
 {
-    if codes::SOURCE_MOST < library.len() {
+    if SOURCE_MOST < library.len() {
         return Err(0);
     }
-    let l = lex(library, table);
-    match l {
-        Lexed::Tokens(n) => grow(table, n, library.len()),
-        Lexed::Refused(_number, at) => Err(at),
+    match lex(library, table) {
+        Ok(n) => grow(table, n, library.len()),
+        Err(refusal) => Err(refusal.position),
     }
 }
