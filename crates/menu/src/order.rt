@@ -22,7 +22,8 @@ fn link(first: &mut [u32], next: &mut [u32], parent: usize, row: usize)
     put(first, parent, row);
 }
 
-// The classes from a row on: one without a parent joins the set, each other one the list of its parent's children.
+// The classes from a row on, the later ones first, since each joins the others of its parent before them, and `Gathered` (specs/promises)
+// has the children in the order of the lesson: one without a parent joins the set, each other one the list of its parent's children.
 pub fn gather(
     table: &[u32],
     tree: &mut [u32],
@@ -56,44 +57,42 @@ pub fn gather(
     link(first, next, parent, row);
 }
 
-// The children from a row on join the set.
-fn free(tree: &mut [u32], next: &[u32], left: usize, row: usize)
+// The children from a row on join the set, `most` at most.
+fn free(tree: &mut [u32], next: &[u32], most: usize, row: usize)
     requires { length tree.old ≡ tree_size }
-    ensures { Freed next.now left row tree.old tree.new }
+    ensures { Freed next.now most row tree.old tree.new }
 {
-    if left == 0 {
-        return;
+    let mut child = row;
+    for _i in 0..most {
+        if ABSENT <= child {
+            return;
+        }
+        enter(tree, child);
+        child = cell(next, child);
     }
-    if ABSENT <= row {
-        return;
-    }
-    enter(tree, row);
-    free(tree, next, left - 1, cell(next, row));
 }
 
-// Writes the positions of the names of `left` classes into the strip, from place i on. Answers how many of them may not stand.
+// Writes the positions of the names of classes into the first `classes` places of the strip. Answers how many of these may not stand.
 pub fn write(
     table: &[u32],
     tree: &mut [u32],
     first: &[u32],
     next: &[u32],
     strip: &mut [u32],
-    i: usize,
-    left: usize,
+    classes: usize,
 ) -> usize
-    requires { (table_least ≤ length table.now) × (length tree.old ≡ tree_size) × (i + left ≤ length strip.old) }
-    ensures { StripWritten table.now tree.old first.now next.now i left
+    requires { (table_least ≤ length table.now) × (length tree.old ≡ tree_size) × (classes ≤ length strip.old) }
+    ensures { StripWritten table.now tree.old first.now next.now 0 classes
         strip.old strip.new result }
 {
-    if left == 0 {
-        return 0;
+    for i in 0..classes {
+        let row = cell(tree, 1);
+        if ABSENT <= row {
+            return classes - i;
+        }
+        put(strip, i, word(table, columns::START, row));
+        remove(tree, row);
+        free(tree, next, 2048, cell(first, row));
     }
-    let row = cell(tree, 1);
-    if ABSENT <= row {
-        return left;
-    }
-    put(strip, i, word(table, columns::START, row));
-    remove(tree, row);
-    free(tree, next, 2048, cell(first, row));
-    write(table, tree, first, next, strip, i + 1, left - 1)
+    0
 }

@@ -11,7 +11,7 @@ use crate::answer::{Misfit, Part};
 use crate::columns;
 use crate::kinds::{begins_element, is_atom, is_operator};
 use crate::parts::{expect, expect_member};
-use crate::table::{kind, link, node};
+use crate::table::{kind, link, linked, node};
 use lexer::kinds::{
     CLOSE, CLOSE_BRACKET, COMMA, DOT, GET, LENGTH, NAME, NEW, NOT, OPEN, OPEN_BRACKET, PORT,
 };
@@ -293,9 +293,5 @@ fn some_arguments(table: &mut [u32], n: usize, i: usize) -> Result<Part, Misfit>
     }
     let next = expect(table, n, first.next, COMMA)?;
     let rest = some_arguments(table, n, next)?;
-    link(table, first.row, rest.row);
-    Ok(Part {
-        row: first.row,
-        next: rest.next,
-    })
+    Ok(linked(table, first.row, rest))
 }

@@ -267,12 +267,13 @@ some_arguments-returns-in_err-rest t c =
     rw (passed-on c.from_residual-in_err-rest.ensures.1)
     (arguments-more c.requires.few c.in_ok-first.ensures refl c.kind.ensures c.in_ok-next.ensures c.in_err-rest.ensures refused)
 
-pub some_arguments-link-requires-2 : goal.some_arguments-link-requires-2
-some_arguments-link-requires-2 t c = omega (arith, c.requires, c.in_ok-first.ensures.within, c.in_ok-rest.ensures.within)
+pub some_arguments-linked-requires : goal.some_arguments-linked-requires
+some_arguments-linked-requires t c = omega (arith, c.requires, c.in_ok-first.ensures.within, c.in_ok-rest.ensures.within)
 
 pub some_arguments-returns : goal.some_arguments-returns
 some_arguments-returns t c =
-    arguments-more c.requires.few c.in_ok-first.ensures refl c.kind.ensures c.in_ok-next.ensures c.in_ok-rest.ensures (listed c.link-2.ensures)
+    rw c.linked.ensures.1
+    (arguments-more c.requires.few c.in_ok-first.ensures refl c.kind.ensures c.in_ok-next.ensures c.in_ok-rest.ensures (listed c.linked.ensures.0))
 
 pub suffixes-returns-then-indexable : goal.suffixes-returns-then-indexable
 suffixes-returns-then-indexable t c = search suffix-element
