@@ -5,7 +5,6 @@
 mod input;
 mod output;
 
-use crate::input::Lesson;
 use runner::run::run;
 use std::io::{self, BufWriter, Write};
 
@@ -48,24 +47,13 @@ fn answer<W: Write>(out: &mut W, lesson: &[u8]) -> io::Result<()> {
     output::ending(out, a)
 }
 
-// Answers the first `n` bytes of `space`; all of them, which are too many for a lesson, where it is full.
-fn answer_first<W: Write>(out: &mut W, space: &[u8], n: usize) -> io::Result<()> {
-    if n < space.len() {
-        return answer(out, &space[..n]);
-    }
-    answer(out, space)
-}
-
 // Reads the lesson, and answers it.
 fn main(rt: HostRuntime) -> io::Result<()> {
     let mut space = [0u8; SPACE];
-    let l = input::read_all(&mut rt.stdin(), &mut space);
-    match l {
-        Lesson::Bytes(n) => {
-            let mut out = BufWriter::new(rt.alloc(), rt.stdout())?;
-            answer_first(&mut out, &space, n)?;
-            out.flush()
-        }
-        Lesson::Unread => output::unread(&rt),
-    }
+    let Ok(n) = input::read_all(&mut rt.stdin(), &mut space) else {
+        return output::unread(&rt);
+    };
+    let mut out = BufWriter::new(rt.alloc(), rt.stdout())?;
+    answer(&mut out, &space[..n])?;
+    out.flush()
 }

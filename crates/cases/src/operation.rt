@@ -1,10 +1,9 @@
 // The operations that a case can name, and how many words a case of each has.
-ghost use Rattle.std.specs.Prelude.{◌≤◌};
-
-use crate::fields;
+use crate::wrong::Wrong;
+use std::cmp::Ordering;
 
 // What a case asks for.
-#[derive(Clone, Copy)]
+#[derive(Clone, Copy, Debug, PartialEq, Eq)]
 pub enum Operation {
     Read,
     Check,
@@ -14,50 +13,36 @@ pub enum Operation {
     Print,
 }
 
-// What the first word of a line stands for.
-#[derive(Drop)]
-pub enum Name {
-    Of(Operation),
-    Help,
-    Unknown,
-}
+impl Operation {
+    // The operation that the first word of a line names.
+    pub fn named(word: &[u8]) -> Result<Operation, Wrong> {
+        match word {
+            b"read" => Ok(Operation::Read),
+            b"check" => Ok(Operation::Check),
+            b"menu" => Ok(Operation::Menu),
+            b"run" => Ok(Operation::Run),
+            b"join" => Ok(Operation::Join),
+            b"print" => Ok(Operation::Print),
+            _ => Err(Wrong::Operation),
+        }
+    }
 
-// The operation that the first word of a line names.
-pub fn named(line: &[u8]) -> Name {
-    if fields::is_first(line, b"read") {
-        return Name::Of(Operation::Read);
+    // How many words a case has.
+    fn words(self) -> usize {
+        match self {
+            Operation::Read | Operation::Check => 3,
+            Operation::Menu | Operation::Print => 4,
+            Operation::Join => 5,
+            Operation::Run => 9,
+        }
     }
-    if fields::is_first(line, b"check") {
-        return Name::Of(Operation::Check);
-    }
-    if fields::is_first(line, b"menu") {
-        return Name::Of(Operation::Menu);
-    }
-    if fields::is_first(line, b"run") {
-        return Name::Of(Operation::Run);
-    }
-    if fields::is_first(line, b"join") {
-        return Name::Of(Operation::Join);
-    }
-    if fields::is_first(line, b"print") {
-        return Name::Of(Operation::Print);
-    }
-    if fields::is_first(line, b"help") {
-        return Name::Help;
-    }
-    Name::Unknown
-}
 
-// Which word is the last: this says also how many words a case has.
-pub fn last_word(o: Operation) -> usize
-    ensures { result ≤ 8 }
-{
-    match o {
-        Operation::Read => 2,
-        Operation::Check => 2,
-        Operation::Menu => 3,
-        Operation::Run => 8,
-        Operation::Join => 4,
-        Operation::Print => 3,
+    // Whether a case has as many words as it should.
+    pub fn fits(self, count: usize) -> Result<(), Wrong> {
+        match count.cmp(&self.words()) {
+            Ordering::Less => Err(Wrong::Missing),
+            Ordering::Equal => Ok(()),
+            Ordering::Greater => Err(Wrong::Surplus),
+        }
     }
 }

@@ -1,116 +1,106 @@
 // The operation run: `run TABLE BUDGET CALLS HEAP OUT REGS TAPE HEX` is answered by `NUMBER POSITION STEPS CLIMBS WORDS REGISTERS`, and
 // where numbers were printed by ` :` and these.
-use crate::{bytes, numbers, output, page, strip};
-use base::codes;
+use crate::{output, page, strip};
+use base::refusal::Reason;
 use runner::run::{RunAnswer, run};
 use std::io::{self, Write};
 
 // The limits of a case that are no lengths.
-#[derive(Drop)]
+#[derive(Clone, Copy)]
 pub struct Limits {
     pub budget: u32,
     pub calls: usize,
 }
 
-// Writes how a run ended, and its meters.
-fn write_end<W: Write>(out: &mut W, a: RunAnswer) -> io::Result<()> {
-    output::number(out, a.number as u64)?;
-    output::next_number(out, a.position as u64)?;
-    output::next_number(out, a.steps as u64)?;
-    output::next_number(out, a.climbs)?;
-    output::next_number(out, a.words as u64)
+// What a run is lent.
+#[derive(Drop)]
+pub struct Lent<'a> {
+    pub table: &'a mut [u32],
+    pub heap: &'a mut [i32],
+    pub printed: &'a mut [i32],
+    pub registers: &'a mut [u8],
 }
 
-// Whether this number ends a run: all others refuse the call.
-fn is_run(number: u32) -> bool {
-    match number {
-        codes::SUCCESS => true,
-        codes::NULL_REFERENCE => true,
-        codes::INDEX_OUT_OF_RANGE => true,
-        codes::NEGATIVE_SIZE => true,
-        codes::REGISTER_OUT_OF_RANGE => true,
-        codes::VALUE_OUT_OF_RANGE => true,
-        codes::BUDGET_SPENT => true,
-        codes::HEAP_FULL => true,
-        codes::CALLS_FULL => true,
-        codes::OUTPUT_FULL => true,
-        _ => false,
+// The ends of a run beside success: all other numbers refuse the call.
+const ENDS: [Reason; 9] = [
+    Reason::NullReference,
+    Reason::IndexOutOfRange,
+    Reason::NegativeSize,
+    Reason::RegisterOutOfRange,
+    Reason::ValueOutOfRange,
+    Reason::BudgetSpent,
+    Reason::HeapFull,
+    Reason::CallsFull,
+    Reason::OutputFull,
+];
+
+impl Lent<'_> {
+    fn fill(&mut self) {
+        strip::fill(self.table);
+        strip::fill(self.heap);
+        strip::fill(self.printed);
+        strip::fill(self.registers);
+    }
+
+    // Writes the registers that a run leaves, or `-` where the call was refused; and answers whether a refusal left them as they were.
+    fn write_registers<W: Write>(&self, out: &mut W, number: u32) -> io::Result<bool> {
+        if number == 0 || output::is_one_of(number, &ENDS) {
+            page::write_bytes(out, self.registers)?;
+            return Ok(true);
+        }
+        out.write_all(b"-")?;
+        Ok(strip::is_marked(self.registers, 0))
+    }
+
+    // Writes the first `n` numbers of the output strip, and answers whether there are as many and the rest is as it was beforehand.
+    fn write_printed<W: Write>(&self, out: &mut W, n: usize) -> io::Result<bool> {
+        let Some(first) = self.printed.get(..n) else {
+            return Ok(false);
+        };
+        output::list(out, first)?;
+        Ok(strip::is_marked(self.printed, n))
+    }
+
+    // Writes the answer of a run, and looks at all that was lent to it.
+    fn write<W: Write>(&self, out: &mut W, a: RunAnswer) -> io::Result<()> {
+        let RunAnswer {
+            number,
+            position,
+            steps,
+            climbs,
+            words,
+            printed,
+        } = a;
+        write!(out, "{number} {position} {steps} {climbs} {words} ")?;
+        let are_registers_right = self.write_registers(out, number)?;
+        let is_output_right = self.write_printed(out, printed)?;
+        let is_heap_right = strip::is_right(self.heap, number);
+        let is_table_right = strip::is_right(self.table, number);
+        output::end(
+            out,
+            are_registers_right && is_output_right && is_heap_right && is_table_right,
+        )
     }
 }
 
-// Writes a list of numbers, where it has any.
-fn write_numbers<W: Write>(out: &mut W, numbers: &[i32]) -> io::Result<()> {
-    if numbers.len() == 0 {
-        return Ok(());
-    }
-    output::text(out, b" :")?;
-    let mut bytes = [0u8; page::BYTES];
-    page::write_signed(out, &mut bytes, numbers)
-}
-
-// Writes the first `n` numbers of the output strip, and answers whether there are as many and the rest is as it was beforehand.
-fn write_printed<W: Write>(out: &mut W, numbers: &[i32], n: usize) -> io::Result<bool> {
-    if numbers.len() < n {
-        return Ok(false);
-    }
-    write_numbers(out, &numbers[..n])?;
-    Ok(numbers::is_marked(numbers, n))
-}
-
-// Writes the registers that a run leaves, or `-` where the call was refused; and answers whether a refusal left the strip as it was.
-fn write_registers<W: Write>(out: &mut W, registers: &[u8], is_run: bool) -> io::Result<bool> {
-    output::text(out, b" ")?;
-    if is_run {
-        bytes::write(out, registers)?;
-        return Ok(true);
-    }
-    output::text(out, b"-")?;
-    Ok(bytes::is_marked(registers, 0))
-}
-
-// Fills all that is lent to a run.
-fn fill(table: &mut [u32], heap: &mut [i32], printed: &mut [i32], registers: &mut [u8]) {
-    strip::fill(table, strip::MARK);
-    numbers::fill(heap);
-    numbers::fill(printed);
-    bytes::fill(registers);
-}
-
-// Writes the answer of a run, and looks at all that was lent to it.
-fn write<W: Write>(
-    out: &mut W,
-    a: RunAnswer,
-    table: &[u32],
-    heap: &[i32],
-    printed: &[i32],
-    registers: &[u8],
-) -> io::Result<()> {
-    write_end(out, a)?;
-    let number = a.number;
-    let are_registers_right = write_registers(out, registers, is_run(number))?;
-    let is_output_right = write_printed(out, printed, a.printed)?;
-    let is_heap_right = numbers::is_heap_right(heap, number);
-    let are_strips_right = are_registers_right && is_output_right && is_heap_right;
-    output::end(
-        out,
-        are_strips_right && strip::is_table_right(table, number),
-    )
-}
-
-// Runs the source with a table, limits, a heap strip, an output strip, a register strip and a tape, and writes the answer.
+// Runs the source under limits with a tape, and writes the answer.
 pub fn answer<W: Write>(
     out: &mut W,
-    text: &[u8],
-    table: &mut [u32],
+    source: &[u8],
     limits: Limits,
-    heap: &mut [i32],
-    printed: &mut [i32],
-    registers: &mut [u8],
+    lent: &mut Lent,
     tape: &[u8],
 ) -> io::Result<()> {
-    fill(table, heap, printed, registers);
-    let budget = limits.budget;
-    let calls = limits.calls;
-    let a = run(text, table, budget, calls, heap, printed, registers, tape);
-    write(out, a, table, heap, printed, registers)
+    lent.fill();
+    let a = run(
+        source,
+        lent.table,
+        limits.budget,
+        limits.calls,
+        lent.heap,
+        lent.printed,
+        lent.registers,
+        tape,
+    );
+    lent.write(out, a)
 }

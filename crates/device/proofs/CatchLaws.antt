@@ -8,17 +8,15 @@ use mathlib.Core.Path.{◌≡◌, refl, sym, ap, ap₂, ◌∙◌, subst}
 use lib.ListN.{length, get_or, set, drop, length-drop, drop_of_length-le}
 use lib.Seq.{drop-drop, get_or-drop}
 use lib.Dec.{leb}
+use Rattle.std.proofs.Common.{min}
 use Rattle.device.specs.Device as Device
 use Rattle.device.specs.Device.{Device}
 use Rattle.device.specs.laws.Samples.{samples, with_tape, samples-past, samples-seen, samples-end}
 use Rattle.device.specs.promises.Holding.{Held, held_in, device_of, CaughtUp, Looks, LesserOf}
 use Rattle.device.proofs.StateLaws.{flags, flagged}
 
-pub least_first : {a b : ℕ} → a < b → LesserOf a b a
-least_first h = record { below = omega arith; within = omega (arith, h); one = inl refl }
-
-pub least-second : {a b : ℕ} → b ≤ a → LesserOf a b b
-least-second h = record { below = h; within = omega arith; one = inr refl }
+pub lesser : {a b r : ℕ} → r ≡ min a b → LesserOf a b r
+lesser {a} {b} e = record { below = grind (arith, e); within = grind (arith, e); one = grind (arith, e) }
 
 -- the strip with a reading, which arrived
 abbrev pub reading : List ℕ → (lost : Bool) (byte : ℕ) → List ℕ

@@ -1,3 +1,3 @@
--- Laws that the proofs of the device cite, one for each return.
+-- Laws that the proofs of the device cite, where the check does not find the return alone.
 pub mod StateLaws
 pub mod CatchLaws

@@ -25,9 +25,7 @@ use Rattle.lookup.specs.promises.HeldClasses.{word_at, NameNumber, ClassTableHel
 use Rattle.lookup.specs.laws.HeldLaws.{word_in}
 use Rattle.declarations.specs.promises.Judgements.{ClassesAt}
 use Rattle.reader.specs.promises.WalkPost.{Walkable}
-use Rattle.typecheck.specs.declared.check.Finding.{Finding}
-use Rattle.typecheck.specs.declared.check.Finding.TheVariants.{Program as found, Refused as declined}
-use Rattle.typecheck.specs.promises.CheckPost.{Checked, FindsProgram, Leaves}
+use Rattle.typecheck.specs.promises.CheckPost.{Finding, found, Checked, FindsProgram, Leaves}
 use Rattle.codegen.specs.promises.Code.{Instruction, NamedEntry, ClassRow}
 use Rattle.codegen.specs.promises.Compile.{end, middle, value_end, end_methods, named_of, rows_of, compile}
 use Rattle.writer.specs.promises.Words.{Words, words, encode, put_at, store}
@@ -43,7 +41,11 @@ use Rattle.base.specs.promises.Answers.{write_answer_of, write_result_of}
 use Rattle.parser.specs.Read.{table_after}
 use Rattle.frames.specs.Operations.{frames_text, encode_result, Encodes}
 use Rattle.encoder.specs.declared.plan.Plan.{Plan}
-use Rattle.base.specs.declared.write.WriteAnswer.{WriteAnswer}
+use Rattle.std.specs.Prelude.{Result, Ok, Err}
+use Rattle.base.specs.declared.refusal.Reason.TheVariants as reason
+use Rattle.base.specs.declared.refusal.Refusal.{Refusal}
+use Rattle.base.specs.promises.Refusals.{number_of, refusal}
+use Rattle.lookup.specs.declared.sizes.Sizes.{Sizes}
 use Rattle.encoder.specs.promises.Strip.{Puts}
 use Rattle.encoder.specs.promises.Frames.{HeldFrom, BehindPost, PlainPost}
 use Rattle.encoder.specs.promises.Names.{no_place, numbered, ClassesNumbered, Declared, declared_by, EachPost}
@@ -86,7 +88,7 @@ bytes-are g u = omega (arith, u.behind, text-length (frames_of (compile g)))
 
 module _ {tab code entries classes marks names : List ℕ} {p : Plan} {empty none' : List ℕ} {bytes : ℕ}
     (n : PassPost tab code entries classes marks names p empty none' bytes) {before : List ℕ} where
-  pub frames-short : length before < bytes → BothPost tab code entries classes marks names p before before (record { number = 68; position = 0; count = 0 })
+  pub frames-short : length before < bytes → BothPost tab code entries classes marks names p before before (refusal reason.FramesTooShort 0)
   frames-short l =
       record {
         says = λ ts g W.
@@ -95,7 +97,7 @@ module _ {tab code entries classes marks names : List ℕ} {p : Plan} {empty non
       }
 
   pub frames-written : bytes ≤ length before → {after : List ℕ} {r : ℕ} → PassPost tab code entries classes marks names p before after r
-      → BothPost tab code entries classes marks names p before after (record { number = 0; position = 0; count = bytes })
+      → BothPost tab code entries classes marks names p before after (Ok bytes)
   frames-written l {after} {r} u =
       record {
         says = λ ts g W.
@@ -193,9 +195,18 @@ rows_long (k ∷ ks) i = ap suc (rows_long ks (end_methods k.methods i))
 module _ {tab : List ℕ} {tokens many : ℕ} {code entries : List ℕ} (w : Prepares tokens many tab (replicate 32768 255) code (replicate 2048 0) entries)
     {first : ℕ} (e₆ : first ≡ word_at tab c_next 0) {classes : List ℕ} (f : ClassesNumbered tab many first 0 (replicate 2049 2048) classes)
     {marks names : List ℕ} {methods : ℕ} (h : EachPost tab tokens many first 0 (replicate 2049 no_place) (replicate 8192 0) marks names methods)
-    {lines : ℕ} (b : BehindPost code 0 8192 lines) where
+    {lines : ℕ} (b : BehindPost code 0 8192 lines) (few_classes : many ≤ 2048) (few_lines : lines ≤ 8192)
+    (few_methods : methods ≤ 4194304) where
   abbrev plan : Plan
-  plan = record { tokens = tokens; classes = many; lines = lines; methods = methods }
+  plan = record {
+    tokens = tokens;
+    classes = many;
+    lines = lines;
+    methods = methods;
+    few_classes = few_classes;
+    few_lines = few_lines;
+    few_methods = few_methods;
+  }
 
   module _ (s : List ℕ) (g : Program) (C : Checked s g (found tokens many) tab) where
     abbrev A : CodeWritten g (found tokens many) tab (replicate 32768 255) code (replicate 2048 0) entries
@@ -207,11 +218,14 @@ module _ {tab : List ℕ} {tokens many : ℕ} {code entries : List ℕ} (w : Pre
     abbrev k : List Instruction
     k = (compile g).instructions
 
+    sizes : record { tokens = tokens; classes = many } ≡ record { tokens = length ts; classes = length g.classes }
+    sizes = let z = A.answer in cc
+
     many-tokens : tokens ≡ length ts
-    many-tokens = let z = A.answer in cc
+    many-tokens = ap (λ (z : Sizes). z.tokens) sizes
 
     many-classes : many ≡ length g.classes
-    many-classes = let z = A.answer in cc
+    many-classes = ap (λ (z : Sizes). z.classes) sizes
 
     lesson : Lesson tab entries plan ts g
     lesson =
@@ -289,7 +303,7 @@ module _ {tab : List ℕ} {tokens many : ℕ} {code entries : List ℕ} (w : Pre
           listed = all-declared.listed;
         }
 
-  pub all-written : {before after : List ℕ} {r : WriteAnswer} → BothPost tab code entries classes marks names plan before after r
+  pub all-written : {before after : List ℕ} {r : Result ℕ Refusal} → BothPost tab code entries classes marks names plan before after r
       → WritesFrames tab tokens many before (write_result_of r after)
   all-written u = record { says = λ s g C. u.says (ts s g C) g (whole s g C) }
 
@@ -307,8 +321,9 @@ found-few s tab {n} {k} {f} l is = by (checking s) l.finds
     by : (v : Outcome Program) → FindsProgram s v f tab → (n ≤ 2048) × (k ≤ 2048)
     by (accepted p) a =
         let e = a.answer in
-        let t : length a.stream ≡ n = cc in
-        let c : length p.classes ≡ k = cc in
+        let both : record { tokens = length a.stream; classes = length p.classes } ≡ record { tokens = n; classes = k } = cc in
+        let t = ap (λ (z : Sizes). z.tokens) both in
+        let c = ap (λ (z : Sizes). z.classes) both in
         (omega (arith, t, a.ready.world.tokens.few), omega (arith, c, a.ready.world.few, a.ready.world.tokens.few))
     by (refused m i) a = let e = a in apart (cc)
 
@@ -321,32 +336,35 @@ found-classes {s} {tab} l is = (found-few s tab l is).1
 -- THE ANSWER
 
 module _ (s : List ℕ) (f : Finding) (middle before : List ℕ) (l : Leaves s (checking s) f middle) where
-  pub answer-found : {n k : ℕ} → f ≡ found n k → {r : WriteAnswer} {after : List ℕ} → WritesFrames middle n k before (write_result_of r after)
+  pub answer-found : {n k : ℕ} → f ≡ found n k → (r : Result ℕ Refusal) {after : List ℕ} → WritesFrames middle n k before (write_result_of r after)
       → write_result_of r after ≡ encode_result (checking s) before
-  answer-found {n} {k} is {r} {after} g = go (checking s) (subst (λ (y : Finding). Leaves s (checking s) y middle) is l).finds
+  answer-found {n} {k} is r {after} g = go (checking s) (subst (λ (y : Finding). Leaves s (checking s) y middle) is l).finds
     where
       go : (w : Outcome Program) → FindsProgram s w (found n k) middle → write_result_of r after ≡ encode_result w before
       go (accepted p) h = g.says s p h
       go (refused m q) h = let z = h in apart (cc)
 
-  pub answer-unfit : {n q : ℕ} → f ≡ declined n q
-      → write_result_of (record { number = n; position = q; count = 0 }) before ≡ encode_result (checking s) before
-  answer-unfit {n} {q} is = go (checking s) l.finds
+  pub answer-unfit : {q : Refusal} → f ≡ Err q → write_result_of (Err q) before ≡ encode_result (checking s) before
+  answer-unfit {q} is = go (checking s) l.finds
     where
-      go : (w : Outcome Program) → FindsProgram s w f middle → write_result_of (record { number = n; position = q; count = 0 }) before ≡ encode_result w before
+      go : (w : Outcome Program) → FindsProgram s w f middle → write_result_of (Err q) before ≡ encode_result w before
       go (accepted p) h = let z = h.answer in apart (cc)
-      go (refused m p) h = let z = h in let a : n ≡ m = cc in let b : q ≡ p = cc in rw (a, b)
+      go (refused m p) h =
+          let z = h in
+          let a : number_of q.reason ≡ m = cc in
+          let b : q.position ≡ p = cc in
+          rw (a, b)
 
 -- THE OPERATION
 
 module _ (s table before : List ℕ) where
-  pub encode-short : length table < table_least → Encodes s table before (record { number = table_too_short; position = 0; count = 0 }) table before
+  pub encode-short : length table < table_least → Encodes s table before (write_answer_of (refusal reason.TableTooShort 0)) table before
   unfolding Operations.encode table_after
   encode-short h = record { answer = rw (lt-ltb (length table) table_least h); cleared = rw (lt-ltb (length table) table_least h) }
 
-  pub encode-answer : table_least ≤ length table → {r : WriteAnswer} (middle : List ℕ) {last after : List ℕ}
+  pub encode-answer : table_least ≤ length table → (r : Result ℕ Refusal) (middle : List ℕ) {last after : List ℕ}
       → write_result_of r after ≡ encode_result (checking s) before → length middle ≡ length table
       → last ≡ replicate (length middle) 0 → Encodes s table before (write_answer_of r) last after
   unfolding Operations.encode table_after
-  encode-answer long middle m same zeros =
+  encode-answer long r middle m same zeros =
       record { answer = rw (le-ltb (length table) table_least long) m; cleared = rw (le-ltb (length table) table_least long) (zeros ∙ ap (λ (k : ℕ). replicate k 0) same) }

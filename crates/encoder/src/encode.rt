@@ -8,120 +8,104 @@ ghost use Rattle.base.specs.promises.Answers.{write_answer_of, write_result_of};
 ghost use Rattle.frames.specs.Operations.{Encodes};
 ghost use Rattle.encoder.specs.promises.Encoding.{PassPost, BothPost, WritesFrames};
 
-use crate::frame::{behind, plain};
-use crate::names::{classes, each};
-use crate::plan::Plan;
+use crate::frame::{END, count, plain};
+use crate::names::{NONE, classes, each};
+use crate::plan::{Lesson, Plan};
 use crate::tables::tables;
-use base::codes;
-use base::fill::zero_words;
-use base::write::WriteAnswer;
+use base::bounds::TABLE_LEAST;
+use base::refusal::{Reason, Refusal};
 use lookup::rows::word;
 use parser::columns;
-use typecheck::check::{Finding, find};
+use parser::columns::ROWS;
+use typecheck::check::find;
+use writer::code::ROOM;
 use writer::prepare::prepare;
 
+// How many words an array has of the code, of rows, of numbers of names, and of method names.
+const CODE_WORDS: usize = 4 * ROOM;
+
+const NUMBERS: usize = ROWS + 1;
+
+const NAMES: usize = 8192;
+
 // All frames, where the strip reaches; the answer is how many bytes they have.
-fn pass(
-    table: &[u32],
-    code: &[u32],
-    entries: &[u32],
-    numbers: &[u32],
-    marks: &[u32],
-    names: &[u32],
-    strip: &mut [u8],
-    p: Plan,
-) -> usize
-    requires { Walkable table.now p.tokens × (p.lines ≤ 8192) × (p.classes ≤ 2048) × (p.methods ≤ 4194304) }
-    ensures { PassPost table.now code.now entries.now numbers.now marks.now
-        names.now p strip.old strip.new result }
+fn pass(l: &Lesson, strip: &mut [u8]) -> usize
+    ensures { PassPost l.now.table.now l.now.code.now l.now.entries.now l.now.classes.now l.now.methods.now
+        l.now.names.now l.now.plan strip.old strip.new result }
 {
-    let at = plain(code, numbers, marks, strip, p, 0, p.lines, 0);
-    tables(table, entries, names, strip, p, 0, p.methods, at)
+    let at = plain(l, strip);
+    tables(l, strip, at)
 }
 
 // Counts the bytes, with a strip to which nothing of them goes that is kept, and writes them where the strip is long enough.
-fn both(
-    table: &[u32],
-    code: &[u32],
-    entries: &[u32],
-    numbers: &[u32],
-    marks: &[u32],
-    names: &[u32],
-    strip: &mut [u8],
-    p: Plan,
-) -> WriteAnswer
-    requires { Walkable table.now p.tokens × (p.lines ≤ 8192) × (p.classes ≤ 2048) × (p.methods ≤ 4194304) }
-    ensures { BothPost table.now code.now entries.now numbers.now marks.now
-        names.now p strip.old strip.new result }
+fn both(l: &Lesson, strip: &mut [u8]) -> Result<usize, Refusal>
+    ensures { BothPost l.now.table.now l.now.code.now l.now.entries.now l.now.classes.now l.now.methods.now
+        l.now.names.now l.now.plan strip.old strip.new result }
 {
     let mut none = [0u8; 1];
-    let bytes = pass(table, code, entries, numbers, marks, names, &mut none, p);
+    let bytes = pass(l, &mut none);
     if strip.len() < bytes {
-        return WriteAnswer {
-            number: codes::FRAMES_TOO_SHORT,
+        return Err(Refusal {
+            reason: Reason::FramesTooShort,
             position: 0,
-            count: 0,
-        };
+        });
     }
-    pass(table, code, entries, numbers, marks, names, strip, p);
-    WriteAnswer {
-        number: codes::SUCCESS,
-        position: 0,
-        count: bytes,
-    }
+    pass(l, strip);
+    Ok(bytes)
 }
 
 // Writes the frames of the accepted lesson that the table holds, where the strip is long enough.
-fn written(table: &[u32], strip: &mut [u8], tokens: usize, many: usize) -> WriteAnswer
+fn written(table: &[u32], strip: &mut [u8], tokens: usize, many: usize) -> Result<usize, Refusal>
     requires { Walkable table.now tokens × (many ≤ 2048) }
     ensures { WritesFrames table.now tokens many strip.old (write_result_of result strip.new) }
 {
-    let mut code = [255u32; 32768];
-    let mut entries = [0u32; 2048];
+    let mut code = [END; CODE_WORDS];
+    let mut entries = [0u32; ROWS];
     prepare(table, &mut code, &mut entries, tokens, many);
-    let mut numbers = [2048u32; 2049];
-    let mut marks = [4294967295u32; 2049];
-    let mut names = [0u32; 8192];
+    let mut numbers = [ROWS as u32; NUMBERS];
+    let mut marks = [NONE as u32; NUMBERS];
+    let mut names = [0u32; NAMES];
     let first = word(table, columns::NEXT, columns::CLASS_LIST);
     classes(table, &mut numbers, many, first, 0);
     let methods = each(table, &mut marks, &mut names, tokens, many, first, 0);
-    let p = Plan {
+    let plan = Plan {
         tokens,
         classes: many,
-        lines: behind(&code, 0, 8192),
+        lines: count(&code),
         methods,
     };
-    both(table, &code, &entries, &numbers, &marks, &names, strip, p)
+    let l = Lesson {
+        table,
+        code: &code,
+        entries: &entries,
+        classes: &numbers,
+        methods: &marks,
+        names: &names,
+        plan,
+    };
+    both(&l, strip)
 }
 
 // What Encode answers, and the strip; the table is left filled.
-fn answer(source: &[u8], table: &mut [u32], strip: &mut [u8]) -> WriteAnswer
+fn answer(source: &[u8], table: &mut [u32], strip: &mut [u8]) -> Result<usize, Refusal>
     requires { table_least ≤ length table.old }
     ensures { write_result_of result strip.new ≡ encode_result (checking source.now) strip.old }
 {
-    let f = find(source, table);
-    match f {
-        Finding::Program(tokens, many) => written(table, strip, tokens, many),
-        Finding::Refused(number, position) => WriteAnswer {
-            number,
-            position,
-            count: 0,
-        },
-    }
+    let sizes = find(source, table)?;
+    written(table, strip, sizes.tokens, sizes.classes)
 }
 
-// The operation. 1 work table too short, which touches nothing.
-pub fn encode(source: &[u8], table: &mut [u32], strip: &mut [u8]) -> WriteAnswer
+// The operation: how many bytes were written. A work table that is too short is not touched.
+pub fn encode(source: &[u8], table: &mut [u32], strip: &mut [u8]) -> Result<usize, Refusal>
     ensures { Encodes source.now table.old strip.old (write_answer_of result) table.new strip.new }
 {
-    if table.len() < codes::TABLE_LEAST {
-        return WriteAnswer {
-            number: codes::TABLE_TOO_SHORT,
+    if table.len() < TABLE_LEAST {
+        return Err(Refusal {
+            reason: Reason::TableTooShort,
             position: 0,
-            count: 0,
-        };
+        });
     }
-    let a = answer(source, table, strip);
-    zero_words(table);
-    a
+    let encoded = answer(source, table, strip);
+    table.fill(0);
+    encoded
 }

@@ -4,33 +4,35 @@ use mathlib.Core.Path.{◌≡◌, refl, sym, ap, ◌∙◌}
 use mathlib.Core.List.{List, [], ◌∷◌, ◌++◌, append_assoc}
 use native.Mathlib.Omega.{arith}
 use lib.ListN.{length, set, take, drop, replicate, length-append}
-use lib.Seq.{take-length}
+use lib.Seq.{take-length, length-take-le, get_or-take}
+use Rattle.std.proofs.lemmas.List.{length-map}
 use borrow.Author.Tests.{lt-ltb, le-ltb}
 use Rattle.base.specs.Codes.{table_least, table_too_short, source_most, tokens_most}
 use Rattle.base.specs.Outcome.{Outcome, accepted, refused, ◌>>=◌}
 use Rattle.base.specs.laws.Tests.{apart}
 use Rattle.lexer.specs.Bytes.{b_line_feed}
 use Rattle.parser.specs.Read.{Reading, reading, table_after}
+use Rattle.parser.specs.Tree.{Class}
 use Rattle.parser.specs.promises.Layout.{row_classes}
 use Rattle.reader.specs.promises.ReadPost.{Fills}
-use Rattle.reader.specs.declared.read.Filled.{Filled}
-use Rattle.reader.specs.declared.read.Filled.TheVariants.{Tree}
+use Rattle.reader.specs.declared.read.Counts.{Counts}
 use Rattle.reader.specs.laws.Matching.{classes-match}
 use Rattle.acceptance.specs.Read.{Readable, readable-exactly}
 use Rattle.joining.specs.Library.{LibraryReading, reading_library}
 use Rattle.joining.specs.Join.{names_of, slice, kept_text, join_text, as_library, joining, join_result, join, Joins}
 use Rattle.joining.proofs.Reading.{readable-library}
 use Rattle.joiner.specs.promises.LibraryPost.{LibraryHeld, LibraryFills}
-use Rattle.joiner.specs.promises.Names.{classes_most, NamesKept}
+use Rattle.joiner.specs.promises.Names.{classes_most, positions_of, ListedFrom, NamesKept}
 use Rattle.joiner.specs.promises.Texts.{kept_from, overlay, Overlaid}
 use Rattle.base.specs.promises.Answers.{write_answer_of}
 use Rattle.joiner.specs.promises.JoinPost.{JoinAnswered, LessonHeld}
-use Rattle.base.specs.declared.write.WriteAnswer.{WriteAnswer}
-use Rattle.joiner.specs.declared.library.Held.{Held}
-use Rattle.joiner.specs.declared.library.Held.TheVariants.{Classes, Refused}
+use Rattle.base.specs.declared.refusal.Reason.TheVariants as reason
+use Rattle.base.specs.declared.refusal.Refusal.{Refusal}
+use Rattle.base.specs.promises.Refusals.{number_of, refusal, Refuses}
+use Rattle.std.specs.Prelude.{Result, Ok, Err}
 use Rattle.joining.proofs.laws.Lengths.{classes-few, lesson-few}
 use Rattle.joiner.specs.laws.TextLaws.{kept-is}
-use Rattle.joiner.proofs.Writing.{overlay-append}
+use Rattle.joiner.proofs.Writing.{overlay-append, front}
 
 -- THE TEXT
 
@@ -52,31 +54,17 @@ text-written s before kept_classes {mid} {after} {last} c e w =
           ∙ ap (overlay before 0) (append_assoc s (b_line_feed ∷ []) kept_classes);
     }
 
--- bytes written from the front on
-front : (xs pre rest : List ℕ) → length xs ≤ length rest → overlay (pre ++ rest) (length pre) xs ≡ pre ++ (xs ++ drop (length xs) rest)
-unfolding overlay
-front [] pre rest l = refl
-front (x ∷ xs) pre [] l = absurd (omega arith)
-front (x ∷ xs) pre (r ∷ rest) l =
-    let n : length pre + 1 ≡ length (pre ++ x ∷ []) = omega (arith, length-append pre (x ∷ [])) in
-    let one : set (pre ++ r ∷ rest) (length pre) x ≡ (pre ++ x ∷ []) ++ rest = put-at pre in
-    (λ j. overlay (one j) (n j) xs) ∙ front xs (pre ++ x ∷ []) rest (omega arith) ∙ append_assoc pre (x ∷ []) (xs ++ drop (length xs) rest)
-  where
-    put-at : (pre : List ℕ) → set (pre ++ r ∷ rest) (length pre) x ≡ (pre ++ x ∷ []) ++ rest
-    put-at [] = refl
-    put-at (p ∷ pre) = ap (λ (l : List ℕ). p ∷ l) (put-at pre)
-
 module _ (s ks before : List ℕ) {kept_classes : ℕ} (e : kept_classes ≡ length ks) where
   size_is : length s + 1 + kept_classes ≡ length (s ++ b_line_feed ∷ ks)
   size_is = omega (arith, e, length-append s (b_line_feed ∷ ks))
 
   pub text-short : length before < length s + 1 + kept_classes
-      → JoinAnswered (join_result (accepted (s ++ b_line_feed ∷ ks)) before) (record { number = 67; position = 0; count = 0 }) before
+      → JoinAnswered (join_result (accepted (s ++ b_line_feed ∷ ks)) before) (refusal reason.JoinedTooLong 0) before
   text-short l = record { is = rw (lt-ltb (length before) (length (s ++ b_line_feed ∷ ks)) (omega (arith, size_is))) refl }
 
   pub text-done : {after : List ℕ} → length s + 1 + kept_classes ≤ length before → Overlaid before 0 (s ++ b_line_feed ∷ ks) after
       → JoinAnswered (join_result (accepted (s ++ b_line_feed ∷ ks)) before)
-      (record { number = 0; position = 0; count = length s + 1 + kept_classes }) after
+      (Ok (length s + 1 + kept_classes)) after
   text-done {after} l w =
       let text = s ++ b_line_feed ∷ ks in
       let strip : after ≡ text ++ drop (length text) before = w.is ∙ front text [] before (omega (arith, size_is)) in
@@ -87,6 +75,11 @@ module _ (s ks before : List ℕ) {kept_classes : ℕ} (e : kept_classes ≡ len
 
 -- THE LIBRARY
 
+-- what is listed in an array is listed in as much of it as it takes
+listed-front : (n : ℕ) (a xs : List ℕ) (i : ℕ) → i + length xs ≤ n → ListedFrom a i xs → ListedFrom (take n a) i xs
+listed-front n a [] i l h = h
+listed-front n a (x ∷ xs) i l h = (get_or-take n a i 0 (omega arith) ∙ h.0, listed-front n a xs (i + 1) (omega arith) h.1)
+
 record LibraryFound (lib : List ℕ) (n first : ℕ) (tab : List ℕ) : Type 0 where
   found : LibraryReading
   is : reading_library lib ≡ accepted found
@@ -94,26 +87,25 @@ record LibraryFound (lib : List ℕ) (n first : ℕ) (tab : List ℕ) : Type 0 w
   row : first ≡ row_classes found.classes
   held : LibraryHeld tab found
 
-library-found : (lib : List ℕ) {n first : ℕ} {h : Held} {tab : List ℕ} → LibraryFills (reading_library lib) h tab → h ≡ Classes n first
+library-found : (lib : List ℕ) {n first : ℕ} {h : Result (ℕ × ℕ) ℕ} {tab : List ℕ} → LibraryFills (reading_library lib) h tab → h ≡ Ok (n, first)
     → LibraryFound lib n first tab
 library-found lib {n} {first} {h} {tab} f e = go (reading_library lib) refl f
   where
     go : (o : Outcome LibraryReading) → reading_library lib ≡ o → LibraryFills o h tab → LibraryFound lib n first tab
     go (accepted l) q w =
-        let z : Classes n first ≡ Classes (length l.stream) (row_classes l.classes) = sym e ∙ w.0 in
-        let z₁ : n ≡ length l.stream = cc in
-        let z₂ : first ≡ row_classes l.classes = cc in
-        record { found = l; is = q; tokens = z₁; row = z₂; held = w.1 }
-    go (refused m p) q w = let z : Classes n first ≡ Refused p = sym e ∙ w in apart (cc)
+        let z : Ok (n, first) ≡ Ok (length l.stream, row_classes l.classes) = sym e ∙ w.0 in
+        let both : (n, first) ≡ (length l.stream, row_classes l.classes) = cc in
+        record { found = l; is = q; tokens = ap (λ (p : ℕ × ℕ). p.0) both; row = ap (λ (p : ℕ × ℕ). p.1) both; held = w.1 }
+    go (refused m p) q w = let z : Ok (n, first) ≡ Err p = sym e ∙ w in apart (cc)
 
-library-at : (lib tab : List ℕ) {at : ℕ} {h : Held} → LibraryFills (reading_library lib) h tab → h ≡ Refused at
+library-at : (lib tab : List ℕ) {at : ℕ} {h : Result (ℕ × ℕ) ℕ} → LibraryFills (reading_library lib) h tab → h ≡ Err at
     → (m : ℕ) × (reading_library lib ≡ refused m at)
 library-at lib tab {at} {h} f e = go (reading_library lib) refl f
   where
     go : (o : Outcome LibraryReading) → reading_library lib ≡ o → LibraryFills o h tab → (m : ℕ) × (reading_library lib ≡ refused m at)
     go (accepted l) q w =
-        let z : Refused at ≡ Classes (length l.stream) (row_classes l.classes) = sym e ∙ w.0 in apart (cc)
-    go (refused m p) q w = let z : Refused at ≡ Refused p = sym e ∙ w in let y : p ≡ at = cc in (m, q ∙ ap (refused m) y)
+        let z : Err at ≡ Ok (length l.stream, row_classes l.classes) = sym e ∙ w.0 in apart (cc)
+    go (refused m p) q w = let z : Err at ≡ Err p = sym e ∙ w in let y : p ≡ at = cc in (m, q ∙ ap (refused m) y)
 
 module _ (s tab lib before : List ℕ) (L : LessonHeld s tab) where
   lesson-read : Readable s L.found.stream L.found.tree
@@ -125,72 +117,76 @@ module _ (s tab lib before : List ℕ) (L : LessonHeld s tab) where
   pub count-few : {count : ℕ} {names : List ℕ} → NamesKept tab count names → count ≤ classes_most
   count-few k = let w = k.says L.found L.held in omega (arith, w.0, lesson-few L.held.derived, L.held.few)
 
-  pub tokens-few : {n first : ℕ} {h : Held} (tab₁ : List ℕ) → LibraryFills (reading_library lib) h tab₁ → h ≡ Classes n first → n ≤
+  pub tokens-few : {n first : ℕ} {h : Result (ℕ × ℕ) ℕ} (tab₁ : List ℕ) → LibraryFills (reading_library lib) h tab₁ → h ≡ Ok (n, first) → n ≤
       tokens_most
   tokens-few tab₁ f e = let F = library-found lib f e in omega (arith, F.tokens, F.held.few)
 
-  pub under-classes : {count n first : ℕ} {names after : List ℕ} {h : Held} {r : WriteAnswer} (tab₁ : List ℕ) → NamesKept tab count names
-      → LibraryFills (reading_library lib) h tab₁ → h ≡ Classes n first
-      → JoinAnswered (join_result (accepted (s ++ b_line_feed ∷ kept_from s names count lib tab₁ n first classes_most)) before) r after
+  pub under-classes : {count n first : ℕ} {names after : List ℕ} {h : Result (ℕ × ℕ) ℕ} {r : Result ℕ Refusal} (tab₁ : List ℕ)
+      → NamesKept tab count names → count ≤ length names → LibraryFills (reading_library lib) h tab₁ → h ≡ Ok (n, first)
+      → JoinAnswered (join_result (accepted (s ++ b_line_feed ∷
+      kept_from s (take count names) (length (take count names)) lib tab₁ n first classes_most)) before) r after
       → JoinAnswered (join_result (joining s lib) before) r after
   unfolding joining
-  under-classes {count} {n} {first} {names} tab₁ k f e w =
+  under-classes {count} {n} {first} {names} tab₁ k room f e w =
       let F = library-found lib f e in
       let v = L.found in
       let l = F.found in
       let K = k.says v L.held in
       let B = (readable-library lib l.stream l.classes).0 F.is in
-      let kept_classes : kept_from s names count lib tab₁ n first classes_most ≡ kept_text (names_of v.tree) lib l.stream l.classes =
-      (λ j. kept_from s names (K.0 j) lib tab₁ (F.tokens j) (F.row j) classes_most)
-      ∙ kept-is s lesson-read.lexed lesson-read.derived names K.1 lib B.lexed F.held.rows F.held.few B.derived
+      let own = take count names in
+      let many = length-take-le count names room ∙ K.0 in
+      let names_long = length-map v.tree.classes (λ (k : Class). k.name.start) in
+      let listed = listed-front count names (positions_of v.tree) 0 (omega (arith, K.0, names_long)) K.1 in
+      let kept_classes : kept_from s own (length own) lib tab₁ n first classes_most ≡ kept_text (names_of v.tree) lib l.stream l.classes =
+      (λ j. kept_from s own (many j) lib tab₁ (F.tokens j) (F.row j) classes_most)
+      ∙ kept-is s lesson-read.lexed lesson-read.derived own listed lib B.lexed F.held.rows F.held.few B.derived
       F.held.holds (classes-match B.derived) classes_most (omega (arith, classes-few B.derived, F.held.few)) in
-      let text : joining s lib ≡ accepted (s ++ b_line_feed ∷ kept_from s names count lib tab₁ n first classes_most) =
+      let text : joining s lib ≡ accepted (s ++ b_line_feed ∷ kept_from s own (length own) lib tab₁ n first classes_most) =
       rw (L.is, F.is) (ap (λ (x : List ℕ). accepted (s ++ b_line_feed ∷ x)) (sym kept_classes)) in
       record { is = w.is ∙ ap (λ (o : Outcome (List ℕ)). join_result o before) (sym text) }
 
-  pub under-refused : {at : ℕ} {h : Held} (tab₁ : List ℕ) → LibraryFills (reading_library lib) h tab₁ → h ≡ Refused at
-      → JoinAnswered (join_result (joining s lib) before) (record { number = 66; position = at; count = 0 }) before
+  pub under-refused : {at : ℕ} {h : Result (ℕ × ℕ) ℕ} (tab₁ : List ℕ) → LibraryFills (reading_library lib) h tab₁ → h ≡ Err at
+      → JoinAnswered (join_result (joining s lib) before) (refusal reason.LibraryRefused at) before
   unfolding joining
   under-refused {at} tab₁ f e = let w = library-at lib tab₁ f e in record { is = rw (L.is, w.1) refl }
 
 -- THE LESSON
 
 module _ (s lib before : List ℕ) where
-  pub lesson-held : {f : Filled} {tab : List ℕ} {t k : ℕ} → Fills (reading s) f tab → f ≡ Tree t k → LessonHeld s tab
-  lesson-held {f} {tab} {t} {k} w e = go (reading s) refl w
+  pub lesson-held : {f : Result Counts Refusal} {tab : List ℕ} {z : Counts} → Fills (reading s) f tab → f ≡ Ok z → LessonHeld s tab
+  lesson-held {f} {tab} {z} w e = go (reading s) refl w
     where
       go : (o : Outcome Reading) → reading s ≡ o → Fills o f tab → LessonHeld s tab
       go (accepted r) q w = record { found = r; is = q; held = w.1 }
-      go (refused n p) q w = let z : Tree t k ≡ Filled.Refused n p = sym e ∙ w in apart (cc)
+      go (refused n p) q w = apart (cc)
 
-  pub lesson-refused : {f : Filled} (tab : List ℕ) {n p : ℕ} → Fills (reading s) f tab → f ≡ Filled.Refused n p
-      → JoinAnswered (join_result (joining s lib) before) (record { number = n; position = p; count = 0 }) before
+  pub lesson-refused : {f : Result Counts Refusal} (tab : List ℕ) {x : Refusal} → Fills (reading s) f tab → f ≡ Err x
+      → JoinAnswered (join_result (joining s lib) before) (Err x) before
   unfolding joining
-  lesson-refused {f} tab {n} {p} w e = go (reading s) refl w
+  lesson-refused {f} tab {x} w e = go (reading s) refl w
     where
       go : (o : Outcome Reading) → reading s ≡ o → Fills o f tab
           → JoinAnswered (join_result (reading s >>= λ r. as_library (reading_library lib) >>= λ l. accepted
           (join_text s r.tree lib l.stream l.classes)) before)
-          (record { number = n; position = p; count = 0 }) before
-      go (accepted r) q w = let z : Filled.Refused n p ≡ Tree _ _ = sym e ∙ w.0 in apart (cc)
+          (Err x) before
+      go (accepted r) q w = let z = w.0 in apart (cc)
       go (refused m k) q w =
-          let z : Filled.Refused m k ≡ Filled.Refused n p = sym w ∙ e in
-          let z₁ : m ≡ n = cc in
-          let z₂ : k ≡ p = cc in
+          let z₁ : m ≡ number_of x.reason = cc in
+          let z₂ : k ≡ x.position = cc in
           record { is = rw (q ∙ (λ j. refused (z₁ j) (z₂ j))) refl }
 
 -- THE OPERATION
 
 module _ (s lib table before : List ℕ) where
   pub join-short : length table < table_least
-      → Joins s lib table before (record { number = table_too_short; position = 0; count = 0 }) table before
+      → Joins s lib table before (write_answer_of (refusal reason.TableTooShort 0)) table before
   unfolding join table_after
   join-short l = record {
     answer = rw (lt-ltb (length table) table_least l) refl;
     cleared = rw (lt-ltb (length table) table_least l) refl;
   }
 
-  pub join-answer : {a : WriteAnswer} {after last : List ℕ} (tab : List ℕ) → table_least ≤ length table → JoinAnswered
+  pub join-answer : {a : Result ℕ Refusal} {after last : List ℕ} (tab : List ℕ) → table_least ≤ length table → JoinAnswered
       (join_result (joining s lib) before) a after
       → length tab ≡ length table → last ≡ replicate (length tab) 0 → Joins s lib table before (write_answer_of a) last after
   unfolding join table_after

@@ -8,7 +8,6 @@ use native.Mathlib.Omega.{arith}
 use lib.ListN.{length, get_or, set, length-set}
 use lib.Seq.{get_or-set_same}
 use borrow.Author.Tests.{lt-ltb, le-ltb, eq-eqb, ne_eqb}
-use Rattle.lexer.specs.Bytes.{is_name_part_lem}
 use Rattle.base.specs.promises.Table.{col, c_start, c_next}
 use Rattle.parser.specs.promises.Layout.{absent, row_classes}
 use Rattle.joiner.specs.promises.Names.{part_at, same_within_lem, name_room, taken_within_lem, collected, place_behind, Collects}
@@ -16,21 +15,6 @@ use Rattle.joiner.specs.promises.Names.{classes_most, ListedFrom, NamesKept}
 use Rattle.joining.proofs.laws.Lengths.{lesson-few}
 use Rattle.joiner.specs.laws.NameLaws.{collected-lists, place-behind, main-start}
 use Rattle.reader.specs.promises.FilledTable.{matches}
-
--- THE BYTES OF NAMES
-
-module _ (l : List ℕ) (at : ℕ) where
-  pub part_in : {r : Bool} → at < length l → r ≡ is_name_part_lem (get_or l at 0) → r ≡ true → get_or l at 0 ≡ part_at l at
-  unfolding part_at
-  part_in h e q = rw (lt-ltb at (length l) h, sym e ∙ q) refl
-
-  pub part_no : {r : Bool} → at < length l → r ≡ is_name_part_lem (get_or l at 0) → r ≡ false → 0 ≡ part_at l at
-  unfolding part_at
-  part_no h e q = rw (lt-ltb at (length l) h, sym e ∙ q) refl
-
-  pub part-past : length l ≤ at → 0 ≡ part_at l at
-  unfolding part_at
-  part-past h = rw (le-ltb at (length l) h) refl
 
 -- TWO NAMES
 

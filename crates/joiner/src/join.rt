@@ -1,6 +1,6 @@
 // The operation Join of document 02, (x): a course library joined to a lesson in a lent byte strip.
 ghost use Rattle.std.specs.Prelude.{◌∷◌, ◌++◌, ◌+◌, ◌≤◌, length};
-ghost use Rattle.base.specs.Codes.{table_least, source_most, tokens_most};
+ghost use Rattle.base.specs.Codes.{table_least};
 ghost use Rattle.base.specs.Outcome.{accepted};
 ghost use Rattle.lexer.specs.Bytes.{b_line_feed};
 ghost use Rattle.joining.specs.Join.{join_result, joining, Joins};
@@ -10,131 +10,96 @@ ghost use Rattle.base.specs.promises.Answers.{write_answer_of};
 ghost use Rattle.joiner.specs.promises.JoinPost.{JoinAnswered, LessonHeld};
 
 use crate::library;
-use crate::library::Held;
 use crate::names::{CLASSES_MOST, keep};
-use crate::text::{copy, kept_size, line_feed, write_kept};
-use base::codes;
-use base::fill::zero_words;
-use base::write::WriteAnswer;
-use reader::read::{Filled, fill};
+use crate::sources::Sources;
+use crate::text::{copy, kept_size, write_kept};
+use base::bounds::TABLE_LEAST;
+use base::refusal::{Reason, Refusal};
+use lexer::bytes::byte_kinds;
+use reader::read::fill;
 
 // Writes the lesson, a line feed and the kept classes.
-fn write_text(
-    lesson: &[u8],
-    names: &[u32],
-    count: usize,
-    library: &[u8],
-    table: &[u32],
-    n: usize,
-    first: usize,
-    strip: &mut [u8],
-)
-    requires { (table_least ≤ length table.now) × (n ≤ tokens_most) × (count ≤ length names.now) × (length lesson.now ≤ source_most)
-        × (length lesson.now + 1 + length (kept_from lesson.now names.now count library.now table.now n first classes_most)
-        ≤ length strip.old) }
+fn write_text(s: &Sources, first: usize, strip: &mut [u8])
+    requires { length s.now.lesson.now + 1 + length (kept_from s.now.lesson.now s.now.names.now (length s.now.names.now) s.now.library.now
+        s.now.table.now s.now.n first classes_most) ≤ length strip.old }
     ensures { Overlaid strip.old 0
-        (lesson.now ++ b_line_feed ∷ kept_from lesson.now names.now count library.now
-        table.now n first classes_most) strip.new }
+        (s.now.lesson.now ++ b_line_feed ∷ kept_from s.now.lesson.now s.now.names.now (length s.now.names.now) s.now.library.now
+        s.now.table.now s.now.n first classes_most) strip.new }
 {
-    copy(lesson, 0, lesson.len(), strip, 0);
-    line_feed(strip, lesson.len());
-    write_kept(
-        lesson,
-        names,
-        count,
-        library,
-        table,
-        n,
-        first,
-        CLASSES_MOST,
-        strip,
-        lesson.len() + 1,
-    );
+    let size = s.lesson.len();
+    copy(s.lesson, 0, size, strip, 0);
+    strip[size] = b'\n';
+    write_kept(s, first, CLASSES_MOST, strip, size + 1);
 }
 
 // The text, where the strip is long enough.
-fn text(
-    lesson: &[u8],
-    names: &[u32],
-    count: usize,
-    library: &[u8],
-    table: &[u32],
-    n: usize,
-    first: usize,
-    strip: &mut [u8],
-) -> WriteAnswer
-    requires { (table_least ≤ length table.now) × (n ≤ tokens_most) × (count ≤ length names.now)
-        × (length lesson.now ≤ source_most) }
-    ensures { JoinAnswered (join_result (accepted (lesson.now ++ b_line_feed ∷
-        kept_from lesson.now names.now count library.now table.now n first classes_most))
+fn text(s: &Sources, first: usize, strip: &mut [u8]) -> Result<usize, Refusal>
+    ensures { JoinAnswered (join_result (accepted (s.now.lesson.now ++ b_line_feed ∷
+        kept_from s.now.lesson.now s.now.names.now (length s.now.names.now) s.now.library.now s.now.table.now s.now.n first classes_most))
         strip.old) result strip.new }
 {
-    let kept = kept_size(lesson, names, count, library, table, n, first, CLASSES_MOST);
-    let size = lesson.len() + 1 + kept;
+    let kept = kept_size(s, first, CLASSES_MOST);
+    let size = s.lesson.len() + 1 + kept;
     if strip.len() < size {
-        return WriteAnswer {
-            number: codes::JOINED_TOO_LONG,
+        return Err(Refusal {
+            reason: Reason::JoinedTooLong,
             position: 0,
-            count: 0,
-        };
+        });
     }
-    write_text(lesson, names, count, library, table, n, first, strip);
-    WriteAnswer {
-        number: codes::SUCCESS,
-        position: 0,
-        count: size,
-    }
+    write_text(s, first, strip);
+    Ok(size)
 }
 
 // The library, once the lesson is in the table: its names are kept while the library takes its place.
-fn under(lesson: &[u8], table: &mut [u32], library: &[u8], strip: &mut [u8]) -> WriteAnswer
+fn under(lesson: &[u8], table: &mut [u32], library: &[u8], strip: &mut [u8]) -> Result<usize, Refusal>
     requires { (table_least ≤ length table.old) × LessonHeld lesson.now table.old }
     ensures { JoinAnswered (join_result (joining lesson.now library.now) strip.old) result
         strip.new }
 {
     let mut names = [0u32; CLASSES_MOST];
     let count = keep(table, &mut names);
-    let h = library::fill(library, table);
-    match h {
-        Held::Classes(n, first) => text(lesson, &names, count, library, table, n, first, strip),
-        Held::Refused(at) => WriteAnswer {
-            number: codes::LIBRARY_REFUSED,
+    match library::fill(library, table) {
+        Ok((n, first)) => {
+            let kinds = byte_kinds();
+            let s = Sources {
+                lesson,
+                names: &names[..count],
+                library,
+                table,
+                n,
+                kinds: &kinds,
+            };
+            text(&s, first, strip)
+        }
+        Err(at) => Err(Refusal {
+            reason: Reason::LibraryRefused,
             position: at,
-            count: 0,
-        },
+        }),
     }
 }
 
 // What Join answers, and the strip; the table is left filled.
-fn stages(lesson: &[u8], table: &mut [u32], library: &[u8], strip: &mut [u8]) -> WriteAnswer
+fn stages(lesson: &[u8], table: &mut [u32], library: &[u8], strip: &mut [u8]) -> Result<usize, Refusal>
     requires { table_least ≤ length table.old }
     ensures { JoinAnswered (join_result (joining lesson.now library.now) strip.old) result
         strip.new }
 {
-    let f = fill(lesson, table);
-    match f {
-        Filled::Tree(_tokens, _nodes) => under(lesson, table, library, strip),
-        Filled::Refused(number, position) => WriteAnswer {
-            number,
-            position,
-            count: 0,
-        },
-    }
+    fill(lesson, table)?;
+    under(lesson, table, library, strip)
 }
 
-// The operation Join.
-pub fn join(lesson: &[u8], table: &mut [u32], library: &[u8], strip: &mut [u8]) -> WriteAnswer
+// The operation Join. The answer is how many bytes were written.
+pub fn join(lesson: &[u8], table: &mut [u32], library: &[u8], strip: &mut [u8]) -> Result<usize, Refusal>
     ensures { Joins lesson.now library.now table.old strip.old (write_answer_of result)
         table.new strip.new }
 {
-    if table.len() < codes::TABLE_LEAST {
-        return WriteAnswer {
-            number: codes::TABLE_TOO_SHORT,
+    if table.len() < TABLE_LEAST {
+        return Err(Refusal {
+            reason: Reason::TableTooShort,
             position: 0,
-            count: 0,
-        };
+        });
     }
-    let a = stages(lesson, table, library, strip);
-    zero_words(table);
-    a
+    let joined = stages(lesson, table, library, strip);
+    table.fill(0);
+    joined
 }

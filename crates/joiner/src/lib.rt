@@ -4,4 +4,5 @@
 pub mod join;
 pub mod library;
 pub mod names;
+pub mod sources;
 pub mod text;

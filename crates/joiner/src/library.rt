@@ -5,56 +5,48 @@ ghost use Rattle.reader.specs.promises.WalkPost.{Walkable};
 ghost use Rattle.joining.specs.Library.{reading_library};
 ghost use Rattle.joiner.specs.promises.LibraryPost.{LibraryFills, GrowsClasses, MeasuresClasses};
 
-use base::codes;
-use lexer::{Lexed, lex};
-use parser::answer::Answer;
+use base::bounds::SOURCE_MOST;
+use lexer::lex;
 use parser::decl;
 use reader::read::place;
 use reader::walk;
 
-// The tokens of an accepted library and the row of its first class; or the position of its fault.
-#[derive(Drop)]
-pub enum Held {
-    Classes(usize, usize),
-    Refused(usize),
-}
-
 // The depth of the classes from a row on.
-fn measure(table: &[u32], n: usize, first: usize) -> Held
+fn measure(table: &[u32], n: usize, first: usize) -> Result<(usize, usize), usize>
     requires { Walkable table.now n }
     ensures { MeasuresClasses table.now n first result }
 {
     let walked = walk::classes(table, n, first);
     let place = walked.place;
     if place < walk::NOWHERE {
-        return Held::Refused(place);
+        return Err(place);
     }
-    Held::Classes(n, first)
+    Ok((n, first))
 }
 
 // From the tokens in the table to the classes.
-fn grow(table: &mut [u32], n: usize, size: usize) -> Held
+fn grow(table: &mut [u32], n: usize, size: usize) -> Result<(usize, usize), usize>
     requires { Walkable table.old n }
     ensures { GrowsClasses n size table.old result table.new }
 {
     let a = decl::classes(table, n, 0);
     match a {
-        Answer::At(first, _next) => measure(table, n, first),
-        Answer::Bad(k) => Held::Refused(place(table, n, k, size)),
+        Ok(part) => measure(table, n, part.row),
+        Err(misfit) => Err(place(table, n, misfit.token, size)),
     }
 }
 
-// What is found in a library, with the table left filled.
-pub fn fill(library: &[u8], table: &mut [u32]) -> Held
+// What is found in a library, with the table left filled: how many tokens it has, and the row of its first class; or the position of its
+// fault.
+pub fn fill(library: &[u8], table: &mut [u32]) -> Result<(usize, usize), usize>
     requires { table_least ≤ length table.old }
     ensures { LibraryFills (reading_library library.now) result table.new }
 {
-    if codes::SOURCE_MOST < library.len() {
-        return Held::Refused(0);
+    if SOURCE_MOST < library.len() {
+        return Err(0);
     }
-    let l = lex(library, table);
-    match l {
-        Lexed::Tokens(n) => grow(table, n, library.len()),
-        Lexed::Refused(_number, at) => Held::Refused(at),
+    match lex(library, table) {
+        Ok(n) => grow(table, n, library.len()),
+        Err(refusal) => Err(refusal.position),
     }
 }

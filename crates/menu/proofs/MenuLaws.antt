@@ -11,9 +11,8 @@ use native.Mathlib.Nat.{le_of_suc-le-suc}
 use borrow.Author.Tests.{lt-ltb, le-ltb}
 use Rattle.base.specs.All.{All, all_nil, all_cons}
 use Rattle.base.specs.laws.Lists.{all-weaken, drop-none, get_d_default, get_d-replicate-same}
-use Rattle.base.specs.Codes.{table_least, table_too_short, strip_too_short}
-use Rattle.base.specs.Outcome.{Outcome, accepted, refused}
-use Rattle.base.specs.laws.Tests.{apart}
+use Rattle.base.specs.Codes.{table_least}
+use Rattle.base.specs.Outcome.{accepted}
 use Rattle.base.specs.promises.Table.{c_next, rows}
 use Rattle.lexer.specs.Tokens.{Token}
 use Rattle.parser.specs.Tree.{Class, Program}
@@ -28,14 +27,14 @@ use Rattle.lookup.specs.laws.HeldLaws.{word_in}
 use Rattle.declarations.specs.laws.Counts.{class-count}
 use Rattle.declarations.specs.promises.Judgements.{ClassesAt}
 use Rattle.declarations.specs.promises.Indexing.{Ready}
-use Rattle.typecheck.specs.declared.check.Finding.{Finding}
-use Rattle.typecheck.specs.declared.check.Finding.TheVariants.{Program as found, Refused as declined}
-use Rattle.typecheck.specs.declared.check.CheckAnswer.{CheckAnswer}
-use Rattle.typecheck.specs.promises.CheckPost.{FindsProgram, Leaves, check_answer_of}
+use Rattle.std.specs.Prelude.{Result, Ok}
+use Rattle.base.specs.declared.refusal.Reason.TheVariants as reason
+use Rattle.base.specs.declared.refusal.Refusal.{Refusal}
+use Rattle.base.specs.promises.Refusals.{refusal}
 use Rattle.menu.specs.Menu.{menu_order, writing, positions, listing, menu, Menus}
 use Rattle.menu.proofs.laws.Writing.{many-same}
 use Rattle.menu.proofs.Ordered.{each-once}
-use Rattle.menu.specs.promises.MenuPost.{name_row, RowsRise, rising_none, rising-more, Tabled, Empty, Gathered, overwritten, ParentsWritten, StripWritten, listing_of, FillsStrip}
+use Rattle.menu.specs.promises.MenuPost.{name_row, RowsRise, rising_none, rising-more, Tabled, Empty, Gathered, overwritten, ParentsWritten, StripWritten, menu_answer_of, listing_of, FillsStrip}
 use Rattle.menu.specs.promises.Least.{tree_size}
 
 -- THE STRIP
@@ -96,7 +95,7 @@ nothing_written (k ∷ G) = all_cons (λ e. absurd (false≢true e)) (nothing_wr
 
 module _ {tab : List ℕ} {classes : ℕ} {before : List ℕ} where
   pub fill-short : length before < classes
-      → FillsStrip tab classes before (listing_of (record { number = strip_too_short; position = 0; classes = 0 }) before)
+      → FillsStrip tab classes before (listing_of (refusal reason.StripTooShort 0) before)
   fill-short h = record { says = λ n ts p r d t l. let z : length before < length p.classes = omega arith in rw (lt-ltb (length before) (length p.classes) z) }
 
   module _ {first : ℕ} (e₆ : first ≡ word_at tab c_next 0) {tree firsts next : List ℕ}
@@ -115,7 +114,7 @@ module _ {tab : List ℕ} {classes : ℕ} {before : List ℕ} where
         (w.says n ts G table start.1 [] (nothing_written G) start.0)
 
     pub fill-long : classes ≤ length before
-        → FillsStrip tab classes before (listing_of (record { number = 0; position = 0; classes = classes }) after)
+        → FillsStrip tab classes before (listing_of (Ok classes) after)
     fill-long h =
         record {
           says = λ n ts p r d t l.
@@ -128,42 +127,19 @@ module _ {tab : List ℕ} {classes : ℕ} {before : List ℕ} where
         }
 
     -- all classes of a typed program are written
-    pub fill-never : (unwritten ≡ 0 → ⊥) → (a : CheckAnswer) → FillsStrip tab classes before (listing_of a after)
+    pub fill-never : (unwritten ≡ 0 → ⊥) → (a : Result ℕ Refusal) → FillsStrip tab classes before (listing_of a after)
     fill-never some a = record { says = λ n ts p r d t l. absurd (some (omega (arith, (told r d l).1, many-same (each-once t)))) }
-
--- THE ANSWER
-
-module _ (s : List ℕ) (f : Finding) (middle before : List ℕ) (l : Leaves s (checking s) f middle) where
-  pub answer-found : {n k : ℕ} → f ≡ found n k → {r : CheckAnswer} {after : List ℕ} → FillsStrip middle k before (listing_of r after)
-      → listing_of r after ≡ listing (checking s) before
-  answer-found {n} {k} is {r} {after} g = go (checking s) l.finds
-    where
-      go : (w : Outcome Program) → FindsProgram s w f middle → listing_of r after ≡ listing w before
-      go (accepted p) h =
-          let z = h.answer in
-          let c : length p.classes ≡ k = cc in
-          g.says (length h.stream) h.stream p h.ready h.derived h.typed c
-      go (refused m q) h = let z = h in apart (cc)
-
-  pub answer-unfit : {n q : ℕ} → f ≡ declined n q
-      → listing_of (record { number = n; position = q; classes = 0 }) before ≡ listing (checking s) before
-  answer-unfit {n} {q} is = go (checking s) l.finds
-    where
-      go : (w : Outcome Program) → FindsProgram s w f middle
-          → listing_of (record { number = n; position = q; classes = 0 }) before ≡ listing w before
-      go (accepted p) h = let z = h.answer in apart (cc)
-      go (refused m p) h = let z = h in let a : n ≡ m = cc in let b : q ≡ p = cc in rw (a, b)
 
 -- THE OPERATION
 
 module _ (s table before : List ℕ) where
-  pub menu-short : length table < table_least → Menus s table before (record { number = table_too_short; position = 0; classes = 0 }) table before
+  pub menu-short : length table < table_least → Menus s table before (menu_answer_of (refusal reason.TableTooShort 0)) table before
   unfolding menu table_after
   menu-short h = record { answer = rw (lt-ltb (length table) table_least h); cleared = rw (lt-ltb (length table) table_least h) }
 
-  pub menu-answer : table_least ≤ length table → {r : CheckAnswer} (middle : List ℕ) {last after : List ℕ}
+  pub menu-answer : table_least ≤ length table → (r : Result ℕ Refusal) (middle : List ℕ) {last after : List ℕ}
       → listing_of r after ≡ listing (checking s) before → length middle ≡ length table
-      → last ≡ replicate (length middle) 0 → Menus s table before (check_answer_of r) last after
+      → last ≡ replicate (length middle) 0 → Menus s table before (menu_answer_of r) last after
   unfolding menu table_after
-  menu-answer long middle m same zero =
+  menu-answer long r middle m same zero =
       record { answer = rw (le-ltb (length table) table_least long) m; cleared = rw (le-ltb (length table) table_least long) (zero ∙ ap (λ (k : ℕ). replicate k 0) same) }

@@ -1,20 +1,20 @@
 // A set of rows with its least at hand: a tree of 4,096 words, in which each node has the lesser of the two words below it. Node 1 is the
 // top, node v stands over 2 * v and 2 * v + 1, and leaf 2048 + r has the row r where that is in the set, else ABSENT.
-ghost use Rattle.std.specs.Prelude.{◌≡◌, ◌<◌, min, length, get_or, set};
+ghost use Rattle.std.specs.Prelude.{◌≡◌, ◌<◌, length, get_or, set};
 ghost use Rattle.base.specs.promises.Table.{rows};
 ghost use Rattle.base.specs.Word.{modulus};
-ghost use Rattle.menu.specs.promises.Least.{Mended, Entered, Removed, tree_size};
+ghost use Rattle.menu.specs.promises.Least.{Mended, Entered, Removed};
 
 use parser::columns::ABSENT;
+
+// How many words the tree has.
+pub const NODES: usize = 4096;
 
 // The word in a place, 0 past the end.
 pub fn cell(words: &[u32], i: usize) -> usize
     ensures { (result ≡ get_or words.now i 0) × (result < modulus) }
 {
-    if i < words.len() {
-        return words[i] as usize;
-    }
-    0
+    words.get(i).map_or(0, |w| *w as usize)
 }
 
 // Writes a word.
@@ -25,31 +25,22 @@ pub fn put(words: &mut [u32], i: usize, v: usize)
     words[i] = v as u32;
 }
 
-// The lesser of two words.
-fn lesser(a: usize, b: usize) -> usize
-    ensures { result ≡ min a b }
-{
-    if a < b {
-        return a;
-    }
-    b
-}
-
 // Sets node v and those above it anew.
-fn mend(tree: &mut [u32], v: usize)
-    requires { (length tree.old ≡ tree_size) × (v < rows) }
+fn mend(tree: &mut [u32; NODES], v: usize)
+    requires { v < rows }
     ensures { Mended v tree.old tree.new }
 {
-    if v == 0 {
-        return;
+    let mut node = v;
+    while node != 0 {
+        let least = cell(tree, 2 * node).min(cell(tree, 2 * node + 1));
+        put(tree, node, least);
+        node /= 2;
     }
-    put(tree, v, lesser(cell(tree, 2 * v), cell(tree, 2 * v + 1)));
-    mend(tree, v / 2);
 }
 
 // Puts a row into the set.
-pub fn enter(tree: &mut [u32], row: usize)
-    requires { (length tree.old ≡ tree_size) × (row < rows) }
+pub fn enter(tree: &mut [u32; NODES], row: usize)
+    requires { row < rows }
     ensures { Entered row tree.old tree.new }
 {
     put(tree, ABSENT + row, row);
@@ -57,8 +48,8 @@ pub fn enter(tree: &mut [u32], row: usize)
 }
 
 // Takes a row out of it.
-pub fn remove(tree: &mut [u32], row: usize)
-    requires { (length tree.old ≡ tree_size) × (row < rows) }
+pub fn remove(tree: &mut [u32; NODES], row: usize)
+    requires { row < rows }
     ensures { Removed row tree.old tree.new }
 {
     put(tree, ABSENT + row, ABSENT);

@@ -16,7 +16,7 @@ use crate::expr::operation;
 use crate::kinds::begins_type;
 use crate::parts::{expect, expect_all};
 use crate::stmt::{list, single};
-use crate::table::{kind, link, put};
+use crate::table::{kind, link, linked, put};
 use lexer::kinds::{
     CLASS, CLOSE, CLOSE_BRACE, CLOSE_BRACKET, COMMA, END, EXTENDS, FIXED, MAIN, NAME, OPEN,
     OPEN_BRACE, OPEN_BRACKET, PUBLIC, RETURN, SEMICOLON, STATIC, STRING, VOID, is_name,
@@ -94,11 +94,7 @@ fn variables(table: &mut [u32], in_class: bool, n: usize, i: usize) -> Result<Pa
         let first = variable(table, n, i)?;
         let next = expect(table, n, first.next, SEMICOLON)?;
         let rest = variables(table, in_class, n, next)?;
-        link(table, first.row, rest.row);
-        return Ok(Part {
-            row: first.row,
-            next: rest.next,
-        });
+        return Ok(linked(table, first.row, rest));
     }
     Ok(Part {
         row: columns::ABSENT,
@@ -135,11 +131,7 @@ fn some_parameters(table: &mut [u32], n: usize, i: usize) -> Result<Part, Misfit
     }
     let next = expect(table, n, first.next, COMMA)?;
     let rest = some_parameters(table, n, next)?;
-    link(table, first.row, rest.row);
-    Ok(Part {
-        row: first.row,
-        next: rest.next,
-    })
+    Ok(linked(table, first.row, rest))
 }
 
 // A method, from `public` to the `}` of its body.
@@ -197,11 +189,7 @@ fn methods(table: &mut [u32], n: usize, i: usize) -> Result<Part, Misfit>
     if kind(table, n, i) == PUBLIC {
         let first = method(table, n, i)?;
         let rest = methods(table, n, first.next)?;
-        link(table, first.row, rest.row);
-        return Ok(Part {
-            row: first.row,
-            next: rest.next,
-        });
+        return Ok(linked(table, first.row, rest));
     }
     Ok(Part {
         row: columns::ABSENT,
@@ -263,11 +251,7 @@ pub fn classes(table: &mut [u32], n: usize, i: usize) -> Result<Part, Misfit>
     }
     let first = class(table, n, i)?;
     let rest = classes(table, n, first.next)?;
-    link(table, first.row, rest.row);
-    Ok(Part {
-        row: first.row,
-        next: rest.next,
-    })
+    Ok(linked(table, first.row, rest))
 }
 
 // A program: main's head, its statement, its end, and the other classes, the first of which is kept in row 0.

@@ -10,7 +10,7 @@ use crate::columns;
 use crate::expr::operation;
 use crate::kinds::begins_statement;
 use crate::parts::{expect, expect_all, expect_member};
-use crate::table::{kind, link, node, put};
+use crate::table::{kind, linked, node, put};
 use lexer::kinds::{
     ASSIGN, CLOSE, CLOSE_BRACE, CLOSE_BRACKET, COMMA, DOT, ELSE, IF, OPEN, OPEN_BRACE,
     OPEN_BRACKET, OUT, PORT, PRINTLN, PUT, SEMICOLON, SYSTEM, WHILE, is_name,
@@ -43,11 +43,7 @@ pub fn list(table: &mut [u32], n: usize, i: usize) -> Result<Part, Misfit>
     if begins_statement(kind(table, n, i)) {
         let first = single(table, n, i)?;
         let rest = list(table, n, first.next)?;
-        link(table, first.row, rest.row);
-        return Ok(Part {
-            row: first.row,
-            next: rest.next,
-        });
+        return Ok(linked(table, first.row, rest));
     }
     Ok(Part {
         row: columns::ABSENT,

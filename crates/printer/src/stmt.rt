@@ -4,328 +4,142 @@ ghost use Rattle.parser.specs.Tree.{Sort};
 ghost use Rattle.parser.specs.promises.Post.{kind_in_table};
 ghost use Rattle.lookup.specs.promises.Shows.{Form, form_s};
 ghost use Rattle.printer.specs.promises.Puts.{text_room};
-ghost use Rattle.printer.specs.promises.Walks.{Printable, PartPut, StatementPut, ValuePut, FinishedPut, BracedPut, BranchesPut};
+ghost use Rattle.printer.specs.promises.Walks.{PartPut, StatementPut, ValuePut, FinishedPut, BracedPut, BranchesPut};
 
+use crate::class::ANY;
 use crate::expr::{enclosed, expression};
-use crate::job::{Job, part};
+use crate::job::Job;
+use crate::lesson::Lesson;
 use crate::strip::spell;
-use crate::token::token;
 use lexer::kinds;
-use lookup::rows::word;
 use parser::columns;
 use parser::columns::ABSENT;
-use parser::table::kind;
 
 // An expression, and `;`.
-pub fn value(
-    source: &[u8],
-    bytes: &[u8; 256],
-    table: &[u32],
-    strip: &mut [u8],
-    n: usize,
-    p: Job,
-) -> usize
-    requires { Printable bytes.now table.now n p }
-    ensures { ValuePut source.now table.now n p strip.old strip.new result }
+pub fn value(lesson: &Lesson, strip: &mut [u8], p: Job) -> usize
+    ensures { ValuePut lesson.now.source.now lesson.now.table.now lesson.now.n p strip.old strip.new result }
 {
-    let a = expression(source, bytes, table, strip, n, 0, p);
+    let a = expression(lesson, strip, ANY, p);
     spell(strip, a, b";", b'\n')
 }
 
 // An expression, `)` and `;`.
-fn finished(
-    source: &[u8],
-    bytes: &[u8; 256],
-    table: &[u32],
-    strip: &mut [u8],
-    n: usize,
-    p: Job,
-) -> usize
-    requires { Printable bytes.now table.now n p }
-    ensures { FinishedPut source.now table.now n p strip.old strip.new result }
+fn finished(lesson: &Lesson, strip: &mut [u8], p: Job) -> usize
+    ensures { FinishedPut lesson.now.source.now lesson.now.table.now lesson.now.n p strip.old strip.new result }
 {
-    let a = enclosed(source, bytes, table, strip, n, b')', p);
+    let a = enclosed(lesson, strip, b')', p);
     spell(strip, a, b";", b'\n')
 }
 
 // A register put.
-fn port_put(
-    source: &[u8],
-    bytes: &[u8; 256],
-    table: &[u32],
-    strip: &mut [u8],
-    n: usize,
-    p: Job,
-) -> usize
-    requires { Printable bytes.now table.now n p }
-    ensures { StatementPut source.now table.now n Form.a_port_put p strip.old
+fn port_put(lesson: &Lesson, strip: &mut [u8], p: Job) -> usize
+    ensures { StatementPut lesson.now.source.now lesson.now.table.now lesson.now.n Form.a_port_put p strip.old
         strip.new result }
 {
     let a = spell(strip, p.at, b"Port . put (", b' ');
-    let b = expression(
-        source,
-        bytes,
-        table,
-        strip,
-        n,
-        0,
-        part(table, columns::FIRST, p, a),
-    );
+    let b = expression(lesson, strip, ANY, lesson.part(columns::FIRST, p, a));
     let c = spell(strip, b, b",", b' ');
-    finished(
-        source,
-        bytes,
-        table,
-        strip,
-        n,
-        part(table, columns::SECOND, p, c),
-    )
+    finished(lesson, strip, lesson.part(columns::SECOND, p, c))
 }
 
 // A name and its value.
-fn assigned(
-    source: &[u8],
-    bytes: &[u8; 256],
-    table: &[u32],
-    strip: &mut [u8],
-    n: usize,
-    p: Job,
-) -> usize
-    requires { Printable bytes.now table.now n p }
-    ensures { StatementPut source.now table.now n Form.an_assignment p strip.old
+fn assigned(lesson: &Lesson, strip: &mut [u8], p: Job) -> usize
+    ensures { StatementPut lesson.now.source.now lesson.now.table.now lesson.now.n Form.an_assignment p strip.old
         strip.new result }
 {
-    let a = token(source, bytes, table, strip, p.row, p.at);
+    let a = lesson.token(strip, p.row, p.at);
     let b = spell(strip, a, b"=", b' ');
-    value(
-        source,
-        bytes,
-        table,
-        strip,
-        n,
-        part(table, columns::FIRST, p, b),
-    )
+    value(lesson, strip, lesson.part(columns::FIRST, p, b))
 }
 
 // An element of a named array and its value.
-fn store(
-    source: &[u8],
-    bytes: &[u8; 256],
-    table: &[u32],
-    strip: &mut [u8],
-    n: usize,
-    p: Job,
-) -> usize
-    requires { Printable bytes.now table.now n p }
-    ensures { StatementPut source.now table.now n Form.an_element_store p strip.old
+fn store(lesson: &Lesson, strip: &mut [u8], p: Job) -> usize
+    ensures { StatementPut lesson.now.source.now lesson.now.table.now lesson.now.n Form.an_element_store p strip.old
         strip.new result }
 {
-    let a = token(source, bytes, table, strip, p.row, p.at);
+    let a = lesson.token(strip, p.row, p.at);
     let b = spell(strip, a, b"[", b' ');
-    let c = enclosed(
-        source,
-        bytes,
-        table,
-        strip,
-        n,
-        b']',
-        part(table, columns::FIRST, p, b),
-    );
+    let c = enclosed(lesson, strip, b']', lesson.part(columns::FIRST, p, b));
     let d = spell(strip, c, b"=", b' ');
-    value(
-        source,
-        bytes,
-        table,
-        strip,
-        n,
-        part(table, columns::SECOND, p, d),
-    )
+    value(lesson, strip, lesson.part(columns::SECOND, p, d))
 }
 
 // A statement.
 #[cycle(braced_branches_list_single_stated)]
-pub fn single(
-    source: &[u8],
-    bytes: &[u8; 256],
-    table: &[u32],
-    strip: &mut [u8],
-    n: usize,
-    p: Job,
-) -> usize
-    requires { Printable bytes.now table.now n p }
-    ensures { PartPut source.now table.now n Sort.statement 0 p strip.old strip.new result }
+pub fn single(lesson: &Lesson, strip: &mut [u8], mut p: Job) -> usize
+    ensures { PartPut lesson.now.source.now lesson.now.table.now lesson.now.n Sort.statement 0 p strip.old strip.new result }
 {
     if p.left == 0 {
         return p.at;
     }
-    let k = kind(table, n, p.row);
-    let left = p.left - 1;
-    let row = p.row;
-    let at = p.at;
-    stated(source, bytes, table, strip, n, k, Job { left, row, at })
+    p.left -= 1;
+    stated(lesson, strip, lesson.kind(p.row), p)
 }
 
 // The statement in a row, whose token is of kind k.
 #[cycle(braced_branches_list_single_stated)]
-fn stated(
-    source: &[u8],
-    bytes: &[u8; 256],
-    table: &[u32],
-    strip: &mut [u8],
-    n: usize,
-    k: u32,
-    p: Job,
-) -> usize
-    requires { Printable bytes.now table.now n p × (k ≡ kind_in_table table.now n p.row) }
-    ensures { StatementPut source.now table.now n (form_s (kind_in_table table.now n p.row)
-        (kind_in_table table.now n (p.row + 1))) p strip.old strip.new result }
+fn stated(lesson: &Lesson, strip: &mut [u8], k: u32, p: Job) -> usize
+    requires { k ≡ kind_in_table lesson.now.table.now lesson.now.n p.row }
+    ensures { StatementPut lesson.now.source.now lesson.now.table.now lesson.now.n (form_s (kind_in_table lesson.now.table.now lesson.now.n p.row)
+        (kind_in_table lesson.now.table.now lesson.now.n (p.row + 1))) p strip.old strip.new result }
 {
     if k == kinds::OPEN_BRACE {
         let a = spell(strip, p.at, b"{", b'\n');
-        return braced(
-            source,
-            bytes,
-            table,
-            strip,
-            n,
-            part(table, columns::FIRST, p, a),
-        );
+        return braced(lesson, strip, lesson.part(columns::FIRST, p, a));
     }
     if k == kinds::IF {
         let a = spell(strip, p.at, b"if (", b' ');
-        let b = enclosed(
-            source,
-            bytes,
-            table,
-            strip,
-            n,
-            b')',
-            part(table, columns::FIRST, p, a),
-        );
-        return branches(source, bytes, table, strip, n, p, b);
+        let b = enclosed(lesson, strip, b')', lesson.part(columns::FIRST, p, a));
+        return branches(lesson, strip, p, b);
     }
     if k == kinds::WHILE {
         let a = spell(strip, p.at, b"while (", b' ');
-        let b = enclosed(
-            source,
-            bytes,
-            table,
-            strip,
-            n,
-            b')',
-            part(table, columns::FIRST, p, a),
-        );
-        return single(
-            source,
-            bytes,
-            table,
-            strip,
-            n,
-            part(table, columns::SECOND, p, b),
-        );
+        let b = enclosed(lesson, strip, b')', lesson.part(columns::FIRST, p, a));
+        return single(lesson, strip, lesson.part(columns::SECOND, p, b));
     }
     if k == kinds::SYSTEM {
         let a = spell(strip, p.at, b"System . out . println (", b' ');
-        return finished(
-            source,
-            bytes,
-            table,
-            strip,
-            n,
-            part(table, columns::FIRST, p, a),
-        );
+        return finished(lesson, strip, lesson.part(columns::FIRST, p, a));
     }
     if k == kinds::PORT {
-        return port_put(source, bytes, table, strip, n, p);
+        return port_put(lesson, strip, p);
     }
-    if kind(table, n, p.row + 1) == kinds::OPEN_BRACKET {
-        return store(source, bytes, table, strip, n, p);
+    if lesson.kind(p.row + 1) == kinds::OPEN_BRACKET {
+        return store(lesson, strip, p);
     }
-    assigned(source, bytes, table, strip, n, p)
+    assigned(lesson, strip, p)
 }
 
 // Statements, and `}`.
 #[cycle(braced_branches_list_single_stated)]
-pub fn braced(
-    source: &[u8],
-    bytes: &[u8; 256],
-    table: &[u32],
-    strip: &mut [u8],
-    n: usize,
-    p: Job,
-) -> usize
-    requires { Printable bytes.now table.now n p }
-    ensures { BracedPut source.now table.now n p strip.old strip.new result }
+pub fn braced(lesson: &Lesson, strip: &mut [u8], p: Job) -> usize
+    ensures { BracedPut lesson.now.source.now lesson.now.table.now lesson.now.n p strip.old strip.new result }
 {
-    let a = list(source, bytes, table, strip, n, p);
+    let a = list(lesson, strip, p);
     spell(strip, a, b"}", b'\n')
 }
 
 // What is done after a test, and what is done otherwise.
 #[cycle(braced_branches_list_single_stated)]
-fn branches(
-    source: &[u8],
-    bytes: &[u8; 256],
-    table: &[u32],
-    strip: &mut [u8],
-    n: usize,
-    p: Job,
-    at: usize,
-) -> usize
-    requires { Printable bytes.now table.now n p × (at ≤ text_room) }
-    ensures { BranchesPut source.now table.now n p at strip.old strip.new result }
+fn branches(lesson: &Lesson, strip: &mut [u8], p: Job, at: usize) -> usize
+    requires { at ≤ text_room }
+    ensures { BranchesPut lesson.now.source.now lesson.now.table.now lesson.now.n p at strip.old strip.new result }
 {
-    let a = single(
-        source,
-        bytes,
-        table,
-        strip,
-        n,
-        part(table, columns::SECOND, p, at),
-    );
+    let a = single(lesson, strip, lesson.part(columns::SECOND, p, at));
     let b = spell(strip, a, b"else", b' ');
-    single(
-        source,
-        bytes,
-        table,
-        strip,
-        n,
-        part(table, columns::THIRD, p, b),
-    )
+    single(lesson, strip, lesson.part(columns::THIRD, p, b))
 }
 
 // The statements from a row on.
 #[cycle(braced_branches_list_single_stated)]
-pub fn list(
-    source: &[u8],
-    bytes: &[u8; 256],
-    table: &[u32],
-    strip: &mut [u8],
-    n: usize,
-    p: Job,
-) -> usize
-    requires { Printable bytes.now table.now n p }
-    ensures { PartPut source.now table.now n Sort.statements 0 p strip.old strip.new result }
+pub fn list(lesson: &Lesson, strip: &mut [u8], mut p: Job) -> usize
+    ensures { PartPut lesson.now.source.now lesson.now.table.now lesson.now.n Sort.statements 0 p strip.old strip.new result }
 {
-    if p.left == 0 {
+    if p.left == 0 || ABSENT <= p.row {
         return p.at;
     }
-    if ABSENT <= p.row {
-        return p.at;
-    }
-    let next = word(table, columns::NEXT, p.row);
-    let left = p.left - 1;
-    let a = single(source, bytes, table, strip, n, p);
-    list(
-        source,
-        bytes,
-        table,
-        strip,
-        n,
-        Job {
-            left,
-            row: next,
-            at: a,
-        },
-    )
+    p.at = single(lesson, strip, p);
+    p.left -= 1;
+    p.row = lesson.word(columns::NEXT, p.row);
+    list(lesson, strip, p)
 }

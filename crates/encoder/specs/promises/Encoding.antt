@@ -1,5 +1,5 @@
 -- The operation: what its functions promise one another.
-use Rattle.std.specs.Prelude.{ℕ, ◌≡◌, List, length, get_or}
+use Rattle.std.specs.Prelude.{ℕ, ◌≡◌, List, length, get_or, Result}
 use Rattle.std.proofs.Math.Option.{some}
 use Rattle.std.proofs.Math.ListN.{get_elem?}
 use Rattle.base.specs.All.{All}
@@ -8,15 +8,14 @@ use Rattle.lexer.specs.Tokens.{Token}
 use Rattle.lexer.specs.promises.Rows.{first_named}
 use Rattle.parser.specs.Tree.{Program}
 use Rattle.lookup.specs.promises.HeldClasses.{NameNumber}
-use Rattle.typecheck.specs.declared.check.Finding.TheVariants.{Program as found}
-use Rattle.typecheck.specs.promises.CheckPost.{Checked}
+use Rattle.typecheck.specs.promises.CheckPost.{found, Checked}
 use Rattle.codegen.specs.promises.Compile.{compile}
 use Rattle.frames.specs.Encode.{method_names, frames_of}
 use Rattle.base.specs.Write.{WriteResult}
 use Rattle.base.specs.promises.Answers.{write_result_of}
 use Rattle.frames.specs.Operations.{encode_result}
 use Rattle.encoder.specs.declared.plan.Plan.{Plan}
-use Rattle.base.specs.declared.write.WriteAnswer.{WriteAnswer}
+use Rattle.base.specs.declared.refusal.Refusal.{Refusal}
 use Rattle.encoder.specs.promises.Strip.{Puts}
 use Rattle.encoder.specs.promises.Frames.{Placed, HeldFrom, NumbersHeld}
 use Rattle.encoder.specs.promises.Tables.{rows_for, Lesson}
@@ -34,7 +33,7 @@ pub record PassPost (tab code entries classes marks names : List ℕ) (p : Plan)
   pub says : (ts : List Token) (g : Program) → Whole tab code entries classes marks names p ts g → Puts 0 (frames_of (compile g)) before after r
 
 -- a pass that counts, and where the strip is long enough one that writes
-pub record BothPost (tab code entries classes marks names : List ℕ) (p : Plan) (before after : List ℕ) (r : WriteAnswer) : Type 0 where
+pub record BothPost (tab code entries classes marks names : List ℕ) (p : Plan) (before after : List ℕ) (r : Result ℕ Refusal) : Type 0 where
   pub says : (ts : List Token) (g : Program) → Whole tab code entries classes marks names p ts g
       → write_result_of r after ≡ encode_result (accepted g) before
 

@@ -14,8 +14,11 @@ use Rattle.parser.specs.promises.Layout.{absent}
 use Rattle.lookup.specs.promises.HeldClasses.{ClassTableHeld}
 use Rattle.declarations.specs.promises.Judgements.{ClassesAt, FoundByName}
 use Rattle.declarations.specs.promises.Indexing.{Ready}
-use Rattle.typecheck.specs.declared.check.CheckAnswer.{CheckAnswer}
-use Rattle.typecheck.specs.promises.CheckPost.{check_answer_of}
+use Rattle.typesystem.specs.Check.{CheckAnswer, check_refusal}
+use Rattle.std.specs.Prelude.{Result, Ok, Err}
+use Rattle.base.specs.Codes.{success}
+use Rattle.base.specs.declared.refusal.Refusal.{Refusal}
+use Rattle.base.specs.promises.Refusals.{number_of}
 use Rattle.menu.specs.Menu.{may_stand, writing, positions, Listing, listing}
 use Rattle.menu.specs.promises.Least.{Keeps}
 
@@ -102,9 +105,14 @@ pub record StripWritten (tab tree first next : List ℕ) (i left : ℕ) (before 
       → (w : List Class) → ParentsWritten w G → Keeps tree (standing w G)
       → (after ≡ overwritten i (positions (writing left G w)) before) × (r + length (writing left G w) ≡ left)
 
+-- the code's answer as document 01 counts it: of an accepted source 0 and the number of its classes, of a refused one the refusal
+abbrev pub menu_answer_of : Result ℕ Refusal → CheckAnswer
+menu_answer_of (Ok classes) = record { number = success; position = 0; classes = classes }
+menu_answer_of (Err q) = check_refusal (number_of q.reason) q.position
+
 -- the code's answer, and the strip
-abbrev pub listing_of : CheckAnswer → List ℕ → Listing
-listing_of a strip = record { answer = check_answer_of a; strip = strip }
+abbrev pub listing_of : Result ℕ Refusal → List ℕ → Listing
+listing_of a strip = record { answer = menu_answer_of a; strip = strip }
 
 -- these for an accepted program
 pub record FillsStrip (tab : List ℕ) (classes : ℕ) (before : List ℕ) (l : Listing) : Type 0 where

@@ -1,12 +1,12 @@
 -- The tokens of a source as the printed ones: a node's own token, a name, an element type.
-use Rattle.std.specs.Prelude.{ℕ, ◌+◌, ◌<◌, ◌≡◌, List, [], ◌∷◌, Bool, true, false, length}
+use Rattle.std.specs.Prelude.{ℕ, ◌≡◌, List, [], ◌∷◌, true, false}
 use Rattle.std.proofs.Math.Path.{refl, sym, ap}
-use Rattle.std.proofs.Common.{◌∙◌, true≢false}
+use Rattle.std.proofs.Common.{◌∙◌}
 use Rattle.std.proofs.lemmas.Bool.{false≢true}
 use Rattle.base.specs.Outcome.{accepted}
-use Rattle.lexer.specs.Kinds.{is_name_lem, k_literal, k_fixed_literal, k_true, k_false, k_this, k_new, k_not, k_dot, k_port, k_open_bracket, k_int, k_boolean}
+use Rattle.lexer.specs.Kinds.{is_name_lem, k_true, k_false, k_this, k_int, k_boolean}
 use Rattle.lexer.specs.Kinds.{k_fixed}
-use Rattle.lexer.specs.Tokens.{Token, decimal, thousandths_of_lem, tokens}
+use Rattle.lexer.specs.Tokens.{Token, tokens}
 use Rattle.parser.specs.Tree.{Expression, Numeral.int_literal, Numeral.fixed_literal, Element, Element.int, Element.boolean, Element.fixed}
 use Rattle.parser.specs.Tree.{Element.class, Operator, Operator.and, Operator.less, Operator.plus, Operator.minus, Operator.times}
 use Rattle.parser.specs.Tree.{Part.literal, Part.truth, Part.variable, Part.this, Part.new_array_lem, Part.new_object_lem, Part.negation, Part.binary}

@@ -1,17 +1,14 @@
 -- Bytes written one behind the other, and a token's bytes.
 use Rattle.std.specs.Prelude.{ℕ, suc, ◌+◌, ◌-◌, ◌≤◌, ◌<◌, ◌≡◌, refl, List, [], ◌∷◌, ◌++◌, length, set, get_or, take, drop}
-use Rattle.std.proofs.Common.{sym, ap, ◌∙◌, subst, arith, ne_eqb, length-append, length-take, length-drop, drop-cons, length-take-le}
+use Rattle.std.proofs.Common.{sym, ap, ◌∙◌, subst, arith, length-append, length-drop}
+use Rattle.std.proofs.lemmas.List.{take_more, take_all}
 use Rattle.std.proofs.lemmas.List.Edits.{sets, sets-eq}
-use Rattle.std.proofs.Math.Seq.{set_out}
 use Rattle.base.specs.Outcome.{accepted}
 use Rattle.base.specs.promises.Table.{c_start}
-use Rattle.base.specs.laws.Lists.{get-get_d, drop-none}
+use Rattle.base.specs.laws.Lists.{get-get_d}
 use Rattle.base.specs.laws.Tests.{apart}
-use Rattle.lexer.specs.Bytes.{b_line_feed, b_space}
-use Rattle.lexer.specs.Kinds.{k_semicolon, k_open_brace, k_close_brace}
 use Rattle.lexer.specs.Tokens.{Token, Item, gap, unclosed, nothing, token, item, tokens}
 use Rattle.lexer.specs.promises.Scan.{piece_of}
-use Rattle.lexer.specs.declared.scan.Piece.{Piece}
 use Rattle.lexer.specs.declared.scan.Piece.TheVariants.{Gap, Unclosed, Nothing, Token as Whole}
 use Rattle.lexer.proofs.laws.ItemLaws.{Good, good}
 use Rattle.lexer.proofs.laws.RowLaws.{TokenOf, token-of}
@@ -55,18 +52,6 @@ filled before bs after j w h =
     ∙ ap (λ (l : List ℕ). l ++ bs ++ drop (0 + length bs) before) (take_none before)
     ∙ ap (λ (n : ℕ). bs ++ drop n before) z
 
--- ONE BYTE
-
-pub put-inside : (l : List ℕ) (at b : ℕ) → at < text_room → Puts at (b ∷ []) l (set l at b) (at + 1)
-put-inside l at b h = record { within = omega arith; says = λ _. record { bytes = refl; end = refl } }
-
-pub put-outside : (l : List ℕ) (at b : ℕ) → at < text_room → length l ≤ at → Puts at (b ∷ []) l l (at + 1)
-put-outside l at b h out =
-    record { within = omega arith; says = λ _. record { bytes = sym (set_out l at b out); end = refl } }
-
-pub put-no-room : {l m : List ℕ} (at : ℕ) (bs : List ℕ) → at ≤ text_room → text_room ≤ at → 0 < length bs → Puts at bs l m at
-put-no-room at bs w h n = record { within = w; says = λ q. absurd (omega arith) }
-
 -- MORE BYTES
 
 pub puts-more : {a b c : List ℕ} {i j k : ℕ} {xs ys : List ℕ} → Puts i xs a b j → Puts j ys b c k → Puts i (xs ++ ys) a c k
@@ -83,93 +68,35 @@ pub tokens-more : {a b c : List ℕ} {i j k : ℕ} (xs ys : List Lexeme) → Put
     → Puts i (render (xs ++ ys)) a c k
 tokens-more {a} {c = c} {i = i} {k = k} xs ys p q = subst (λ (l : List ℕ). Puts i l a c k) (sym (render-append xs ys)) (puts-more p q)
 
--- a text from i up to `end`, and one byte more
-copy-none : (text : List ℕ) (i end c : ℕ) {a b : List ℕ} {n j : ℕ} → i ≡ end → Puts n (c ∷ []) a b j
-    → Puts n (bytes_between i end text ++ c ∷ []) a b j
-copy-none text i end c {a} {b} {n} {j} e w =
-    let z : end - i ≡ 0 = omega arith in
-    subst (λ (l : List ℕ). Puts n (l ++ c ∷ []) a b j) (sym (ap (λ (k : ℕ). take k (drop i text)) z ∙ take_none (drop i text))) w
+-- one byte more of a text
+pub puts-next : (text : List ℕ) {a b d : List ℕ} {n m j k : ℕ} → k < length text → Puts n (take k text) a b m → Puts m (get_or text k 0 ∷ []) b d j
+    → Puts n (take (k + 1) text) a d j
+puts-next text {a} {d = d} {n} {j = j} {k} l p q =
+    subst (λ (bs : List ℕ). Puts n bs a d j) (sym (take_more text k 0 l)) (puts-more p q)
 
-copy-next : (text : List ℕ) (i end c : ℕ) {a b d : List ℕ} {n m j : ℕ} → i < end → end ≤ length text
-    → Puts n (get_or text i 0 ∷ []) a b m → Puts m (bytes_between (i + 1) end text ++ c ∷ []) b d j
-    → Puts n (bytes_between i end text ++ c ∷ []) a d j
-copy-next text i end c {a} {b} {d} {n} {m} {j} l h v w =
-    let z : end - i ≡ suc (end - (i + 1)) = omega arith in
-    let y : suc i ≡ i + 1 = omega arith in
-    subst (λ (bs : List ℕ). Puts n (bs ++ c ∷ []) a d j)
-    (sym (ap (λ (k : ℕ). take k (drop i text)) z
-    ∙ ap (take (suc (end - (i + 1)))) (drop-cons text i 0 (omega arith))
-    ∙ ap (λ (k : ℕ). get_or text i 0 ∷ take (end - (i + 1)) (drop k text)) y))
-    (puts-more v w)
-
--- what is left to write of a text from i up to `end` and one byte more, when the place is m and the next byte is that at k
-pub record Left (text : List ℕ) (i end c : ℕ) (before : List ℕ) (n : ℕ) (now : List ℕ) (m k : ℕ) : Type 0 where
-  pub room : m ≤ text_room
-  pub among : k ≤ end
-  pub rest : {d : List ℕ} {j : ℕ} → Puts m (bytes_between k end text ++ c ∷ []) now d j
-      → Puts n (bytes_between i end text ++ c ∷ []) before d j
-
-pub left-all : (text : List ℕ) (i end c : ℕ) (before : List ℕ) (n : ℕ) → n ≤ text_room → i ≤ end → Left text i end c before n before n i
-left-all text i end c before n w h = record { room = w; among = h; rest = λ p. p }
-
-pub left_less : {text before now after : List ℕ} {i end c n m m' k : ℕ} → k < end → end ≤ length text
-    → Left text i end c before n now m k → Puts m (get_or text k 0 ∷ []) now after m' → Left text i end c before n after m' (k + 1)
-left_less {text} {end = end} {c = c} {k = k} l h v p =
-    record { room = p.within; among = omega arith; rest = λ q. v.rest (copy-next text k end c l h p q) }
-
-pub left-none : {text before now after : List ℕ} {i end c n m k j : ℕ} → end ≤ k → Left text i end c before n now m k
-    → Puts m (c ∷ []) now after j → Puts n (bytes_between i end text ++ c ∷ []) before after j
-left-none {text} {end = end} {c = c} {k = k} l v p = v.rest (copy-none text k end c (omega (arith, v.among)) p)
+-- all of a text, and one byte behind it
+pub puts-whole : (text : List ℕ) {a b d : List ℕ} {n m j k c : ℕ} → length text ≤ k → Puts n (take k text) a b m → Puts m (c ∷ []) b d j
+    → Puts n (text ++ c ∷ []) a d j
+puts-whole text {a} {d = d} {n} {j = j} {k} {c} l p q =
+    subst (λ (bs : List ℕ). Puts n (bs ++ c ∷ []) a d j) (take_all k text l) (puts-more p q)
 
 -- an empty strip stays so
 sets-empty : (i : ℕ) (bs : List ℕ) → sets [] i bs ≡ []
 sets-empty i [] = refl
 sets-empty i (b ∷ bs) = sets-empty (suc i) bs
 
-pub copy-counted : (text : List ℕ) (i end c : ℕ) (before : List ℕ) {n r : ℕ} → length before ≡ 0 → i ≤ end → end ≤ length text
-    → Skips n (end - i + 1) r → Puts n (bytes_between i end text ++ c ∷ []) before before r
-copy-counted text i end c (x ∷ l) e h w s = absurd (omega arith)
-copy-counted text i end c [] {n} {r} e h w s =
-    let size : length (bytes_between i end text ++ c ∷ []) ≡ end - i + 1 =
-    length-append (bytes_between i end text) (c ∷ [])
-    ∙ ap (λ (m : ℕ). m + 1) (length-take-le (end - i) (drop i text) (omega (arith, length-drop i text))) in
+pub puts-counted : (text : List ℕ) (c : ℕ) (before : List ℕ) {n r : ℕ} → length before ≡ 0 → Skips n (length text + 1) r
+    → Puts n (text ++ c ∷ []) before before r
+puts-counted text c (x ∷ l) e s = absurd (omega arith)
+puts-counted text c [] {n} {r} e s =
+    let size = length-append text (c ∷ []) in
     record {
       within = s.within;
       says = λ q. record {
-        bytes = sym (sets-empty n (bytes_between i end text ++ c ∷ []));
+        bytes = sym (sets-empty n (text ++ c ∷ []));
         end = s.end (omega (arith, size)) ∙ ap (λ (m : ℕ). n + m) (sym size);
       };
     }
-
--- the whole text
-pub spell-all : (text : List ℕ) (c : ℕ) {a b : List ℕ} {n j : ℕ} → Puts n (bytes_between 0 (length text) text ++ c ∷ []) a b j
-    → Puts n (text ++ c ∷ []) a b j
-spell-all text c {a} {b} {n} {j} w =
-    let z : length text - 0 ≡ length text = omega arith in
-    subst (λ (l : List ℕ). Puts n (l ++ c ∷ []) a b j)
-    ((λ i. take (z i) (sym (drop-none text) i)) ∙ take_all text) w
-  where
-    take_all : (l : List ℕ) → take (length l) l ≡ l
-    take_all [] = refl
-    take_all (x ∷ l) = ap (λ (r : List ℕ). x ∷ r) (take_all l)
-
--- WHAT STANDS AFTER A TOKEN
-
-pub after-semicolon : (k : ℕ) → k ≡ k_semicolon → b_line_feed ≡ separator k
-unfolding separator
-after-semicolon k e = ap separator (sym e)
-
-pub after_open : (k : ℕ) → k ≡ k_open_brace → b_line_feed ≡ separator k
-unfolding separator
-after_open k e = ap separator (sym e)
-
-pub after-close : (k : ℕ) → k ≡ k_close_brace → b_line_feed ≡ separator k
-unfolding separator
-after-close k e = ap separator (sym e)
-
-pub after-other : (k : ℕ) → (k ≡ k_semicolon → ⊥) → (k ≡ k_open_brace → ⊥) → (k ≡ k_close_brace → ⊥) → b_space ≡ separator k
-unfolding separator
-after-other k e e₁ e₂ = rw (ne_eqb k k_semicolon e, ne_eqb k k_open_brace e₁, ne_eqb k k_close_brace e₂) refl
 
 -- THE TOKEN OF A ROW
 

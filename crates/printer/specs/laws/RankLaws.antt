@@ -1,8 +1,7 @@
 -- The kinds tell the class: of every expression that matches its tokens.
-use Rattle.std.specs.Prelude.{ℕ, ◌+◌, ◌≡◌, List, Bool, true, false, eqb}
+use Rattle.std.specs.Prelude.{ℕ, ◌+◌, ◌≡◌, List, true, false}
 use Rattle.std.proofs.Math.Path.{refl}
 use Rattle.std.proofs.Common.{sym, ap, ◌∙◌, arith}
-use borrow.Author.Tests.{eq-eqb, ne_eqb}
 use Rattle.lexer.specs.Kinds.{is_name_lem, k_literal, k_fixed_literal, k_true, k_false, k_this, k_port, k_and, k_less, k_plus, k_minus, k_times, k_not, k_new}
 use Rattle.lexer.specs.Kinds.{k_dot, k_open, k_open_bracket}
 use Rattle.lexer.specs.Tokens.{Token}
@@ -69,62 +68,3 @@ module _ (ts : List Token) where
   pub ranked : (row : ℕ) (e : Expression) → row_of e ≡ row → Matches ts e → tightness (own e) ≡ tightness_of (kind_at ts row)
       (kind_at ts (row + 2))
   ranked row e z m = own-rank e m ∙ ap (λ (i : ℕ). tightness_of (kind_at ts i) (kind_at ts (i + 2))) z
-
--- WHAT THE FUNCTION ANSWERS
-
-pub rank-other : (k third : ℕ) → (k ≡ k_and → ⊥) → (k ≡ k_less → ⊥) → (k ≡ k_plus → ⊥) → (k ≡ k_minus → ⊥) → (k ≡ k_times → ⊥)
-    → (k ≡ k_not → ⊥) → (k ≡ k_new → ⊥) → (k ≡ k_dot → ⊥) → (k ≡ k_open_bracket → ⊥) → 7 ≡ tightness_of k third
-unfolding tightness_of
-rank-other k third n₁ n₂ n₃ n₄ n₅ n₆ n₇ n₈ n₉ =
-    rw (
-      ne_eqb k k_and n₁,
-      ne_eqb k k_less n₂,
-      ne_eqb k k_plus n₃,
-      ne_eqb k k_minus n₄,
-      ne_eqb k k_times n₅,
-      ne_eqb k k_not n₆,
-      ne_eqb k k_new n₇,
-      ne_eqb k k_dot n₈,
-      ne_eqb k k_open_bracket n₉,
-    ) refl
-
-module _ (k third : ℕ) where
-  pub rank-and : k ≡ k_and → 0 ≡ tightness_of k third
-  unfolding tightness_of
-  rank-and e = of-kind third k_and 0 e refl
-
-  pub rank_less : k ≡ k_less → 1 ≡ tightness_of k third
-  unfolding tightness_of
-  rank_less e = of-kind third k_less 1 e refl
-
-  pub rank-plus : k ≡ k_plus → 2 ≡ tightness_of k third
-  unfolding tightness_of
-  rank-plus e = of-kind third k_plus 2 e refl
-
-  pub rank-minus : k ≡ k_minus → 2 ≡ tightness_of k third
-  unfolding tightness_of
-  rank-minus e = of-kind third k_minus 2 e refl
-
-  pub rank-times : k ≡ k_times → 3 ≡ tightness_of k third
-  unfolding tightness_of
-  rank-times e = of-kind third k_times 3 e refl
-
-  pub rank-not : k ≡ k_not → 4 ≡ tightness_of k third
-  unfolding tightness_of
-  rank-not e = of-kind third k_not 4 e refl
-
-  pub rank-array : k ≡ k_new → third ≡ k_open_bracket → 5 ≡ tightness_of k third
-  unfolding tightness_of
-  rank-array e f = of-new third k_open_bracket 5 e f refl
-
-  pub rank-object : k ≡ k_new → (third ≡ k_open_bracket → ⊥) → 7 ≡ tightness_of k third
-  unfolding tightness_of
-  rank-object e n = rw (e, ne_eqb third k_open_bracket n) refl
-
-  pub rank-dot : k ≡ k_dot → 6 ≡ tightness_of k third
-  unfolding tightness_of
-  rank-dot e = of-kind third k_dot 6 e refl
-
-  pub rank-element : k ≡ k_open_bracket → 6 ≡ tightness_of k third
-  unfolding tightness_of
-  rank-element e = of-kind third k_open_bracket 6 e refl

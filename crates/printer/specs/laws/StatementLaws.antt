@@ -1,20 +1,19 @@
 -- What the functions on statements return meets their contracts, as on expressions (WalkLaws).
-use Rattle.std.specs.Prelude.{ℕ, ◌+◌, ◌-◌, ◌≤◌, ◌<◌, ◌≡◌, eqb, length}
+use Rattle.std.specs.Prelude.{ℕ, ◌+◌, ◌-◌, ◌≤◌, ◌<◌, ◌≡◌, length}
 use Rattle.std.proofs.Math.Path.{refl, ap, subst}
 use Rattle.std.proofs.Common.{sym, ◌∙◌, arith}
 use mathlib.Core.List.{List, [], ◌∷◌, ◌++◌, append_assoc}
 use borrow.Author.Tests.{ne_eqb}
 use Rattle.base.specs.Bytes.{bytes}
-use Rattle.base.specs.Choice.{if◌then◌otherwise◌}
 use Rattle.base.specs.Codes.{tokens_most}
-use Rattle.base.specs.Outcome.{accepted}
+use Rattle.base.specs.Word.{modulus}
 use Rattle.base.specs.promises.Table.{c_first, c_second, c_third, c_next}
 use Rattle.lexer.specs.Bytes.{b_space, b_line_feed, b_close, b_close_bracket}
-use Rattle.lexer.specs.Kinds.{words, is_name_lem, k_out, k_println, k_put, k_else, k_if, k_port, k_system, k_while, k_assign, k_dot, k_comma, k_semicolon}
+use Rattle.lexer.specs.Kinds.{words, k_out, k_println, k_put, k_else, k_if, k_port, k_system, k_while, k_assign, k_dot, k_comma, k_semicolon}
 use Rattle.lexer.specs.Kinds.{k_open}
 use Rattle.lexer.specs.Kinds.{k_close, k_open_bracket, k_close_bracket, k_open_brace, k_close_brace}
-use Rattle.lexer.specs.Tokens.{Token, tokens}
-use Rattle.parser.specs.Tree.{Sort, Sort.expression, Sort.statement, Sort.statements, Part, Expression, Statement}
+use Rattle.lexer.specs.Tokens.{Token}
+use Rattle.parser.specs.Tree.{Sort.expression, Sort.statement, Sort.statements, Part, Expression, Statement}
 use Rattle.parser.specs.Tree.{Part.block, Part.conditional, Part.loop, Part.print, Part.assign, Part.assign_element_lem, Part.port_put_lem}
 use Rattle.parser.specs.Tree.{Part.no_statements, Part.sequence}
 use Rattle.parser.specs.Stream.{token_at}
@@ -22,12 +21,12 @@ use Rattle.parser.specs.Measure.{nodes}
 use Rattle.parser.specs.promises.Layout.{absent, row_of}
 use Rattle.parser.specs.promises.Post.{kind_in_table}
 use Rattle.reader.specs.promises.Matches.{Matches}
-use Rattle.lookup.specs.promises.HeldClasses.{word_at, Lexemes}
+use Rattle.lookup.specs.promises.HeldClasses.{word_at}
 use Rattle.lookup.specs.promises.Shows.{PartAt, Form, a_block_shown, a_conditional, a_loop, a_print, an_assignment, an_element_store, a_port_put, form_s}
 use Rattle.lookup.specs.promises.Shows.{ShowsS, shows-block, shows-conditional, shows-loop, shows-print, shows-assignment}
 use Rattle.lookup.specs.promises.Shows.{shows-element-store, shows-port-put, GoesOnS, one-more-statement}
 use Rattle.lookup.specs.laws.ShowLaws.{BoundsS, shown_s, goes-on_s, ended_s}
-use Rattle.printing.specs.Printed.{Lexeme, marks, spelling, spelt, name_token, own, tightness, bare, separator, render}
+use Rattle.printing.specs.Printed.{Lexeme, marks, spelling, spelt, name_token, bare, separator, render}
 use Rattle.printing.proofs.laws.Lexing.{lexeme}
 use Rattle.printing.proofs.laws.Appending.{render-append}
 use Rattle.printing.proofs.laws.Pieces.{of-block, of-conditional, of-loop, of-print, of-assign, of-assign-element, of-port-put, of-sequence}
@@ -36,9 +35,9 @@ use Rattle.printer.specs.promises.Puts.{text_room, Puts, TokenPut}
 use Rattle.printer.specs.promises.Walks.{PartReached, AtMost, placed, Whatever, PartPut, EnclosedPut, StatementPut, ValuePut}
 use Rattle.printer.specs.promises.Walks.{FinishedPut}
 use Rattle.printer.specs.promises.Walks.{BracedPut, BranchesPut}
-use Rattle.printer.specs.laws.PutLaws.{puts-more, tokens-more}
+use Rattle.printer.specs.laws.PutLaws.{tokens-more}
 use Rattle.printer.specs.laws.LexemeLaws.{named-lexeme}
-use Rattle.printer.specs.laws.WalkLaws.{likewise, in-loosest-place, positive, nothing, found, put-part, put-enclosed}
+use Rattle.printer.specs.laws.WalkLaws.{likewise, in-loosest-place, nothing, found, put-part, put-enclosed}
 
 -- PIECES
 
@@ -302,15 +301,16 @@ fewer_s row left = record {
   of-port-put = λ at w. (omega arith, omega arith);
 }
 
-abbrev one_less : Job → Job
-one_less job = record { left = job.left - 1; row = job.row; at = job.at }
+abbrev one_less : (job : Job) → job.row < modulus → job.at ≤ text_room → Job
+one_less job l w = record { left = job.left - 1; row = job.row; at = job.at; low = l; within = w }
 
 module _ {s tab : List ℕ} {n : ℕ} {job : Job} where
   pub single-none : {c : List ℕ} → job.left ≡ 0 → job.at ≤ text_room → PartPut s tab n statement 0 job c c job.at
   single-none z h = record { within = h; says = λ ts lx rows t p. absurd (omega (arith, p.within, positive-statement t, z)) }
 
   pub single-stated : {r : ℕ} {c c' : List ℕ} → (job.left ≡ 0 → ⊥)
-      → StatementPut s tab n (form_s (kind_in_table tab n job.row) (kind_in_table tab n (job.row + 1))) (one_less job) c c' r
+      → {l : job.row < modulus} {w : job.at ≤ text_room}
+      → StatementPut s tab n (form_s (kind_in_table tab n job.row) (kind_in_table tab n (job.row + 1))) (one_less job l w) c c' r
       → PartPut s tab n statement 0 job c c' r
   single-stated some f = record {
     within = f.within;
@@ -352,7 +352,7 @@ first-and-rest row left some t ss at h = (omega arith, omega (arith, positive-st
 module _ {s tab : List ℕ} {n : ℕ} {job : Job} where
   pub list-more : {next a r : ℕ} {c c₁ c₂ : List ℕ} → (job.left ≡ 0 → ⊥) → job.row < absent → next ≡ word_at tab c_next job.row
       → PartPut s tab n statement 0 job c c₁ a
-      → PartPut s tab n statements 0 (record { left = job.left - 1; row = next; at = a }) c₁ c₂ r → PartPut s tab n statements 0 job c c₂ r
+      → {l1 : next < modulus} {w1 : a ≤ text_room} → PartPut s tab n statements 0 (record { left = job.left - 1; row = next; at = a; low = l1; within = w1 }) c₁ c₂ r → PartPut s tab n statements 0 job c c₂ r
   list-more {next} {a} {r} {c} {c₁} {c₂} some near leads f v = record {
     within = v.within;
     says = λ ts lx rows ss h. go ts lx rows ss (goes-on_s (first-and-rest job.row job.left some) near ss h);

@@ -1,38 +1,35 @@
 -- What the functions on expressions return meets their contracts: a row shows the form of its node, and the tokens of a form are those of
 -- its parts and its own, one behind another (printing, `Pieces`).
-use Rattle.std.specs.Prelude.{ℕ, ◌+◌, ◌-◌, ◌≤◌, ◌<◌, ◌≡◌, Bool, true, false, eqb, leb, length}
+use Rattle.std.specs.Prelude.{ℕ, ◌+◌, ◌-◌, ◌≤◌, ◌<◌, ◌≡◌, Bool, true, false, length}
 use Rattle.std.proofs.Math.Path.{refl, sym, ap, subst}
-use Rattle.std.proofs.Common.{◌∙◌, true≢false, arith}
-use mathlib.Core.List.{List, [], ◌∷◌, ◌++◌, append_assoc}
+use Rattle.std.proofs.Common.{◌∙◌, arith}
+use mathlib.Core.List.{List, [], ◌∷◌, ◌++◌}
 use borrow.Author.Tests.{le-leb, lt-leb, ne_eqb}
 use Rattle.base.specs.Bytes.{bytes}
-use Rattle.base.specs.Choice.{if◌then◌otherwise◌}
 use Rattle.base.specs.Codes.{tokens_most}
-use Rattle.base.specs.Outcome.{accepted}
 use Rattle.base.specs.Word.{modulus}
 use Rattle.base.specs.promises.Table.{c_first, c_second, c_next}
 use Rattle.lexer.specs.Bytes.{b_space, b_close, b_close_bracket}
 use Rattle.lexer.specs.Kinds.{words, is_name_lem, k_new, k_dot, k_not, k_port, k_length, k_get, k_open, k_close, k_comma, k_open_bracket, k_close_bracket}
-use Rattle.lexer.specs.Tokens.{Token, tokens}
+use Rattle.lexer.specs.Tokens.{Token}
 use Rattle.parser.specs.Tree.{Operator, Operator.and, Operator.less, Operator.plus, Operator.minus, Operator.times}
 use Rattle.parser.specs.Tree.{Sort, Sort.expression, Sort.arguments, Part, Expression}
 use Rattle.parser.specs.Tree.{Part.literal, Part.truth, Part.variable, Part.this, Part.new_array_lem, Part.new_object_lem, Part.negation, Part.binary}
 use Rattle.parser.specs.Tree.{Part.element, Part.array_length, Part.call, Part.port_get_lem, Part.no_arguments, Part.argument}
 use Rattle.parser.specs.Stream.{token_at, kind_at}
-use Rattle.parser.specs.Grammar.{Kind, operand}
 use Rattle.parser.specs.Measure.{nodes}
 use Rattle.parser.specs.promises.Layout.{absent, row_of}
 use Rattle.parser.specs.promises.Post.{kind_in_table, is_atom_lem}
-use Rattle.reader.specs.promises.Matches.{Matches, TypeMatches, operator_kind}
+use Rattle.reader.specs.promises.Matches.{Matches, TypeMatches}
 use Rattle.lookup.specs.promises.HeldClasses.{word_at, Lexemes}
 use Rattle.lookup.specs.laws.HeldLaws.{kinds}
 use Rattle.lookup.specs.promises.Shows.{PartAt, Form, a_new_array, a_new_object, a_negation, a_binary, an_element, a_length, a_call_shown, a_port_get}
 use Rattle.lookup.specs.promises.Shows.{form_at}
-use Rattle.lookup.specs.promises.Shows.{form_e, form_atom, form_compound, Shows, shows-new-array, shows-new-object, shows-negation}
+use Rattle.lookup.specs.promises.Shows.{form_e, form_compound, Shows, shows-new-array, shows-new-object, shows-negation}
 use Rattle.lookup.specs.promises.Shows.{shows-binary}
 use Rattle.lookup.specs.promises.Shows.{shows-element, shows-length, shows-call, shows-port-get, GoesOn, one-more-argument}
 use Rattle.lookup.specs.laws.ShowLaws.{Bounds, shown, goes_on, ended, there}
-use Rattle.printing.specs.Printed.{Lexeme, marks, spelling, spelt, name_token, element_token, level_of, kind_of, own, tightness, bracketed}
+use Rattle.printing.specs.Printed.{Lexeme, marks, spelling, spelt, name_token, element_token, kind_of, own, tightness}
 use Rattle.printing.specs.Printed.{bare}
 use Rattle.printing.specs.Printed.{separator}
 use Rattle.printing.specs.Printed.{left_of, right_of, print_in, render}
@@ -42,7 +39,7 @@ use Rattle.printing.proofs.laws.Pieces.{of-new-array, of-negation, of-binary, of
 use Rattle.printer.specs.declared.job.Job.{Job}
 use Rattle.printer.specs.promises.Puts.{text_room, Puts, TokenPut}
 use Rattle.printer.specs.promises.Ranks.{tightness_of}
-use Rattle.printer.specs.promises.Walks.{PartReached, Tighter, Printable, AtMost, placed, Whatever, PartPut, FormPut, EnclosedPut}
+use Rattle.printer.specs.promises.Walks.{PartReached, Tighter, AtMost, placed, Whatever, PartPut, FormPut, EnclosedPut}
 use Rattle.printer.specs.promises.Walks.{GivenPut}
 use Rattle.printer.specs.promises.Walks.{MadePut, MemberPut}
 use Rattle.printer.specs.laws.PutLaws.{puts-more, tokens-more}
@@ -133,12 +130,13 @@ fewer row left = record {
 }
 
 -- the same without the node itself
-abbrev one_less : Job → ℕ → Job
-one_less job at = record { left = job.left - 1; row = job.row; at = at }
+abbrev one_less : (job : Job) (at : ℕ) → job.row < modulus → at ≤ text_room → Job
+one_less job at l w = record { left = job.left - 1; row = job.row; at = at; low = l; within = w }
 
 module _ (s tab : List ℕ) (n : ℕ) (job : Job) where
   -- the tokens of a form that is not the empty one
-  form_of : {at r : ℕ} {c c' : List ℕ} → (job.left ≡ 0 → ⊥) → FormPut s tab n (form_at tab n job.row) (one_less job at) c c' r
+  form_of : {at r : ℕ} {c c' : List ℕ} → (job.left ≡ 0 → ⊥) → {low : job.row < modulus} {room : at ≤ text_room}
+      → FormPut s tab n (form_at tab n job.row) (one_less job at low room) c c' r
       → Whatever s tab n λ ts. (e : Expression) → PartAt tab ts job.row (AtMost job.left expression) e
       → Puts at (render (bare e [])) c c' r
   form_of some f ts lx rows e h =
@@ -162,7 +160,8 @@ module _ {s tab : List ℕ} {n w : ℕ} {job : Job} where
 
   pub expression-bare : {k third ρ r : ℕ} {c c' : List ℕ} → (job.left ≡ 0 → ⊥) → k ≡ kind_in_table tab n job.row
       → third ≡ kind_in_table tab n (job.row + 2) → ρ ≡ tightness_of k third → w ≤ ρ
-      → FormPut s tab n (form_at tab n job.row) (one_less job job.at) c c' r → PartPut s tab n expression w job c c' r
+      → {low : job.row < modulus} {room : job.at ≤ text_room}
+      → FormPut s tab n (form_at tab n job.row) (one_less job job.at low room) c c' r → PartPut s tab n expression w job c c' r
   expression-bare some is is₃ ranks le f = record {
     within = f.within;
     says = λ ts lx rows e h.
@@ -172,7 +171,8 @@ module _ {s tab : List ℕ} {n w : ℕ} {job : Job} where
 
   pub expression-pair : {k third ρ a b r : ℕ} {c c₁ c₂ c₃ : List ℕ} → (job.left ≡ 0 → ⊥) → k ≡ kind_in_table tab n job.row
       → third ≡ kind_in_table tab n (job.row + 2) → ρ ≡ tightness_of k third → ρ < w → Puts job.at (bytes "(" ++ b_space ∷ []) c c₁ a
-      → FormPut s tab n (form_at tab n job.row) (one_less job a) c₁ c₂ b → Puts b (bytes ")" ++ b_space ∷ []) c₂ c₃ r
+      → {low : job.row < modulus} {room : a ≤ text_room}
+      → FormPut s tab n (form_at tab n job.row) (one_less job a low room) c₁ c₂ b → Puts b (bytes ")" ++ b_space ∷ []) c₂ c₃ r
       → PartPut s tab n expression w job c c₃ r
   unfolding render spelling words marks separator
   expression-pair some is is₃ ranks lt p f q = record {
@@ -469,7 +469,7 @@ module _ {s tab : List ℕ} {n : ℕ} {job : Job} where
             (likewise (ap render (in-loosest-place e)) (f.says ts lx rows e x))
 
     pub arguments-more : {b r : ℕ} {c₂ c₃ : List ℕ} → next < absent → Puts a (bytes "," ++ b_space ∷ []) c₁ c₂ b
-        → PartPut s tab n arguments 0 (record { left = job.left - 1; row = next; at = b }) c₂ c₃ r → PartPut s tab n arguments 0 job c c₃ r
+        → {l1 : next < modulus} {w1 : b ≤ text_room} → PartPut s tab n arguments 0 (record { left = job.left - 1; row = next; at = b; low = l1; within = w1 }) c₂ c₃ r → PartPut s tab n arguments 0 job c c₃ r
     unfolding render spelling words marks separator
     arguments-more {b} {r} {c₂} {c₃} close p v = record {
       within = v.within;
@@ -493,21 +493,3 @@ module _ {s tab : List ℕ} {n : ℕ} {job : Job} where
             → GoesOn tab ts job.row (AtMost job.left expression) (AtMost (job.left - 1) arguments) es
             → Puts job.at (render (placed 0 es)) c c₃ r
         go ts lx rows es (one-more-argument {e = e} {es = rest} x y) = rest_put ts lx rows e x rest y
-
--- WHAT IS ASKED FOR
-
-module _ {bs tab : List ℕ} {n : ℕ} {job : Job} (w : Printable bs tab n job) where
-  pub part-printable : {k at : ℕ} {part : Job} → PartReached tab k job at part → at ≤ text_room → Printable bs tab n part
-  part-printable f h = record {
-    right = w.right;
-    big = w.big;
-    few = w.few;
-    low = f.low;
-    within = omega (arith, f.begins);
-  }
-
-  pub row-printable : (left at : ℕ) → at ≤ text_room → Printable bs tab n (record { left = left; row = job.row; at = at })
-  row-printable left at h = record { right = w.right; big = w.big; few = w.few; low = w.low; within = h }
-
-  pub next-printable : (left row at : ℕ) → row < modulus → at ≤ text_room → Printable bs tab n (record { left = left; row = row; at = at })
-  next-printable left row at l h = record { right = w.right; big = w.big; few = w.few; low = l; within = h }

@@ -1,11 +1,8 @@
 -- What the functions that walk a tree ensure, whatever the tree is that the table holds: they write its tokens.
 use Rattle.std.specs.Prelude.{ℕ, ◌+◌, ◌≤◌, ◌<◌, ◌≡◌, List, [], ◌∷◌, ◌++◌, length, leb}
-use Rattle.base.specs.Codes.{table_least, tokens_most}
 use Rattle.base.specs.Outcome.{accepted}
-use Rattle.base.specs.Word.{modulus}
 use Rattle.base.specs.promises.Table.{c_second, c_third}
 use Rattle.lexer.specs.Bytes.{b_space}
-use Rattle.lexer.specs.ByteKinds.{RightTable}
 use Rattle.lexer.specs.Kinds.{k_new, k_dot, k_else, k_semicolon, k_open, k_close, k_close_brace}
 use Rattle.lexer.specs.Tokens.{Token, tokens}
 use Rattle.parser.specs.Tree.{Sort, Sort.expression, Sort.arguments, Sort.statement, Sort.statements, Part, Expression, Statement}
@@ -23,19 +20,10 @@ pub record PartReached (tab : List ℕ) (k : ℕ) (job : Job) (at : ℕ) (r : Jo
   pub nodes : r.left ≡ job.left
   pub leads : r.row ≡ word_at tab k job.row
   pub begins : r.at ≡ at
-  pub low : r.row < modulus
 
 -- the class that the right operand of an operator of class w must reach
 pub record Tighter (w r : ℕ) : Type 0 where
   pub says : w < 4 → r ≡ w + 1
-
--- what the functions on parts ask for
-pub record Printable (bytes tab : List ℕ) (n : ℕ) (job : Job) : Type 0 where
-  pub right : RightTable bytes
-  pub big : table_least ≤ length tab
-  pub few : n ≤ tokens_most
-  pub low : job.row < modulus
-  pub within : job.at ≤ text_room
 
 -- a part of at most so many nodes
 abbrev pub AtMost : ℕ → (q : Sort) → Part q → Type 0

@@ -1,13 +1,19 @@
 -- Each return is a law of `EncodeLaws`.
+use Rattle.std.proofs.Common.{arith}
+use Rattle.std.proofs.lemmas.Result.{err_from_is_err_and}
 use Rattle.encoder.proofs.EncodeLaws.{answer-found, answer-unfit, found-walkable, found-classes}
-use borrow.Author.Rules.{rules}
 use Rattle.encoder.proofs.encode.answer.Goals as goal
 
 pub written-requires : goal.written-requires
-written-requires c = (found-walkable c.find-f.ensures c.in-Program.is (search rules), found-classes c.find-f.ensures c.in-Program.is)
+written-requires c =
+    (found-walkable c.find.ensures c.in_ok-sizes.was (omega arith), found-classes c.find.ensures c.in_ok-sizes.was)
 
-pub returns-in-Program : goal.returns-in-Program
-returns-in-Program c = answer-found c.args.source.now c.find-f.result c.find-f.new.table c.args.strip.now c.find-f.ensures c.in-Program.is c.written.ensures
+pub returns : goal.returns
+returns c =
+    answer-found c.args.source.now c.find.result c.find.new.table c.args.strip.now c.find.ensures c.in_ok-sizes.was _
+    c.written.ensures
 
-pub returns-in-Refused : goal.returns-in-Refused
-returns-in-Refused c = answer-unfit c.args.source.now c.find-f.result c.find-f.new.table c.args.strip.now c.find-f.ensures c.in-Refused.is
+pub returns-in_err-sizes : goal.returns-in_err-sizes
+returns-in_err-sizes c =
+    let p = err_from_is_err_and c.from_residual.result c.from_residual.ensures.1 in
+    rw (p.1, p.2) (answer-unfit c.args.source.now c.find.result c.find.new.table c.args.strip.now c.find.ensures c.in_err-sizes.was)

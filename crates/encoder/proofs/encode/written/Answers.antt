@@ -1,10 +1,16 @@
 -- What the arrays hold is the whole of the lesson.
+use Rattle.std.proofs.Common.{rules}
 use Rattle.encoder.proofs.EncodeLaws.{all-written, lines-few, methods-few}
-use borrow.Author.Rules.{rules}
 use Rattle.encoder.proofs.encode.written.Goals as goal
 
-pub both-requires : goal.both-requires
-both-requires c = (search rules, search lines-few, search rules, search methods-few)
+pub invariant_of-plan : goal.invariant_of-plan
+invariant_of-plan c = record {
+  few_classes = c.requires.1;
+  few_lines = lines-few c.count.ensures;
+  few_methods = methods-few c.requires.1 c.each-methods.ensures;
+}
 
 pub returns : goal.returns
-returns c = all-written c.prepare.ensures c.word-first.ensures.0 c.classes.ensures c.each-methods.ensures c.behind.ensures c.both.ensures
+returns c =
+    all-written c.prepare.ensures c.word-first.ensures.0 c.classes.ensures c.each-methods.ensures c.count.ensures _ _ _
+    c.both.ensures

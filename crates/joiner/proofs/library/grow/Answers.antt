@@ -2,8 +2,8 @@
 use Rattle.joiner.proofs.Filling.{grow-at, grow-bad}
 use Rattle.joiner.proofs.library.grow.Goals as goal
 
-pub returns-in-At : goal.returns-in-At
-returns-in-At c = search grow-at
+pub returns-in-Ok : goal.returns-in-Ok
+returns-in-Ok c = search grow-at
 
-pub returns-in-Bad : goal.returns-in-Bad
-returns-in-Bad c = search grow-bad
+pub returns-in-Err : goal.returns-in-Err
+returns-in-Err c = search grow-bad

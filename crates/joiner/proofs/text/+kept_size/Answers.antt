@@ -11,11 +11,11 @@ returns-then-row-ge-ABSENT t c = size-past _ _ _ _ _ _ _ c.if-left-eq0.false c.i
 pub returns-then-taken : goal.returns-then-taken
 returns-then-taken t c = size-taken _ _ _ _ _ _ _ c.if-left-eq0.false
     c.if-row-ge-ABSENT.false c.word-next.ensures.0
-    c.word.ensures.0 c.taken.ensures c.if-taken.true c.kept_size-rest.ensures
+    c.word-name.ensures.0 c.taken.ensures c.if-taken.true c.kept_size-rest.ensures
 
 pub returns : goal.returns
 returns t c = size-kept _ _ _ _ _ _ _
     c.if-left-eq0.false
     c.if-row-ge-ABSENT.false c.word-next.ensures.0
-    c.word.ensures.0 c.taken.ensures c.if-taken.false
+    c.word-name.ensures.0 c.taken.ensures c.if-taken.false
     c.kept_size-rest.ensures c.own_size.ensures

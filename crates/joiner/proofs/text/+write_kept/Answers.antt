@@ -1,5 +1,5 @@
 -- The measure is what is left. Each return is a law of `Writing`.
-use native.Mathlib.Omega.{arith}
+use Rattle.std.proofs.Common.{length, arith}
 use Rattle.joiner.proofs.Writing.{kept-none, kept-past, kept-taken, kept-kept, room-taken, room-kept}
 use Rattle.joiner.proofs.text.+write_kept.Goals as goal
 
@@ -12,9 +12,9 @@ returns-then-row-ge-ABSENT t c = search kept-past
 pub write_kept-requires : goal.write_kept-requires
 write_kept-requires t c = omega (
   arith,
-  room-taken c.args.lesson.now c.args.names.now c.args.count c.args.library.now c.args.table.now c.args.n c.args.row c.args.place c.args.strip.now
+  room-taken c.args.s.now.lesson.now c.args.s.now.names.now (length c.args.s.now.names.now) c.args.s.now.library.now c.args.s.now.table.now c.args.s.now.n c.args.row c.args.place c.args.strip.now
       c.if-left-eq0.false c.if-row-ge-ABSENT.false
-      c.word-next.ensures.0 c.word.ensures.0
+      c.word-next.ensures.0 c.word-name.ensures.0
       c.taken.ensures c.if-taken.true,
 )
 
@@ -24,20 +24,20 @@ returns-then-taken t c = search kept-taken
 pub write_class-behind-requires : goal.write_class-behind-requires
 write_class-behind-requires t c = omega (
   arith,
-  room-kept c.args.lesson.now c.args.names.now c.args.count c.args.library.now c.args.table.now c.args.n c.args.row c.args.place c.args.strip.now
+  room-kept c.args.s.now.lesson.now c.args.s.now.names.now (length c.args.s.now.names.now) c.args.s.now.library.now c.args.s.now.table.now c.args.s.now.n c.args.row c.args.place c.args.strip.now
       c.if-left-eq0.false c.if-row-ge-ABSENT.false
-      c.word-next.ensures.0 c.word.ensures.0
+      c.word-next.ensures.0 c.word-name.ensures.0
       c.taken.ensures c.if-taken.false,
 )
 
 pub write_kept-requires-2 : goal.write_kept-requires-2
 write_kept-requires-2 t c = omega (
   arith,
-  room-kept c.args.lesson.now c.args.names.now c.args.count c.args.library.now c.args.table.now c.args.n c.args.row c.args.place c.args.strip.now
+  room-kept c.args.s.now.lesson.now c.args.s.now.names.now (length c.args.s.now.names.now) c.args.s.now.library.now c.args.s.now.table.now c.args.s.now.n c.args.row c.args.place c.args.strip.now
       c.if-left-eq0.false
       c.if-row-ge-ABSENT.false
       c.word-next.ensures.0
-      c.word.ensures.0
+      c.word-name.ensures.0
       c.taken.ensures c.if-taken.false,
   c.write_class-behind.ensures.behind,
 )

@@ -11,8 +11,8 @@ returns-then-kind-eq-END t c = search classes-end
 pub classes-requires : goal.classes-requires
 classes-requires t c = omega (arith, c.requires, c.in_ok-first.ensures.within)
 
-pub link-requires : goal.link-requires
-link-requires t c = omega (arith, c.requires, c.in_ok-first.ensures.within, c.in_ok-rest.ensures.within)
+pub linked-requires : goal.linked-requires
+linked-requires t c = omega (arith, c.requires, c.in_ok-first.ensures.within, c.in_ok-rest.ensures.within)
 
 pub returns-in_err-first : goal.returns-in_err-first
 returns-in_err-first t c =
@@ -26,4 +26,5 @@ returns-in_err-rest t c =
 
 pub returns : goal.returns
 returns t c =
-    classes-more c.kind.ensures c.requires.few c.if-kind-eq-END.false c.in_ok-first.ensures refl c.in_ok-rest.ensures (listed c.link.ensures)
+    rw c.linked.ensures.1
+    (classes-more c.kind.ensures c.requires.few c.if-kind-eq-END.false c.in_ok-first.ensures refl c.in_ok-rest.ensures (listed c.linked.ensures.0))

@@ -8,8 +8,8 @@ use Rattle.parser.proofs.decl.+methods.Goals as goal
 pub methods-requires : goal.methods-requires
 methods-requires t c = omega (arith, c.requires, c.in_ok-first.ensures.within)
 
-pub link-requires : goal.link-requires
-link-requires t c = omega (arith, c.requires, c.in_ok-first.ensures.within, c.in_ok-rest.ensures.within)
+pub linked-requires : goal.linked-requires
+linked-requires t c = omega (arith, c.requires, c.in_ok-first.ensures.within, c.in_ok-rest.ensures.within)
 
 pub returns-in_err-first : goal.returns-in_err-first
 returns-in_err-first t c =
@@ -23,7 +23,8 @@ returns-in_err-rest t c =
 
 pub returns-then-kind-eq-PUBLIC : goal.returns-then-kind-eq-PUBLIC
 returns-then-kind-eq-PUBLIC t c =
-    methods-more c.kind.ensures c.requires.few c.if-kind-eq-PUBLIC.true c.in_ok-first.ensures refl c.in_ok-rest.ensures (listed c.link.ensures)
+    rw c.linked.ensures.1
+    (methods-more c.kind.ensures c.requires.few c.if-kind-eq-PUBLIC.true c.in_ok-first.ensures refl c.in_ok-rest.ensures (listed c.linked.ensures.0))
 
 pub returns : goal.returns
 returns t c = search methods-end

@@ -19,8 +19,8 @@ returns-then-kind-eq-CLOSE t c =
 pub some_parameters-requires : goal.some_parameters-requires
 some_parameters-requires t c = omega (arith, c.requires, c.in_ok-first.ensures.0.within, past (omega arith) c.in_ok-next.ensures)
 
-pub link-requires-2 : goal.link-requires-2
-link-requires-2 t c = omega (arith, c.requires, c.in_ok-first.ensures.0.within, c.in_ok-rest.ensures.within)
+pub linked-requires : goal.linked-requires
+linked-requires t c = omega (arith, c.requires, c.in_ok-first.ensures.0.within, c.in_ok-rest.ensures.within)
 
 pub returns-in_err-first : goal.returns-in_err-first
 returns-in_err-first t c =
@@ -39,4 +39,5 @@ returns-in_err-rest t c =
 
 pub returns : goal.returns
 returns t c =
-    parameters-more c.requires.few c.in_ok-first.ensures.0 refl c.kind.ensures c.in_ok-next.ensures c.in_ok-rest.ensures (listed c.link-2.ensures)
+    rw c.linked.ensures.1
+    (parameters-more c.requires.few c.in_ok-first.ensures.0 refl c.kind.ensures c.in_ok-next.ensures c.in_ok-rest.ensures (listed c.linked.ensures.0))

@@ -9,8 +9,8 @@ use Rattle.parser.proofs.decl.+variables.Goals as goal
 pub variables-requires : goal.variables-requires
 variables-requires t c = omega (arith, c.requires, c.in_ok-first.ensures.0.within, past (omega arith) c.in_ok-next.ensures)
 
-pub link-requires : goal.link-requires
-link-requires t c = omega (arith, c.requires, c.in_ok-first.ensures.0.within, c.in_ok-rest.ensures.within)
+pub linked-requires : goal.linked-requires
+linked-requires t c = omega (arith, c.requires, c.in_ok-first.ensures.0.within, c.in_ok-rest.ensures.within)
 
 pub returns-in_err-first : goal.returns-in_err-first
 returns-in_err-first t c =
@@ -29,7 +29,8 @@ returns-in_err-rest t c =
 
 pub returns-then-starts_variable : goal.returns-then-starts_variable
 returns-then-starts_variable t c =
-    variables-more c.requires.few c.starts_variable.ensures c.if-starts_variable.true c.in_ok-first.ensures.0 (behind refl c.in_ok-next.ensures) refl c.in_ok-rest.ensures (listed c.link.ensures)
+    rw c.linked.ensures.1
+    (variables-more c.requires.few c.starts_variable.ensures c.if-starts_variable.true c.in_ok-first.ensures.0 (behind refl c.in_ok-next.ensures) refl c.in_ok-rest.ensures (listed c.linked.ensures.0))
 
 pub returns : goal.returns
 returns t c = search variables-end

@@ -108,12 +108,13 @@ list-returns-in_err-rest t c =
     rw (passed-on c.from_residual-in_err-rest.ensures.1)
     (list-more c.kind.ensures c.begins_statement.ensures c.requires.few c.if-begins_statement.true c.in_ok-first.ensures refl c.in_err-rest.ensures refused)
 
-pub list-link-requires : goal.list-link-requires
-list-link-requires t c = omega (arith, c.requires, c.in_ok-first.ensures.within, c.in_ok-rest.ensures.within)
+pub list-linked-requires : goal.list-linked-requires
+list-linked-requires t c = omega (arith, c.requires, c.in_ok-first.ensures.within, c.in_ok-rest.ensures.within)
 
 pub list-returns-then-begins_statement : goal.list-returns-then-begins_statement
 list-returns-then-begins_statement t c =
-    list-more c.kind.ensures c.begins_statement.ensures c.requires.few c.if-begins_statement.true c.in_ok-first.ensures refl c.in_ok-rest.ensures (listed c.link.ensures)
+    rw c.linked.ensures.1
+    (list-more c.kind.ensures c.begins_statement.ensures c.requires.few c.if-begins_statement.true c.in_ok-first.ensures refl c.in_ok-rest.ensures (listed c.linked.ensures.0))
 
 pub list-returns : goal.list-returns
 list-returns t c = search list-end
