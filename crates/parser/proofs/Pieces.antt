@@ -66,13 +66,6 @@ pub follows-ok : {low n top x j : ℕ} {T : List ℕ} {q : ℕ} {r r' : Answer} 
     → (low < j) × (j ≤ n) × (x < top)
 follows-ok {low} {n} {top} e s pos w = let v = within-ok e (follows-within low n top s pos w) in (omega (arith, v), v.1, v.2)
 
-pub two-follow : {low n top x j : ℕ} {T : List ℕ} {q q' : ℕ} {r r' r'' : Answer} → r'' ≡ At x j → Follows T n q r r' → Follows T n q' r' r''
-    → 0 < q
-    → 0 < q'
-    → Within low n top r → (suc low < j) × (j ≤ n) × (x < top)
-two-follow {low} {n} {top} e s s₂ pos pos' w =
-    let v = follows-ok e s₂ pos' (follows-within low n top s pos w) in (omega (arith, v.0), v.1, v.2)
-
 -- WHAT A PIECE IS PART OF
 
 -- a whole is as its part is
