@@ -15,7 +15,6 @@ use Rattle.lexer.proofs.laws.ItemLaws.{Good, Shape, good}
 use Rattle.lexer.specs.promises.Chains.{NoNames, tokens_of, Chained, Added}
 use Rattle.lexer.specs.promises.Scan.{piece_of}
 use Rattle.std.specs.Prelude.{Result, Ok, Err}
-use Rattle.base.specs.declared.refusal.Reason.{Reason}
 use Rattle.base.specs.declared.refusal.Refusal.{Refusal}
 use Rattle.base.specs.promises.Refusals.{number_of}
 use Rattle.lexer.specs.declared.scan.Piece.TheVariants.{Gap, Unclosed, Nothing, Token as Lexeme}

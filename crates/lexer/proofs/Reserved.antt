@@ -1,10 +1,10 @@
 -- A text among the reserved words of its length: those that are left decide its kind.
-use Rattle.std.specs.Prelude.{ℕ, ◌+◌, ◌≤◌, ◌<◌, List, [], ◌∷◌, Bool, true, false, ◌≡◌, map, length, get_or, drop}
-use Rattle.std.proofs.Common.{arith, sym, refl, ◌∙◌, add-one}
+use Rattle.std.specs.Prelude.{ℕ, ◌+◌, ◌<◌, List, [], ◌∷◌, true, false, ◌≡◌, map, length, get_or, drop}
+use Rattle.std.proofs.Common.{sym, refl, ◌∙◌, add-one}
 use Rattle.std.proofs.Math.Seq.{drop-cons}
 use Rattle.base.specs.Bytes.{same}
-use Rattle.lexer.specs.Kinds.{words, kind_in, word_kind_lem, k_name}
-use Rattle.lexer.specs.promises.Words.{as_word, has_length, Listed}
+use Rattle.lexer.specs.Kinds.{kind_in, word_kind_lem, k_name}
+use Rattle.lexer.specs.promises.Words.{as_word, Listed}
 use Rattle.lexer.proofs.laws.WordLengths.{own-length}
 
 -- the words from number i on decide the kind of t

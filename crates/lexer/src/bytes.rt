@@ -3,7 +3,8 @@ ghost use Rattle.std.specs.Prelude.{◌≡◌, get_or};
 ghost use Rattle.lexer.specs.Bytes.{is_name_part_lem};
 ghost use Rattle.lexer.specs.ByteKinds.{byte_kind, RightTable};
 
-// The kinds that the table has for bytes; any other is `.`, and M is a mark. Those from D on begin a token.
+// The kinds that the table has for bytes; any other is `.`, and M is a mark. Those from D on begin a token. Letters and no enum, so that the
+// table below can be read.
 pub const BLANK: u8 = b'B';
 
 pub const DIGIT: u8 = b'D';

@@ -1,4 +1,5 @@
-// The kinds of tokens, by the numbers of the definition, and 0 past the last token.
+// The kinds of tokens, by the numbers of the definition, and 0 past the last token. Numbers and no enum: they lie as words in column 0 of the
+// lent table, from which they would have to be made again at each look.
 ghost use Rattle.std.specs.Prelude.{◌≡◌};
 ghost use Rattle.lexer.specs.Kinds.{is_name_lem};
 

@@ -43,6 +43,7 @@ pub fn lex(source: &[u8], table: &mut [u32]) -> Result<usize, Refusal>
 {
     clear_buckets(table);
     let kinds = byte_kinds();
+    // A place and no count: each turn goes on behind what it read.
     let mut count: usize = 0;
     let mut at: usize = 0;
     while at < source.len() {

@@ -82,6 +82,7 @@ fn comment_end(source: &[u8], at: usize) -> Option<usize>
     requires { at ≤ length source.now }
     ensures { result ≡ closing_of (closing 1 at (drop at source.now)) }
 {
+    // A place and no count: two bytes are passed where they open or close a comment, else one.
     let mut depth: usize = 1;
     let mut i = at;
     while i + 1 < source.len() {

@@ -21,7 +21,7 @@ use Rattle.lookup.specs.laws.HeldLaws.{word_in, name-word, row-there, same_names
 use Rattle.lookup.specs.laws.ChainLaws.{chain-none-left, chain-none, chain-some}
 use Rattle.lookup.specs.promises.Lookups.{TypeOf, Many, Counts, Above}
 use Rattle.lookup.specs.laws.VariableLaws.{variables-many}
-use Rattle.lookup.specs.promises.Fields.{ObjectSize, Tells, no_field, a-field, TellsAt, FieldsHeld, KeptBehind, NoFields, Cleared, OwnHeld, FieldsClimbed, FieldsFilled, fields_least, slots_from}
+use Rattle.lookup.specs.promises.Fields.{ObjectSize, Tells, no_field, a-field, TellsAt, FieldsHeld, Cleared, OwnHeld, FieldsClimbed, FieldsFilled, fields_least, slots_from}
 
 -- THE SIZE OF AN OBJECT
 

@@ -11,9 +11,8 @@ use native.Mathlib.Nat.{le_of_suc-le-suc}
 use borrow.Author.Tests.{lt-ltb, le-ltb}
 use Rattle.base.specs.All.{All, all_nil, all_cons}
 use Rattle.base.specs.laws.Lists.{all-weaken, drop-none, get_d_default, get_d-replicate-same}
-use Rattle.base.specs.Codes.{table_least, table_too_short, strip_too_short}
-use Rattle.base.specs.Outcome.{Outcome, accepted, refused}
-use Rattle.base.specs.laws.Tests.{apart}
+use Rattle.base.specs.Codes.{table_least}
+use Rattle.base.specs.Outcome.{accepted}
 use Rattle.base.specs.promises.Table.{c_next, rows}
 use Rattle.lexer.specs.Tokens.{Token}
 use Rattle.parser.specs.Tree.{Class, Program}
@@ -28,12 +27,10 @@ use Rattle.lookup.specs.laws.HeldLaws.{word_in}
 use Rattle.declarations.specs.laws.Counts.{class-count}
 use Rattle.declarations.specs.promises.Judgements.{ClassesAt}
 use Rattle.declarations.specs.promises.Indexing.{Ready}
-use Rattle.std.specs.Prelude.{Result, Ok, Err}
+use Rattle.std.specs.Prelude.{Result, Ok}
 use Rattle.base.specs.declared.refusal.Reason.TheVariants as reason
 use Rattle.base.specs.declared.refusal.Refusal.{Refusal}
-use Rattle.base.specs.promises.Refusals.{number_of, refusal, Refuses}
-use Rattle.lookup.specs.declared.sizes.Sizes.{Sizes}
-use Rattle.typecheck.specs.promises.CheckPost.{Finding, FindsProgram, Leaves}
+use Rattle.base.specs.promises.Refusals.{refusal}
 use Rattle.menu.specs.Menu.{menu_order, writing, positions, listing, menu, Menus}
 use Rattle.menu.proofs.laws.Writing.{many-same}
 use Rattle.menu.proofs.Ordered.{each-once}

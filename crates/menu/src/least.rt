@@ -3,9 +3,12 @@
 ghost use Rattle.std.specs.Prelude.{◌≡◌, ◌<◌, length, get_or, set};
 ghost use Rattle.base.specs.promises.Table.{rows};
 ghost use Rattle.base.specs.Word.{modulus};
-ghost use Rattle.menu.specs.promises.Least.{Mended, Entered, Removed, tree_size};
+ghost use Rattle.menu.specs.promises.Least.{Mended, Entered, Removed};
 
 use parser::columns::ABSENT;
+
+// How many words the tree has.
+pub const NODES: usize = 4096;
 
 // The word in a place, 0 past the end.
 pub fn cell(words: &[u32], i: usize) -> usize
@@ -23,24 +26,21 @@ pub fn put(words: &mut [u32], i: usize, v: usize)
 }
 
 // Sets node v and those above it anew.
-fn mend(tree: &mut [u32], v: usize)
-    requires { (length tree.old ≡ tree_size) × (v < rows) }
+fn mend(tree: &mut [u32; NODES], v: usize)
+    requires { v < rows }
     ensures { Mended v tree.old tree.new }
 {
     let mut node = v;
     while node != 0 {
-        put(
-            tree,
-            node,
-            cell(tree, 2 * node).min(cell(tree, 2 * node + 1)),
-        );
+        let least = cell(tree, 2 * node).min(cell(tree, 2 * node + 1));
+        put(tree, node, least);
         node /= 2;
     }
 }
 
 // Puts a row into the set.
-pub fn enter(tree: &mut [u32], row: usize)
-    requires { (length tree.old ≡ tree_size) × (row < rows) }
+pub fn enter(tree: &mut [u32; NODES], row: usize)
+    requires { row < rows }
     ensures { Entered row tree.old tree.new }
 {
     put(tree, ABSENT + row, row);
@@ -48,8 +48,8 @@ pub fn enter(tree: &mut [u32], row: usize)
 }
 
 // Takes a row out of it.
-pub fn remove(tree: &mut [u32], row: usize)
-    requires { (length tree.old ≡ tree_size) × (row < rows) }
+pub fn remove(tree: &mut [u32; NODES], row: usize)
+    requires { row < rows }
     ensures { Removed row tree.old tree.new }
 {
     put(tree, ABSENT + row, ABSENT);

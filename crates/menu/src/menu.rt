@@ -5,7 +5,8 @@ ghost use Rattle.typesystem.specs.Check.{checking};
 ghost use Rattle.menu.specs.Menu.{listing, Menus};
 ghost use Rattle.menu.specs.promises.MenuPost.{menu_answer_of, listing_of, FillsStrip};
 
-use crate::order::{gather, write};
+use crate::least::NODES;
+use crate::order::{ROWS, gather, write};
 use base::bounds::TABLE_LEAST;
 use base::refusal::{Reason, Refusal};
 use lookup::rows::word;
@@ -24,9 +25,9 @@ fn fill(table: &[u32], strip: &mut [u32], classes: usize) -> Result<usize, Refus
         });
     }
     // No row is in the set, and no class has a child.
-    let mut tree = [2048u32; 4096];
-    let mut first = [2048u32; 2048];
-    let mut next = [2048u32; 2048];
+    let mut tree = [2048u32; NODES];
+    let mut first = [2048u32; ROWS];
+    let mut next = [2048u32; ROWS];
     gather(
         table,
         &mut tree,

@@ -1,17 +1,19 @@
 // The order in which Menu writes: the classes that may stand are a set of rows, of which the least is the earliest in the lesson. When a
 // class is written, it leaves the set and its children join it.
-ghost use Rattle.std.specs.Prelude.{◌≡◌, ◌+◌, ◌≤◌, ◌<◌, length};
+ghost use Rattle.std.specs.Prelude.{◌≤◌, ◌<◌, length};
 ghost use Rattle.base.specs.promises.Table.{rows};
 ghost use Rattle.base.specs.Codes.{table_least};
 ghost use Rattle.base.specs.Word.{modulus};
 ghost use Rattle.menu.specs.promises.MenuPost.{ChildJoined, Gathered, Freed, StripWritten};
-ghost use Rattle.menu.specs.promises.Least.{tree_size};
 
-use crate::least::{cell, enter, put, remove};
+use crate::least::{NODES, cell, enter, put, remove};
 use lookup::chain::above;
 use lookup::rows::word;
 use parser::columns;
 use parser::columns::ABSENT;
+
+// How many rows there are.
+pub const ROWS: usize = 2048;
 
 // A class joins its parent's children, before the others.
 fn link(first: &mut [u32], next: &mut [u32], parent: usize, row: usize)
@@ -26,14 +28,13 @@ fn link(first: &mut [u32], next: &mut [u32], parent: usize, row: usize)
 // has the children in the order of the lesson: one without a parent joins the set, each other one the list of its parent's children.
 pub fn gather(
     table: &[u32],
-    tree: &mut [u32],
-    first: &mut [u32],
-    next: &mut [u32],
+    tree: &mut [u32; NODES],
+    first: &mut [u32; ROWS],
+    next: &mut [u32; ROWS],
     left: usize,
     row: usize,
 )
-    requires { (table_least ≤ length table.now) × (length tree.old ≡ tree_size) × (length first.old ≡ rows)
-        × (length next.old ≡ rows) }
+    requires { table_least ≤ length table.now }
     ensures { Gathered table.now left row tree.old first.old tree.new
         first.new next.new }
 {
@@ -58,8 +59,7 @@ pub fn gather(
 }
 
 // The children from a row on join the set, `most` at most.
-fn free(tree: &mut [u32], next: &[u32], most: usize, row: usize)
-    requires { length tree.old ≡ tree_size }
+fn free(tree: &mut [u32; NODES], next: &[u32], most: usize, row: usize)
     ensures { Freed next.now most row tree.old tree.new }
 {
     let mut child = row;
@@ -75,13 +75,13 @@ fn free(tree: &mut [u32], next: &[u32], most: usize, row: usize)
 // Writes the positions of the names of classes into the first `classes` places of the strip. Answers how many of these may not stand.
 pub fn write(
     table: &[u32],
-    tree: &mut [u32],
+    tree: &mut [u32; NODES],
     first: &[u32],
     next: &[u32],
     strip: &mut [u32],
     classes: usize,
 ) -> usize
-    requires { (table_least ≤ length table.now) × (length tree.old ≡ tree_size) × (classes ≤ length strip.old) }
+    requires { (table_least ≤ length table.now) × (classes ≤ length strip.old) }
     ensures { StripWritten table.now tree.old first.now next.now 0 classes
         strip.old strip.new result }
 {

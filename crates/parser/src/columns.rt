@@ -3,7 +3,7 @@
 
 // How many rows a column has.
 pub const ROWS: usize = 2048;
-// No row: an empty list, or no such part.
+// No row: an empty list, or no such part. A number of a row past the last and no Option: links lie as words in the lent table.
 pub const ABSENT: usize = 2048;
 
 // Of a token: its kind, its position, the number of its name or the value of its literal.

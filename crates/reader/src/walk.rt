@@ -23,7 +23,7 @@ pub struct Walked {
 // The most that is counted.
 const COUNT_MOST: usize = 65535;
 
-// No position.
+// No position: past all others and no Option, so that the smaller of two is the first in any case.
 pub const NOWHERE: usize = 4294967296;
 
 // The greatest depth that is allowed.

@@ -13,6 +13,7 @@ use base::codes;
 use base::fill::{zero_numbers, zero_words};
 use device::state::REGISTERS;
 use driver::calls::Sizes;
+use driver::program::{Lesson, ROWS};
 use interpreter::execute::execute;
 use interpreter::state::Bounds;
 use typecheck::check::{Finding, find};
@@ -66,10 +67,15 @@ fn compiled(
         tape.now heap.old (result_strips output.old registers.old) (run_answer_of result)
         (result_strips output.new registers.new) }
 {
-    let mut entries = [0u32; 2048];
+    let mut entries = [0u32; ROWS];
     prepare(table, code, &mut entries, s.tokens, s.classes);
+    let lesson = Lesson {
+        table,
+        entries: &entries,
+        sizes: s,
+    };
     let e = execute(
-        table, &entries, code, fast, values, heap, output, registers, tape, s, b,
+        &lesson, code, fast, values, heap, output, registers, tape, b,
     );
     RunAnswer {
         number: e.number,
@@ -81,8 +87,20 @@ fn compiled(
     }
 }
 
-// How many tokens a small lesson has at most.
+// The words of an instruction.
+const WORDS: usize = 4;
+
+// Room for the largest lesson: places of code, and values of main and of each call.
+const PLACES: usize = 8192;
+
+const VALUES: usize = 1024;
+
+// How many tokens a small lesson has at most, and the room for such.
 const SMALL: usize = 125;
+
+const SMALL_PLACES: usize = 512;
+
+const SMALL_VALUES: usize = 63;
 
 // Any lesson, in room that is enough for the largest.
 fn wide(
@@ -100,9 +118,9 @@ fn wide(
         (result_strips output.old registers.old) (run_answer_of result)
         (result_strips output.new registers.new) }
 {
-    let mut code = [0u32; 32768];
-    let mut fast = [0u64; 8192];
-    let mut values = [0u32; 66561];
+    let mut code = [0u32; WORDS * PLACES];
+    let mut fast = [0u64; PLACES];
+    let mut values = [0u32; (1 + codes::CALLS_MOST) * VALUES + 1];
     compiled(
         table,
         &mut code,
@@ -137,9 +155,9 @@ fn accepted(
     if SMALL < s.tokens {
         return wide(table, s, b, heap, output, registers, tape);
     }
-    let mut code = [0u32; 2048];
-    let mut fast = [0u64; 512];
-    let mut values = [0u32; 4096];
+    let mut code = [0u32; WORDS * SMALL_PLACES];
+    let mut fast = [0u64; SMALL_PLACES];
+    let mut values = [0u32; (1 + codes::CALLS_MOST) * SMALL_VALUES + 1];
     compiled(
         table,
         &mut code,

@@ -19,7 +19,6 @@ use bodies::range::onward;
 use bodies::scope::Scope;
 use codegen::numbers;
 use lexer::kinds;
-use lookup::answer::Judged;
 use lookup::member::count;
 use lookup::rows::word;
 use lookup::types::FIXED;
@@ -93,10 +92,10 @@ fn scales(table: &[u32], names: &[u32], s: Scope, k: u32, row: usize) -> bool
     if k == kinds::TIMES {
         let e = bodies::expr::expression(table, names, s, onward(s, 0), row);
         match e {
-            Judged::Fine(t) => {
+            Ok(t) => {
                 return t == FIXED;
             }
-            Judged::Refused(_, _) => {
+            Err(_) => {
                 return false;
             }
         }

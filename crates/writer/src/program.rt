@@ -11,7 +11,6 @@ use crate::code::put;
 use crate::job::Job;
 use crate::sizes::sizes;
 use crate::stmt::single;
-use base::fill::zero_words;
 use bodies::scope::Scope;
 use codegen::numbers;
 use lookup::fields::fill;
@@ -24,7 +23,7 @@ fn begin(table: &[u32], names: &mut [u32], n: usize, classes: usize, first: usiz
     requires { Walkable table.now n × (names_least ≤ length names.old) × (classes ≤ rows) }
     ensures { BeginPost table.now n classes first names.new }
 {
-    zero_words(names);
+    names.fill(0);
     sizes(table, names, n, classes, n, first);
     fill(table, names, n, classes, ABSENT);
 }

@@ -18,7 +18,7 @@ use Rattle.lexer.specs.Tokens.{turn, tokens_from, tokens}
 use Rattle.base.specs.laws.Tests.{apart, and-true, and_right, or-neither, same_refl, same-equal}
 use Rattle.lexer.proofs.laws.ItemLaws.{kinds_end, Good, Shape, Digits, Pointed, TokenForm, good}
 use Rattle.lexer.specs.promises.Rows.{first_named, Rows, Lexes}
-use Rattle.std.specs.Prelude.{Result, Ok, Err}
+use Rattle.std.specs.Prelude.{Ok, Err}
 use Rattle.base.specs.declared.refusal.Refusal.{Refusal}
 use Rattle.base.specs.promises.Refusals.{number_of}
 

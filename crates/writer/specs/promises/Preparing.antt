@@ -6,8 +6,8 @@ use Rattle.lexer.specs.promises.Rows.{first_named}
 use Rattle.parser.specs.Tree.{Program}
 use Rattle.parser.specs.Grammar.{DerivesProgram}
 use Rattle.lookup.specs.promises.HeldClasses.{ClassTableHeld}
-use Rattle.typecheck.specs.declared.check.Finding.{Finding}
-use Rattle.typecheck.specs.declared.check.Finding.TheVariants.{Program as found}
+use Rattle.typecheck.specs.promises.CheckPost.{Finding}
+use Rattle.typecheck.specs.promises.CheckPost.{found}
 use Rattle.typecheck.specs.promises.CheckPost.{Holding}
 use Rattle.codegen.specs.promises.Compile.{end, compile}
 use Rattle.writer.specs.promises.Words.{store}
