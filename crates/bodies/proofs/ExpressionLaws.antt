@@ -10,7 +10,7 @@ use mathlib.Core.Option.{Option, none, some}
 use lib.ListN.{length}
 use lib.Dec.{eqb, leb}
 use borrow.Author.Tests.{eqb-true, eq-eqb, ne_eqb, le-leb, lt-leb}
-use Rattle.base.specs.Codes.{argument_count, method_unknown, name_unknown, this_in_main, type_unknown, type_wrong, tokens_most}
+use Rattle.base.specs.Codes.{this_in_main, tokens_most}
 use Rattle.base.specs.Choice.{option}
 use Rattle.base.specs.Outcome.{Outcome, accepted, refused, ◌>>=◌}
 use Rattle.base.specs.promises.Table.{col, c_start, c_number, c_begin, c_first, c_second, c_next, c_type, c_parameters}
@@ -26,10 +26,10 @@ use Rattle.reader.specs.promises.Spans.{Spans}
 use Rattle.reader.specs.laws.SpanLaws.{inside}
 use Rattle.typesystem.specs.ClassTable.{Found, Context, chain, method_of}
 use Rattle.typesystem.specs.Judge.{judge, must, receiver, arity, invocation}
-use Rattle.std.specs.Prelude.{Result, Ok, Err}
+use Rattle.std.specs.Prelude.{Ok, Err}
 use Rattle.base.specs.declared.refusal.Reason.TheVariants as reason
 use Rattle.base.specs.declared.refusal.Refusal.{Refusal}
-use Rattle.base.specs.promises.Refusals.{number_of, refusal}
+use Rattle.base.specs.promises.Refusals.{refusal}
 use Rattle.lookup.specs.promises.Answers.{Judged, Typed}
 use Rattle.lookup.specs.promises.HeldClasses.{word_at, NameNumber, MaybeNumber, no_name, a-name, no_type, VariablesHeld, more-variables}
 use Rattle.lookup.specs.promises.HeldClasses.{MethodHeld, code-int, code-boolean, code_fixed, code-class, Codes, code-plain}

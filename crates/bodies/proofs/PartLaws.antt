@@ -18,7 +18,7 @@ use Rattle.reader.specs.promises.Spans.{Spans}
 use Rattle.typing.specs.laws.Choices.{bind_assoc, refused-accepted}
 use Rattle.typesystem.specs.ClassTable.{Context}
 use Rattle.typesystem.specs.Judge.{for_array}
-use Rattle.std.specs.Prelude.{Result, Ok, Err}
+use Rattle.std.specs.Prelude.{Ok, Err}
 use Rattle.base.specs.declared.refusal.Refusal.{Refusal}
 use Rattle.base.specs.promises.Refusals.{number_of}
 use Rattle.lookup.specs.promises.Answers.{Judged, Typed}

@@ -6,7 +6,6 @@ use mathlib.Core.Path.{◌≡◌, refl, sym, ap, ◌∙◌, subst}
 use mathlib.Core.List.{List}
 use mathlib.Core.Bool.{true, false}
 use borrow.Author.Tests.{ne_eqb}
-use Rattle.base.specs.Codes.{type_wrong}
 use Rattle.base.specs.Outcome.{◌>>=◌}
 use Rattle.base.specs.laws.Tests.{apart}
 use Rattle.base.specs.promises.Table.{c_begin, c_first, c_second, c_next, c_third}
@@ -20,10 +19,10 @@ use Rattle.reader.specs.laws.SpanLaws.{inside-statement}
 use Rattle.typesystem.specs.ClassTable.{Context, same_type}
 use Rattle.typesystem.specs.Judge.{judge, must}
 use Rattle.typesystem.specs.Operators.{printable}
-use Rattle.std.specs.Prelude.{Result, Ok, Err}
+use Rattle.std.specs.Prelude.{Ok, Err}
 use Rattle.base.specs.declared.refusal.Reason.TheVariants as reason
 use Rattle.base.specs.declared.refusal.Refusal.{Refusal}
-use Rattle.base.specs.promises.Refusals.{number_of, refusal}
+use Rattle.base.specs.promises.Refusals.{refusal}
 use Rattle.lookup.specs.promises.Answers.{Judged, Typed}
 use Rattle.lookup.specs.promises.HeldClasses.{word_at, Lexemes, code-int, code-boolean, code_fixed, Codes, code-plain, int_number, boolean_number, number_of_fixed, array_mark}
 use Rattle.lookup.specs.laws.HeldLaws.{same_codes, other-codes}

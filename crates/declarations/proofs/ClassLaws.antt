@@ -21,11 +21,11 @@ use Rattle.reader.specs.promises.Matches.{ParentMatches}
 use Rattle.typesystem.specs.ClassTable.{class_named}
 use Rattle.typesystem.specs.Declarations.{known_parent, known_parents, fields, heads, declarations}
 use Rattle.typing.specs.laws.Choices.{bind_assoc}
-use Rattle.std.specs.Prelude.{Result, Ok, Err}
+use Rattle.std.specs.Prelude.{Ok, Err}
 use Rattle.base.specs.declared.refusal.Reason.TheVariants as reason
 use Rattle.base.specs.declared.refusal.Refusal.{Refusal}
-use Rattle.base.specs.promises.Refusals.{number_of, refusal}
-use Rattle.lookup.specs.promises.Answers.{Judged, Typed}
+use Rattle.base.specs.promises.Refusals.{refusal}
+use Rattle.lookup.specs.promises.Answers.{Judged}
 use Rattle.lookup.specs.promises.HeldClasses.{word_at, Lexemes, NameNumber, a-name, ClassHeld, ClassesHeld, more-classes, ClassTableHeld}
 use Rattle.lookup.specs.laws.HeldLaws.{word_in, start_word, name-word, row-there, ClassAt, no-class, a-class, class-at, none_left}
 use Rattle.lookup.specs.promises.Lookups.{Above}

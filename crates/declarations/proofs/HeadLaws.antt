@@ -21,11 +21,11 @@ use Rattle.typesystem.specs.ClassTable.{Found, class_named, chain, nearest_metho
 use Rattle.typesystem.specs.Declarations.{known_type, variables, same_types_lem, redeclares, redeclaration, new_method, heads}
 use Rattle.typesystem.specs.TypingRules.{method_name}
 use Rattle.typing.specs.laws.Choices.{none-some}
-use Rattle.std.specs.Prelude.{Result, Ok, Err}
+use Rattle.std.specs.Prelude.{Ok, Err}
 use Rattle.base.specs.declared.refusal.Reason.TheVariants as reason
 use Rattle.base.specs.declared.refusal.Refusal.{Refusal}
-use Rattle.base.specs.promises.Refusals.{number_of, refusal}
-use Rattle.lookup.specs.promises.Answers.{Judged, Typed}
+use Rattle.base.specs.promises.Refusals.{refusal}
+use Rattle.lookup.specs.promises.Answers.{Judged}
 use Rattle.lookup.specs.promises.HeldClasses.{word_at, Lexemes, NameNumber, Codes, VariablesHeld, no-variables, MethodHeld, ClassTableHeld, chain_from, parent_name}
 use Rattle.lookup.specs.laws.HeldLaws.{word_in, row-there, same_codes, other-codes, none_left}
 use Rattle.lookup.specs.laws.ChainLaws.{chain-some, found-stands}

@@ -19,12 +19,12 @@ use Rattle.parser.specs.Tree.{Name, Class}
 use Rattle.parser.specs.promises.Layout.{absent, row_classes}
 use Rattle.typesystem.specs.ClassTable.{class_named, ends_within}
 use Rattle.typesystem.specs.Declarations.{ending_chains}
-use Rattle.std.specs.Prelude.{Result, Ok, Err}
+use Rattle.std.specs.Prelude.{Ok, Err}
 use Rattle.base.specs.declared.refusal.Reason.TheVariants as reason
 use Rattle.base.specs.declared.refusal.Refusal.{Refusal}
 use Rattle.base.specs.Outcome.{refused}
-use Rattle.base.specs.promises.Refusals.{number_of, refusal}
-use Rattle.lookup.specs.promises.Answers.{Judged, Typed}
+use Rattle.base.specs.promises.Refusals.{refusal}
+use Rattle.lookup.specs.promises.Answers.{Judged}
 use Rattle.lookup.specs.promises.HeldClasses.{word_at, Lexemes, NameNumber, MaybeNumber, no_name, a-name, ClassHeld, ClassTableHeld, parent_name}
 use Rattle.lookup.specs.laws.HeldLaws.{start_word, name-word, row-there, ClassAt, no-class, a-class, class-at, none_left}
 use Rattle.lookup.specs.promises.Lookups.{Above}

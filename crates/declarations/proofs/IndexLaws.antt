@@ -40,11 +40,11 @@ use Rattle.typing.specs.laws.Choices.{by-test, refused-accepted}
 use Rattle.typing.specs.laws.Chains.{all-classes}
 use Rattle.typing.specs.laws.Distinctness.{distinct-rest}
 use Rattle.typing.specs.laws.Programs.{names-sound, class-found}
-use Rattle.std.specs.Prelude.{Result, Ok, Err}
+use Rattle.std.specs.Prelude.{Ok, Err}
 use Rattle.base.specs.declared.refusal.Reason.TheVariants as reason
 use Rattle.base.specs.declared.refusal.Refusal.{Refusal}
-use Rattle.base.specs.promises.Refusals.{number_of, refusal}
-use Rattle.lookup.specs.promises.Answers.{Judged, Typed}
+use Rattle.base.specs.promises.Refusals.{refusal}
+use Rattle.lookup.specs.promises.Answers.{Judged}
 use Rattle.lookup.specs.promises.HeldClasses.{word_at, Lexemes, NameNumber, Indexed, row_class}
 use Rattle.lookup.specs.laws.HeldLaws.{word_in, start_word, name-word, name-kind, row-there, one_name, same_names, other-names, none_left}
 use Rattle.lookup.specs.promises.Answers.{told}

@@ -17,11 +17,11 @@ use Rattle.parser.specs.Tree.{Variable, Class}
 use Rattle.parser.specs.promises.Layout.{absent, row_variables}
 use Rattle.typesystem.specs.ClassTable.{underlying, known, occurs, text_of}
 use Rattle.typesystem.specs.Declarations.{known_type, fields, variables}
-use Rattle.std.specs.Prelude.{Result, Ok, Err}
+use Rattle.std.specs.Prelude.{Ok, Err}
 use Rattle.base.specs.declared.refusal.Reason.TheVariants as reason
 use Rattle.base.specs.declared.refusal.Refusal.{Refusal}
-use Rattle.base.specs.promises.Refusals.{number_of, refusal}
-use Rattle.lookup.specs.promises.Answers.{Judged, Typed}
+use Rattle.base.specs.promises.Refusals.{refusal}
+use Rattle.lookup.specs.promises.Answers.{Judged}
 use Rattle.lookup.specs.promises.HeldClasses.{word_at, Lexemes, NameNumber, ClassTableHeld}
 use Rattle.lookup.specs.laws.HeldLaws.{none_left}
 use Rattle.lookup.specs.promises.Lookups.{TypeOf, Knows, Repeated}

@@ -153,8 +153,8 @@ module _ {n first left i : ℕ} {T T₁ : List ℕ} {r₁ : Answer} (level top :
       → LevelsPost level top n first left i T r T₂
   levels-more e lt p = record { says = λ base o. p.says base (operand-next (top - 1) (omega arith) (at_level (omega arith) (at-answer e (operation-ok few o refl q)))) }
 
-  pub levels-last : {x j : ℕ} → r₁ ≡ At x j → level ≤ top → top ≤ level → LevelsPost level top n first left i T (At x j) T₁
-  levels-last e le ge = record { says = λ base o. at_level (omega arith) (at-answer e (operation-ok few o refl q)) }
+  pub levels-last : level ≡ top → LevelsPost level top n first left i T r₁ T₁
+  levels-last e = record { says = λ base o. at_level (sym e) (operation-ok few o refl q) }
 
   pub levels-bad : {z : ℕ} → r₁ ≡ Bad z → level ≤ top → LevelsPost level top n first left i T (Bad z) T₁
   levels-bad e le =

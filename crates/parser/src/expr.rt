@@ -1,4 +1,5 @@
-// Expressions, by recursive descent. A level is that of the binary operators looked for, 0 the loosest. What goes on after an operand or a primary has the
+// Expressions, by recursive descent. A `match` stands where a `?` was tried and missed a bar: an open parenthesis would hold up to 32 bytes more of the stack, an
+// operand take up to 30 instructions more. A level is that of the binary operators looked for, 0 the loosest. What goes on after an operand or a primary has the
 // number of the token where the whole begins and the row of what stands before.
 ghost use Rattle.std.specs.Prelude.{◌≡◌, true, ◌+◌, ◌<◌, ◌≤◌, length};
 ghost use Rattle.base.specs.Codes.{tokens_most};
@@ -23,8 +24,10 @@ pub fn operation(table: &mut [u32], n: usize, level: u32, i: usize) -> Result<Pa
     requires { Parsable table.old n i × (level ≤ 3) }
     ensures { ModePost (Parse.operation (level_at level)) n n i table.old result table.new }
 {
-    let first = unary(table, n, i)?;
-    levels(table, n, level, 3, i, first.row, first.next)
+    match unary(table, n, i) {
+        Ok(first) => levels(table, n, level, 3, i, first.row, first.next),
+        Err(misfit) => Err(misfit),
+    }
 }
 
 // What follows the first operand of level `top`, and then of each looser level down to `level`.
@@ -41,11 +44,13 @@ fn levels(
     requires { Parsable table.old n i × (level ≤ top) × (top ≤ 3) × (first < n) × (left < n) }
     ensures { LevelsPost level top n first left i table.old result table.new }
 {
-    let whole = operations(table, n, top, first, left, i)?;
-    if level < top {
-        return levels(table, n, level, top - 1, first, whole.row, whole.next);
+    if level == top {
+        return operations(table, n, top, first, left, i);
     }
-    Ok(whole)
+    match operations(table, n, top, first, left, i) {
+        Ok(whole) => levels(table, n, level, top - 1, first, whole.row, whole.next),
+        Err(misfit) => Err(misfit),
+    }
 }
 
 // What follows the first operand of a level.
@@ -63,11 +68,16 @@ fn operations(
 {
     let k = kind(table, n, i);
     if is_operator(level, k) {
-        let right = operand(table, n, level, i + 1)?;
-        node(table, i, first, left, right.row);
-        return operations(table, n, level, first, i, right.next);
+        match operand(table, n, level, i + 1) {
+            Ok(right) => {
+                node(table, i, first, left, right.row);
+                operations(table, n, level, first, i, right.next)
+            }
+            Err(misfit) => Err(misfit),
+        }
+    } else {
+        Ok(Part { row: left, next: i })
     }
-    Ok(Part { row: left, next: i })
 }
 
 // An operand of a level: of the next one, or a unary expression.
@@ -92,12 +102,13 @@ fn unary(table: &mut [u32], n: usize, i: usize) -> Result<Part, Misfit>
     if kind(table, n, i) == NOT {
         let part = unary(table, n, i + 1)?;
         node(table, i, i, part.row, columns::ABSENT);
-        return Ok(Part {
+        Ok(Part {
             row: i,
             next: part.next,
-        });
+        })
+    } else {
+        postfix(table, n, i)
     }
-    postfix(table, n, i)
 }
 
 // Whether `new T[e]` begins here: after `new` a class makes an array where a `[` follows it.
@@ -121,8 +132,10 @@ fn postfix(table: &mut [u32], n: usize, i: usize) -> Result<Part, Misfit>
     if starts_array(table, n, i) {
         return new_array(table, n, i);
     }
-    let first = primary(table, n, i)?;
-    suffixes(table, n, true, i, first.row, first.next)
+    match primary(table, n, i) {
+        Ok(first) => suffixes(table, n, true, i, first.row, first.next),
+        Err(misfit) => Err(misfit),
+    }
 }
 
 // `new T[e]`, which a `[` does not directly follow.
@@ -133,9 +146,13 @@ fn new_array(table: &mut [u32], n: usize, i: usize) -> Result<Part, Misfit>
 {
     let start = expect(table, n, i + 2, OPEN_BRACKET)?;
     let size = operation(table, n, 0, start)?;
-    let next = expect(table, n, size.next, CLOSE_BRACKET)?;
-    node(table, i, i, size.row, columns::ABSENT);
-    suffixes(table, n, false, i, i, next)
+    match expect(table, n, size.next, CLOSE_BRACKET) {
+        Ok(next) => {
+            node(table, i, i, size.row, columns::ABSENT);
+            suffixes(table, n, false, i, i, next)
+        }
+        Err(misfit) => Err(misfit),
+    }
 }
 
 // Indexes, `.length` and calls; the first is no index where it is not indexable.
@@ -175,9 +192,13 @@ fn element(table: &mut [u32], n: usize, first: usize, left: usize, i: usize) -> 
     ensures { RestPost (more_suffixes true first) n left i table.old result table.new }
 {
     let index = operation(table, n, 0, i + 1)?;
-    let next = expect(table, n, index.next, CLOSE_BRACKET)?;
-    node(table, i, first, left, index.row);
-    suffixes(table, n, true, first, i, next)
+    match expect(table, n, index.next, CLOSE_BRACKET) {
+        Ok(next) => {
+            node(table, i, first, left, index.row);
+            suffixes(table, n, true, first, i, next)
+        }
+        Err(misfit) => Err(misfit),
+    }
 }
 
 // `.m(e, ..)` and what follows it.
@@ -196,9 +217,13 @@ fn call(
 {
     let paren = expect(table, n, i + 1, NAME)?;
     let start = expect(table, n, paren, OPEN)?;
-    let given = arguments(table, n, start)?;
-    node(table, i, first, left, given.row);
-    suffixes(table, n, true, first, i, given.next)
+    match arguments(table, n, start) {
+        Ok(given) => {
+            node(table, i, first, left, given.row);
+            suffixes(table, n, true, first, i, given.next)
+        }
+        Err(misfit) => Err(misfit),
+    }
 }
 
 // A literal, a truth value, a name, `this`, `new C()`, an expression in parentheses or `Port.get(e)`.
@@ -235,7 +260,7 @@ fn new_object(table: &mut [u32], n: usize, i: usize) -> Result<Part, Misfit>
     Ok(Part { row: i, next })
 }
 
-// `(e)`, which makes no node. Its `)` is looked for here and not by `followed`: an open parenthesis then holds 16 bytes less of the stack.
+// `(e)`, which makes no node.
 #[cycle(arguments_call_element_levels_new_array_operand_operation_operations_parentheses_port_get_postfix_primary_some_arguments_suffixes_unary)]
 fn parentheses(table: &mut [u32], n: usize, i: usize) -> Result<Part, Misfit>
     requires { Parsable table.old n i × (kind_in_table table.old n i ≡ Kinds.k_open) }

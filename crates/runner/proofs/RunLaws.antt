@@ -18,11 +18,13 @@ use Rattle.parser.specs.Tree.{Part.block, Part.conditional, Part.loop, Part.prin
 use Rattle.parser.specs.Measure.{nodes, program_nodes}
 use Rattle.reader.specs.laws.Counting.{program-nodes}
 use Rattle.typesystem.specs.Check.{checking}
-use Rattle.typecheck.specs.declared.check.Finding.{Finding}
-use Rattle.typecheck.specs.declared.check.Finding.TheVariants.{Program as found, Refused as declined}
+use Rattle.std.specs.Prelude.{Option, Some, None, Ok, Err}
+use Rattle.base.specs.declared.refusal.Refusal.{Refusal}
+use Rattle.base.specs.promises.Refusals.{number_of, Refuses}
+use Rattle.typecheck.specs.promises.CheckPost.{Finding, found}
 use Rattle.writer.specs.promises.Preparing.{CodeWritten, Prepares}
 use Rattle.typecheck.specs.promises.CheckPost.{Checked, FindsProgram, Leaves}
-use Rattle.driver.specs.declared.calls.Sizes.{Sizes}
+use Rattle.lookup.specs.declared.sizes.Sizes.{Sizes}
 use Rattle.semantics.specs.Run.{Strips, refusal, RunMeets, Runs}
 use Rattle.semantics.specs.Run as Run
 use Rattle.guarantees.proofs.laws.Literals.{small, literals-fit}
@@ -34,8 +36,9 @@ use Rattle.runner.specs.promises.RunPost.{strips, ResultStrips, result_strips, C
 -- CHECK'S PROMISE
 
 -- it is within its bounds: the table can be walked over
-pub accepted-few : {s : List ℕ} {z : Sizes} {tab : List ℕ} → LeftByCheck s z tab → 0 < z.tokens → (z.tokens ≤ tokens_most) × (z.classes ≤ rows)
-accepted-few {s} {z} {tab} k l = by (checking s) (k.says l).finds
+pub accepted-few : {s : List ℕ} {z : Sizes} {tab : List ℕ} {known : Option Sizes} → LeftByCheck s known tab → known ≡ Some z
+    → (z.tokens ≤ tokens_most) × (z.classes ≤ rows)
+accepted-few {s} {z} {tab} k q = by (checking s) (k.says z q).finds
   where
     by : (v : Outcome Program) → FindsProgram s v (found z.tokens z.classes) tab → (z.tokens ≤ tokens_most) × (z.classes ≤ rows)
     by (accepted p) a =
@@ -45,31 +48,9 @@ accepted-few {s} {z} {tab} k l = by (checking s) (k.says l).finds
         (omega (arith, t, a.ready.world.tokens.few), omega (arith, c, a.ready.world.few, a.ready.world.tokens.few))
     by (refused n i) a = let e = a in apart (cc)
 
--- a program has a node
-statement-nodes : (p : Program) → 0 < program_nodes p
-unfolding program_nodes nodes
-statement-nodes p = omega (arith, some-nodes p.statement)
-  where
-    some-nodes : (x : Statement) → 0 < nodes x
-    some-nodes (block q ss) = omega arith
-    some-nodes (conditional q e x y) = omega arith
-    some-nodes (loop q e x) = omega arith
-    some-nodes (print q e) = omega arith
-    some-nodes (assign q y e) = omega arith
-    some-nodes (assign_element_lem q y i e) = omega arith
-    some-nodes (port_put_lem q n e) = omega arith
-
--- it has a token
-pub accepted-some : (s tab : List ℕ) {tokens classes : ℕ} {f : Finding} → Leaves s (checking s) f tab → f ≡ found tokens classes
-    → 0 < tokens
-accepted-some s tab {tokens} {classes} {f} h q = by (checking s) h.finds
-  where
-    by : (v : Outcome Program) → FindsProgram s v f tab → 0 < tokens
-    by (accepted p) a =
-        let e = a.answer in
-        let t : length a.stream ≡ tokens = cc in
-        omega (arith, t, program-nodes a.derived, statement-nodes p)
-    by (refused n i) a = let e = a in apart (cc)
+abbrev sizes_in : Finding → Sizes
+sizes_in (Ok z) = z
+sizes_in (Err r) = record { tokens = 0; classes = 0 }
 
 -- an accepted lesson can be run
 runnable : (s : List ℕ) (p : Program) (tokens classes : ℕ) (tab code code' entries entries' : List ℕ)
@@ -77,9 +58,8 @@ runnable : (s : List ℕ) (p : Program) (tokens classes : ℕ) (tab code code' e
     → CodeWritten p (found tokens classes) tab code code' entries entries' → 16 * tokens ≤ length code → rows ≤ length entries
     → Runnable tab code' entries' (record { tokens = tokens; classes = classes }) p
 runnable s p tokens classes tab code code' entries entries' h a long many =
-    let z = a.answer in
-    let t : tokens ≡ length a.stream = cc in
-    let c : classes ≡ length p.classes = cc in
+    let t : tokens ≡ length a.stream = ap (λ (f : Finding). (sizes_in f).tokens) a.answer in
+    let c : classes ≡ length p.classes = ap (λ (f : Finding). (sizes_in f).classes) a.answer in
     record {
       answer = found tokens classes;
       code₀ = code;
@@ -142,18 +122,22 @@ pub wide_fits : {tab : List ℕ} {sz : Sizes} {b : Bounds} {tape : List ℕ} {he
     → Completes tab sz b tape heap z a z'
 wide_fits t c X = room_fits 2048 1024 32768 8192 66561 (omega arith) (omega arith) (omega arith) (omega arith) t c X
 
-pub performed : {s : List ℕ} {z : Sizes} {b : Bounds} {tape : List ℕ} {heap : List ℤ} {w w' : ResultStrips} {tab table' : List ℕ} {heap' : List ℤ}
-    {a : Run.RunAnswer} → LeftByCheck s z tab → 0 < z.tokens
-    → Completes tab z b tape heap w a w' → Performed s z b tape tab heap w a table' heap' w'
-performed {s} k l C = record { performs = C.says s (k.says l); clears = λ e. absurd (omega (arith, l, e)) }
+pub performed : {s : List ℕ} {z : Sizes} {known : Option Sizes} {b : Bounds} {tape : List ℕ} {heap : List ℤ} {w w' : ResultStrips} {tab table' : List ℕ}
+    {heap' : List ℤ} {a : Run.RunAnswer} → LeftByCheck s known tab → known ≡ Some z
+    → Completes tab z b tape heap w a w' → Performed s known b tape tab heap w a table' heap' w'
+performed {s} {z} k q C = record { performs = C.says s (k.says z q); clears = λ e. absurd (apart (cc)) }
 
-refuses-so : (s : List ℕ) (b : Bounds) (tape : List ℕ) (heap : List ℤ) (w : ResultStrips) (tab : List ℕ) {n p : ℕ} {f : Finding} {a : Run.RunAnswer}
-    → Leaves s (checking s) f tab → f ≡ declined n p → a ≡ refusal n p → Performs (checking s) b tape heap w a w
-refuses-so s b tape heap w tab {n} {p} {f} {a} h q e = by (checking s) h.finds
+refuses-so : (s : List ℕ) (b : Bounds) (tape : List ℕ) (heap : List ℤ) (w : ResultStrips) (tab : List ℕ) {f : Finding} {r : Refusal} {a : Run.RunAnswer}
+    → Leaves s (checking s) f tab → f ≡ Err r → a ≡ refusal (number_of r.reason) r.position → Performs (checking s) b tape heap w a w
+refuses-so s b tape heap w tab {f} {r} {a} h q e = by (checking s) h.finds
   where
     by : (v : Outcome Program) → FindsProgram s v f tab → Performs v b tape heap w a w
     by (accepted p) c = let z = c.answer in apart (cc)
-    by (refused k i) c = let z = c in let x : n ≡ k = cc in let y : p ≡ i = cc in (e ∙ rw (x, y), refl, refl)
+    by (refused k i) c =
+        let z : refused (number_of r.reason) r.position ≡ refused k i = subst (λ (x : Finding). Refuses x k i) q c in
+        let x : number_of r.reason ≡ k = cc in
+        let y : r.position ≡ i = cc in
+        (e ∙ rw (x, y), refl, refl)
 
 -- zeros as long as the strips were
 cleared : (table table₁ : List ℕ) (heap heap₁ : List ℤ) {table₂ : List ℕ} {heap₂ : List ℤ} → length table₁ ≡ length table
@@ -162,15 +146,15 @@ cleared : (table table₁ : List ℕ) (heap heap₁ : List ℤ) {table₂ : List
     → (table₂ ≡ replicate (length table) 0) × (heap₂ ≡ replicate (length heap) (pos 0))
 cleared table table₁ heap heap₁ lt lh et eh = (et ∙ ap (λ (n : ℕ). replicate n 0) lt, eh ∙ ap (λ (n : ℕ). replicate n (pos 0)) lh)
 
-pub unperformed : (s : List ℕ) (z : Sizes) (b : Bounds) (tape table table₁ : List ℕ) (heap output : List ℤ) (registers : List ℕ)
-    {table₂ : List ℕ} {heap₂ : List ℤ} {n p : ℕ} {f : Finding} {a : Run.RunAnswer}
-    → Leaves s (checking s) f table₁ → f ≡ declined n p → length table₁ ≡ length table → table₂ ≡ replicate (length table₁) 0
-    → heap₂ ≡ replicate (length heap) (pos 0) → a ≡ refusal n p
+pub unperformed : (s : List ℕ) (z : Option Sizes) (b : Bounds) (tape table table₁ : List ℕ) (heap output : List ℤ) (registers : List ℕ)
+    {table₂ : List ℕ} {heap₂ : List ℤ} {f : Finding} {r : Refusal} {a : Run.RunAnswer}
+    → Leaves s (checking s) f table₁ → f ≡ Err r → length table₁ ≡ length table → table₂ ≡ replicate (length table₁) 0
+    → heap₂ ≡ replicate (length heap) (pos 0) → a ≡ refusal (number_of r.reason) r.position
     → Performed s z b tape table heap (result_strips output registers) a table₂ heap₂ (result_strips output registers)
 unperformed s z b tape table table₁ heap output registers h q lt et eh e =
     record { performs = refuses-so s b tape heap (result_strips output registers) table₁ h q e; clears = λ _. cleared table table₁ heap heap lt refl et eh }
 
-pub checked : {s : List ℕ} {z y : Sizes} {b : Bounds} {tape : List ℕ} (table table₁ table₂ : List ℕ) {heap heap₁ : List ℤ} {w w' : ResultStrips}
+pub checked : {s : List ℕ} {z y : Option Sizes} {b : Bounds} {tape : List ℕ} (table table₁ table₂ : List ℕ) {heap heap₁ : List ℤ} {w w' : ResultStrips}
     {table₃ : List ℕ} {heap₂ : List ℤ} {a : Run.RunAnswer}
     → Performed s y b tape table₁ heap w a table₂ heap₁ w' → length table₂ ≡ length table → length heap₁ ≡ length heap
     → table₃ ≡ replicate (length table₂) 0 → heap₂ ≡ replicate (length heap₁) (pos 0)
@@ -179,13 +163,18 @@ checked table table₁ table₂ {heap} {heap₁} h lt lh et eh =
     record { performs = h.performs; clears = λ _. cleared table table₂ heap heap₁ lt lh et eh }
 
 -- what Check found is known of the lesson
-pub now-known : (s tab : List ℕ) {tokens classes : ℕ} {f : Finding} → Leaves s (checking s) f tab → f ≡ found tokens classes
-    → LeftByCheck s (record { tokens = tokens; classes = classes }) tab
-now-known s tab h q = record { says = λ _. subst (λ (y : Finding). Leaves s (checking s) y tab) q h }
+pub now-known : {s tab : List ℕ} {z : Sizes} {f : Finding} → Leaves s (checking s) f tab → f ≡ Ok z → LeftByCheck s (Some z) tab
+now-known {s} {tab} {z} h q =
+    record {
+      says = λ y e. subst (λ (x : Finding). Leaves s (checking s) x tab) (q ∙ ap (λ (k : Option Sizes). finding k) e) h;
+    }
+  where
+    finding : Option Sizes → Finding
+    finding (Some k) = Ok k
+    finding None = Ok z
 
--- of no tokens nothing is known
-pub nothing_known : (s tab : List ℕ) (classes : ℕ) → LeftByCheck s (record { tokens = 0; classes = classes }) tab
-nothing_known s tab classes = record { says = λ l. absurd (omega (arith, l)) }
+pub nothing_known : (s tab : List ℕ) → LeftByCheck s None tab
+nothing_known s tab = record { says = λ z e. apart (cc) }
 
 -- RUN
 
@@ -220,7 +209,7 @@ module _ (s : List ℕ) (budget calls : ℕ) (tape table : List ℕ) (heap outpu
               rw (le-ltb (length table) table_least long, ne_eqb calls 0 some-calls, le-ltb calls_most calls few-calls, le-ltb heap_most (length heap) short, ne_eqb (length registers) registers_count n) (e, refl)
 
           pub runs : (a : Run.RunAnswer) {table₂ : List ℕ} {heap₂ : List ℤ} (output₂ : List ℤ) (registers₂ : List ℕ) → length registers ≡ registers_count
-              → Performed s (record { tokens = 0; classes = 0 }) (record { budget = budget; calls = calls }) tape table heap (result_strips output registers) a table₂ heap₂ (result_strips output₂ registers₂)
+              → Performed s None (record { budget = budget; calls = calls }) tape table heap (result_strips output registers) a table₂ heap₂ (result_strips output₂ registers₂)
               → Runs s budget calls tape Before a (strips table₂ heap₂ output₂ registers₂)
           unfolding Runs
           runs a {table₂} {heap₂} output₂ registers₂ n h =

@@ -1,6 +1,7 @@
 // The operation Run of document 01: a lesson is checked, and an accepted one is run within its limits.
 ghost use Rattle.std.specs.Prelude.{◌≤◌, ◌<◌, ◌≡◌, length};
 ghost use Rattle.base.specs.Word.{modulus};
+ghost use Rattle.base.specs.promises.Refusals.{number_of};
 ghost use Rattle.base.specs.promises.Table.{rows};
 ghost use Rattle.base.specs.Codes.{calls_most, heap_most, table_least, registers_count};
 ghost use Rattle.reader.specs.promises.WalkPost.{Walkable};
@@ -9,14 +10,14 @@ ghost use Rattle.writer.specs.promises.Posts.{room};
 ghost use Rattle.runner.specs.promises.RunPost.{run_answer_of, strips, result_strips, LeftByCheck};
 ghost use Rattle.runner.specs.promises.RunPost.{CompletesInRoom, Completes, Performed};
 
-use base::codes;
-use base::fill::{zero_numbers, zero_words};
+use base::bounds;
+use base::refusal::{Reason, Refusal};
 use device::state::REGISTERS;
-use driver::calls::Sizes;
 use driver::program::{Lesson, ROWS};
 use interpreter::execute::execute;
 use interpreter::state::Bounds;
-use typecheck::check::{Finding, find};
+use lookup::sizes::Sizes;
+use typecheck::check::find;
 use writer::prepare::prepare;
 
 // What Run answers: a result number and a position, the steps, how many classes the calls climbed through (at most the classes of the
@@ -32,17 +33,27 @@ pub struct RunAnswer {
 }
 
 // A refusal gives zero counts.
-fn refusal(number: u32, position: usize) -> RunAnswer
-    ensures { run_answer_of result ≡ refusal number position }
+fn refusal(r: Refusal) -> RunAnswer
+    ensures { run_answer_of result ≡ refusal (number_of r.reason) r.position }
 {
     RunAnswer {
-        number,
-        position,
+        number: r.number(),
+        position: r.position,
         steps: 0,
         climbs: 0,
         words: 0,
         printed: 0,
     }
+}
+
+// What is lent does not fit.
+fn unfit(reason: Reason) -> RunAnswer
+    ensures { run_answer_of result ≡ refusal (number_of reason) 0 }
+{
+    refusal(Refusal {
+        reason,
+        position: 0,
+    })
 }
 
 // Writes the code of the accepted lesson that the table holds, and runs it, in the room that is lent: four words for an instruction and
@@ -120,7 +131,7 @@ fn wide(
 {
     let mut code = [0u32; WORDS * PLACES];
     let mut fast = [0u64; PLACES];
-    let mut values = [0u32; (1 + codes::CALLS_MOST) * VALUES + 1];
+    let mut values = [0u32; (1 + bounds::CALLS_MOST) * VALUES + 1];
     compiled(
         table,
         &mut code,
@@ -157,7 +168,7 @@ fn accepted(
     }
     let mut code = [0u32; WORDS * SMALL_PLACES];
     let mut fast = [0u64; SMALL_PLACES];
-    let mut values = [0u32; (1 + codes::CALLS_MOST) * SMALL_VALUES + 1];
+    let mut values = [0u32; (1 + bounds::CALLS_MOST) * SMALL_VALUES + 1];
     compiled(
         table,
         &mut code,
@@ -172,7 +183,7 @@ fn accepted(
     )
 }
 
-// Checks the lesson where no tokens are known of it, and then goes on with those of an accepted one: it is run. The call that checks
+// Checks the lesson where nothing is known of it, and then goes on with the sizes of an accepted one: it is run. The call that checks
 // clears the table and the heap strip. It calls itself for the sake of the stack: the compiler puts no function that calls itself into
 // its caller, and none with large arrays into one that calls itself. So the arrays of a run are not there yet while the lesson is read.
 fn perform(
@@ -183,38 +194,28 @@ fn perform(
     output: &mut [i32],
     registers: &mut [u8],
     tape: &[u8],
-    s: Sizes,
+    known: Option<Sizes>,
 ) -> RunAnswer
     requires { (table_least ≤ length table.old) × (length heap.old ≤ heap_most) × (b.budget < modulus) × (b.calls ≤ calls_most)
-        × LeftByCheck source.now s table.old × (length registers.old ≡ registers_count) }
-    ensures { Performed source.now s b tape.now table.old heap.old
+        × LeftByCheck source.now known table.old × (length registers.old ≡ registers_count) }
+    ensures { Performed source.now known b tape.now table.old heap.old
         (result_strips output.old registers.old) (run_answer_of result) table.new heap.new
         (result_strips output.new registers.new) }
 {
-    if 0 < s.tokens {
+    if let Some(s) = known {
         return accepted(table, s, b, heap, output, registers, tape);
     }
-    let f = find(source, table);
-    match f {
-        Finding::Program(tokens, classes) => {
-            let r = perform(
-                source,
-                table,
-                b,
-                heap,
-                output,
-                registers,
-                tape,
-                Sizes { tokens, classes },
-            );
-            zero_words(table);
-            zero_numbers(heap);
+    match find(source, table) {
+        Ok(s) => {
+            let r = perform(source, table, b, heap, output, registers, tape, Some(s));
+            table.fill(0);
+            heap.fill(0);
             r
         }
-        Finding::Refused(number, at) => {
-            zero_words(table);
-            zero_numbers(heap);
-            refusal(number, at)
+        Err(r) => {
+            table.fill(0);
+            heap.fill(0);
+            refusal(r)
         }
     }
 }
@@ -235,28 +236,24 @@ pub fn run(
         (strips table.old heap.old output.old registers.old)
         (run_answer_of result) (strips table.new heap.new output.new registers.new) }
 {
-    if table.len() < codes::TABLE_LEAST {
-        return refusal(codes::TABLE_TOO_SHORT, 0);
+    if table.len() < bounds::TABLE_LEAST {
+        return unfit(Reason::TableTooShort);
     }
     if calls == 0 {
-        return refusal(codes::CALL_LIMIT_OUT_OF_RANGE, 0);
+        return unfit(Reason::CallLimitOutOfRange);
     }
-    if codes::CALLS_MOST < calls {
-        return refusal(codes::CALL_LIMIT_OUT_OF_RANGE, 0);
+    if bounds::CALLS_MOST < calls {
+        return unfit(Reason::CallLimitOutOfRange);
     }
-    if codes::HEAP_MOST < heap.len() {
-        return refusal(codes::HEAP_TOO_LONG, 0);
+    if bounds::HEAP_MOST < heap.len() {
+        return unfit(Reason::HeapTooLong);
     }
     if registers.len() != REGISTERS {
-        return refusal(codes::REGISTERS_NOT_SIXTEEN, 0);
+        return unfit(Reason::RegistersNotSixteen);
     }
     let b = Bounds {
         budget: budget as usize,
         calls,
     };
-    let unknown = Sizes {
-        tokens: 0,
-        classes: 0,
-    };
-    perform(source, table, b, heap, output, registers, tape, unknown)
+    perform(source, table, b, heap, output, registers, tape, None)
 }

@@ -17,11 +17,9 @@ use Rattle.typesystem.specs.ClassTable.{Context, main_context, context_of, text_
 use Rattle.typesystem.specs.Judge.{judge, must}
 use Rattle.typesystem.specs.Declarations.{variables}
 use Rattle.typesystem.specs.Check.{body, bodies, class_bodies, all_bodies}
-use Rattle.std.specs.Prelude.{Result, Ok, Err}
-use Rattle.base.specs.declared.refusal.Reason.TheVariants as reason
+use Rattle.std.specs.Prelude.{Ok, Err}
 use Rattle.base.specs.declared.refusal.Refusal.{Refusal}
-use Rattle.base.specs.promises.Refusals.{number_of}
-use Rattle.lookup.specs.promises.Answers.{Judged, Typed}
+use Rattle.lookup.specs.promises.Answers.{Judged}
 use Rattle.lookup.specs.promises.HeldClasses.{word_at, Lexemes, NameNumber, no_name, a-name, no-variables, MethodHeld, MethodsHeld, more-methods, ClassHeld, ClassesHeld, more-classes, ClassTableHeld, ListedAt}
 use Rattle.lookup.specs.laws.HeldLaws.{word_in, row-there, name-word, none_left}
 use Rattle.lookup.specs.promises.Lookups.{TypeOf, Many, Counts}

@@ -2,7 +2,7 @@
 use Prim.Native.Nat.{ℕ, ◌≤◌, ◌<◌}
 use native.Mathlib.Omega.{arith}
 use mathlib.Core.Path.{◌≡◌, refl, sym, ap, ◌∙◌, subst}
-use mathlib.Core.List.{List, [], ◌∷◌}
+use mathlib.Core.List.{List}
 use lib.ListN.{length, replicate}
 use borrow.Author.Tests.{lt-ltb, le-ltb}
 use Rattle.base.specs.Codes.{table_least, tokens_most}
@@ -19,7 +19,7 @@ use Rattle.parser.specs.promises.Layout.{absent, row_classes}
 use Rattle.parser.specs.Read.{Reading, reading, table_after}
 use Rattle.reader.specs.declared.read.Counts.{Counts as TreeCounts}
 use Rattle.reader.specs.promises.ReadPost.{Fills, tree}
-use Rattle.typesystem.specs.Declarations.{distinct_classes, known_parents, ending_chains, declarations}
+use Rattle.typesystem.specs.Declarations.{known_parents, ending_chains, declarations}
 use Rattle.typesystem.specs.Check.{all_bodies, judged, checking, check_answer, check, Checks}
 use Rattle.typing.specs.laws.Agreement.{program-acyclic}
 use Rattle.acceptance.specs.Read.{readable-exactly}
@@ -28,7 +28,7 @@ use Rattle.std.specs.Prelude.{Result, Ok, Err}
 use Rattle.base.specs.declared.refusal.Reason.TheVariants as reason
 use Rattle.base.specs.declared.refusal.Refusal.{Refusal}
 use Rattle.base.specs.promises.Refusals.{number_of, refusal, Refuses}
-use Rattle.lookup.specs.promises.Answers.{Judged, Typed}
+use Rattle.lookup.specs.promises.Answers.{Judged}
 use Rattle.lookup.specs.promises.HeldClasses.{word_at, Lexemes, ClassesHeld, no-classes, more-classes}
 use Rattle.lookup.specs.laws.HeldLaws.{word_in, row-there}
 use Rattle.lookup.specs.promises.Lookups.{Many, many-none, many_more, Counts}

@@ -11,10 +11,7 @@ use Rattle.parser.specs.promises.Post.{kind_in_table}
 use Rattle.reader.specs.promises.Spans.{Among}
 use Rattle.typesystem.specs.ClassTable.{Context, method_of}
 use Rattle.typesystem.specs.Judge.{judge, must, for_array, arity, invocation, look_up}
-use Rattle.std.specs.Prelude.{Result, Ok, Err}
-use Rattle.base.specs.declared.refusal.Reason.TheVariants as reason
-use Rattle.base.specs.declared.refusal.Refusal.{Refusal}
-use Rattle.base.specs.promises.Refusals.{number_of}
+use Rattle.std.specs.Prelude.{Ok}
 use Rattle.lookup.specs.promises.Answers.{Judged, Typed}
 use Rattle.lookup.specs.promises.HeldClasses.{word_at, NameNumber, Codes, ListedAt, ClassTableHeld}
 use Rattle.lookup.specs.promises.Answers.{told, Judges}

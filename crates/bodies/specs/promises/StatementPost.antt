@@ -7,11 +7,8 @@ use Rattle.parser.specs.Tree.{Sort.statements, Part, Expression, Statement, Elem
 use Rattle.reader.specs.promises.Spans.{Among}
 use Rattle.typesystem.specs.ClassTable.{Context}
 use Rattle.typesystem.specs.Judge.{judge, must}
-use Rattle.std.specs.Prelude.{Result, Ok, Err}
-use Rattle.base.specs.declared.refusal.Reason.TheVariants as reason
-use Rattle.base.specs.declared.refusal.Refusal.{Refusal}
-use Rattle.base.specs.promises.Refusals.{number_of}
-use Rattle.lookup.specs.promises.Answers.{Judged, Typed}
+use Rattle.std.specs.Prelude.{Ok}
+use Rattle.lookup.specs.promises.Answers.{Judged}
 use Rattle.lookup.specs.promises.HeldClasses.{word_at, Codes}
 use Rattle.lookup.specs.promises.Answers.{told}
 use Rattle.lookup.specs.promises.Shows.{Form}

@@ -18,11 +18,7 @@ use Rattle.reader.specs.promises.Matches.{NameMatches, Matches}
 use Rattle.reader.specs.promises.ReadPost.{Filling}
 use Rattle.typesystem.specs.Declarations.{distinct_classes}
 use Rattle.typesystem.specs.TypingRules.{class_name}
-use Rattle.std.specs.Prelude.{Result, Ok, Err}
-use Rattle.base.specs.declared.refusal.Reason.TheVariants as reason
-use Rattle.base.specs.declared.refusal.Refusal.{Refusal}
-use Rattle.base.specs.promises.Refusals.{number_of}
-use Rattle.lookup.specs.promises.Answers.{Judged, Typed}
+use Rattle.lookup.specs.promises.Answers.{Judged}
 use Rattle.lookup.specs.promises.HeldClasses.{Lexemes, NameNumber, Indexed, ClassTableHeld}
 use Rattle.lookup.specs.promises.Answers.{told}
 use Rattle.declarations.specs.promises.Earlier.{onto}

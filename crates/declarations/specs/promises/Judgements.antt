@@ -12,11 +12,8 @@ use Rattle.reader.specs.promises.Matches.{TypeMatches}
 use Rattle.typesystem.specs.ClassTable.{class_named, underlying, known, occurs, text_of}
 use Rattle.typesystem.specs.Declarations.{known_type, known_parents, ending_chains, fields, variables, same_types_lem, redeclares, redeclaration, new_method, heads, declarations}
 use Rattle.typesystem.specs.TypingRules.{method_name}
-use Rattle.std.specs.Prelude.{Result, Ok, Err}
-use Rattle.base.specs.declared.refusal.Reason.TheVariants as reason
-use Rattle.base.specs.declared.refusal.Refusal.{Refusal}
-use Rattle.base.specs.promises.Refusals.{number_of}
-use Rattle.lookup.specs.promises.Answers.{Judged, Typed}
+use Rattle.std.specs.Prelude.{Ok}
+use Rattle.lookup.specs.promises.Answers.{Judged}
 use Rattle.lookup.specs.promises.HeldClasses.{Lexemes, MaybeNumber, VariablesHeld, MethodHeld, ClassHeld, ClassesHeld, ClassTableHeld, parent_name}
 use Rattle.lookup.specs.promises.Answers.{told}
 use Rattle.declarations.specs.promises.Marking.{StampsBelow, Stays, Marked}

@@ -1,14 +1,14 @@
 -- What the functions of Run ensure.
-use Rattle.std.specs.Prelude.{ℕ, ◌*◌, ◌≤◌, ◌<◌, ◌≡◌, List, ◌++◌, length, drop, replicate, ℤ, pos}
+use Rattle.std.specs.Prelude.{ℕ, ◌*◌, ◌≤◌, ◌<◌, ◌≡◌, List, ◌++◌, length, drop, replicate, ℤ, pos, Option, Some, None}
 use Rattle.base.specs.Outcome.{Outcome, accepted, refused}
 use Rattle.parser.specs.Tree.{Program}
 use Rattle.typesystem.specs.Check.{checking}
-use Rattle.typecheck.specs.declared.check.Finding.TheVariants.{Program as found}
+use Rattle.typecheck.specs.promises.CheckPost.{found}
 use Rattle.typecheck.specs.promises.CheckPost.{Leaves}
 use Rattle.semantics.specs.Limits.{run}
 use Rattle.semantics.specs.Run.{Strips, refusal, Reports}
 use Rattle.semantics.specs.Run as Run
-use Rattle.driver.specs.declared.calls.Sizes.{Sizes}
+use Rattle.lookup.specs.declared.sizes.Sizes.{Sizes}
 use Rattle.interpreter.specs.declared.state.Bounds.{Bounds}
 use Rattle.interpreter.specs.promises.Running.{limits_under, Roomy}
 use Rattle.runner.specs.declared.run.RunAnswer.{RunAnswer}
@@ -47,12 +47,12 @@ pub record CompletesInRoom (tab code fast values : List ℕ) (s : Sizes) (b : Bo
     (z : ResultStrips) (a : Run.RunAnswer) (z' : ResultStrips) : Type 0 where
   pub says : 16 * s.tokens ≤ length code → Roomy s.tokens b.calls fast values → Completes tab s b tape heap z a z'
 
--- the accepted lesson of so many tokens that Check left in the table; of none nothing is known
-pub record LeftByCheck (source : List ℕ) (s : Sizes) (tab : List ℕ) : Type 0 where
-  pub says : 0 < s.tokens → Leaves source (checking source) (found s.tokens s.classes) tab
+-- the accepted lesson of these sizes that Check left in the table
+pub record LeftByCheck (source : List ℕ) (known : Option Sizes) (tab : List ℕ) : Type 0 where
+  pub says : (s : Sizes) → known ≡ Some s → Leaves source (checking source) (found s.tokens s.classes) tab
 
 -- what is right for what Check finds is performed; the call that checks clears the table and the heap strip
-pub record Performed (source : List ℕ) (s : Sizes) (b : Bounds) (tape table : List ℕ) (heap : List ℤ) (z : ResultStrips) (a : Run.RunAnswer)
+pub record Performed (source : List ℕ) (known : Option Sizes) (b : Bounds) (tape table : List ℕ) (heap : List ℤ) (z : ResultStrips) (a : Run.RunAnswer)
     (table' : List ℕ) (heap' : List ℤ) (z' : ResultStrips) : Type 0 where
   pub performs : Performs (checking source) b tape heap z a z'
-  pub clears : s.tokens ≡ 0 → (table' ≡ replicate (length table) 0) × (heap' ≡ replicate (length heap) (pos 0))
+  pub clears : known ≡ None → (table' ≡ replicate (length table) 0) × (heap' ≡ replicate (length heap) (pos 0))

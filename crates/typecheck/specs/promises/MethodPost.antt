@@ -7,11 +7,7 @@ use Rattle.parser.specs.promises.Layout.{row_methods}
 use Rattle.typesystem.specs.ClassTable.{Context}
 use Rattle.typesystem.specs.Judge.{judge, must}
 use Rattle.typesystem.specs.Check.{body, bodies, class_bodies, all_bodies}
-use Rattle.std.specs.Prelude.{Result, Ok, Err}
-use Rattle.base.specs.declared.refusal.Reason.TheVariants as reason
-use Rattle.base.specs.declared.refusal.Refusal.{Refusal}
-use Rattle.base.specs.promises.Refusals.{number_of}
-use Rattle.lookup.specs.promises.Answers.{Judged, Typed}
+use Rattle.lookup.specs.promises.Answers.{Judged}
 use Rattle.lookup.specs.promises.HeldClasses.{NameNumber, MethodHeld, MethodsHeld, ClassHeld, ClassTableHeld}
 use Rattle.lookup.specs.promises.Answers.{told}
 use Rattle.declarations.specs.promises.Judgements.{ClassesAt}

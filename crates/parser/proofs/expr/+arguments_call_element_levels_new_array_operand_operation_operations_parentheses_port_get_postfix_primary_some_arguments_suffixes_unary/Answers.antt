@@ -37,22 +37,20 @@ pub call-arguments-requires : goal.call-arguments-requires
 call-arguments-requires t c =
     omega (arith, c.requires.0, past (omega arith) c.in_ok-paren.ensures, past (omega arith) c.in_ok-start.ensures)
 
-pub call-returns-in_err-given : goal.call-returns-in_err-given
-call-returns-in_err-given t c =
-    rw (passed-on c.from_residual-in_err-given.ensures.1)
-    (call-bad c.requires.3 c.requires.4 c.in_ok-paren.ensures c.in_ok-start.ensures c.in_err-given.ensures refl)
-
 pub call-node-requires : goal.call-node-requires
 call-node-requires t c =
-    omega (arith, c.requires.0, c.requires.1, c.requires.2, past (omega arith) c.in_ok-paren.ensures, past (omega arith) c.in_ok-start.ensures, c.in_ok-given.ensures.within)
+    omega (arith, c.requires.0, c.requires.1, c.requires.2, past (omega arith) c.in_ok-paren.ensures, past (omega arith) c.in_ok-start.ensures, c.in-Ok.ensures.within)
 
 pub call-suffixes-requires : goal.call-suffixes-requires
 call-suffixes-requires t c =
-    omega (arith, c.requires.0, c.requires.1, c.requires.2, past (omega arith) c.in_ok-paren.ensures, past (omega arith) c.in_ok-start.ensures, c.in_ok-given.ensures.within)
+    omega (arith, c.requires.0, c.requires.1, c.requires.2, past (omega arith) c.in_ok-paren.ensures, past (omega arith) c.in_ok-start.ensures, c.in-Ok.ensures.within)
 
-pub call-returns : goal.call-returns
-call-returns t c =
-    call_ok c.requires.3 c.requires.4 c.in_ok-paren.ensures c.in_ok-start.ensures c.in_ok-given.ensures c.requires.0.few c.requires.1 refl c.node.ensures c.suffixes.ensures
+pub call-returns-in-Ok : goal.call-returns-in-Ok
+call-returns-in-Ok t c =
+    call_ok c.requires.3 c.requires.4 c.in_ok-paren.ensures c.in_ok-start.ensures c.in-Ok.ensures c.requires.0.few c.requires.1 refl c.node.ensures c.suffixes.ensures
+
+pub call-returns-in-Err : goal.call-returns-in-Err
+call-returns-in-Err t c = call-bad c.requires.3 c.requires.4 c.in_ok-paren.ensures c.in_ok-start.ensures c.in-Err.ensures refl
 
 pub element-operation-requires : goal.element-operation-requires
 element-operation-requires t c =
@@ -63,38 +61,35 @@ element-returns-in_err-index t c =
     rw (passed-on c.from_residual.ensures.1)
     (element-bad c.requires.0.few c.requires.3 c.in_err-index.ensures nothing refl)
 
-pub element-returns-in_err-next : goal.element-returns-in_err-next
-element-returns-in_err-next t c =
-    rw (passed-on c.from_residual-in_err-next.ensures.1)
-    (element-bad c.requires.0.few c.requires.3 c.in_ok-index.ensures (not-behind refl c.in_err-next.ensures) refl)
-
 pub element-node-requires : goal.element-node-requires
 element-node-requires t c =
     omega (arith, c.requires.0, c.requires.1, c.requires.2, there c.args.table.now c.args.n c.args.i _ k_open_bracket refl c.requires.3 (omega arith), c.in_ok-index.ensures.within)
 
 pub element-suffixes-requires : goal.element-suffixes-requires
 element-suffixes-requires t c =
-    omega (arith, c.requires.0, c.requires.1, there c.args.table.now c.args.n c.args.i _ k_open_bracket refl c.requires.3 (omega arith), c.in_ok-index.ensures.within, past (omega arith) c.in_ok-next.ensures)
+    omega (arith, c.requires.0, c.requires.1, there c.args.table.now c.args.n c.args.i _ k_open_bracket refl c.requires.3 (omega arith), c.in_ok-index.ensures.within, past (omega arith) c.in-Ok.ensures)
 
-pub element-returns : goal.element-returns
-element-returns t c =
-    element-ok c.requires.0.few c.requires.3 c.in_ok-index.ensures (behind refl c.in_ok-next.ensures) c.requires.1 refl c.node.ensures c.suffixes.ensures
+pub element-returns-in-Ok : goal.element-returns-in-Ok
+element-returns-in-Ok t c =
+    element-ok c.requires.0.few c.requires.3 c.in_ok-index.ensures (behind refl c.in-Ok.ensures) c.requires.1 refl c.node.ensures c.suffixes.ensures
 
-pub levels-returns-in_err-whole : goal.levels-returns-in_err-whole
-levels-returns-in_err-whole t c =
-    rw (passed-on c.from_residual.ensures.1)
-    (levels-bad c.args.level c.args.top c.requires.0.few c.requires.2 c.in_err-whole.ensures refl c.requires.1)
-
-pub levels-levels-requires : goal.levels-levels-requires
-levels-levels-requires t c = omega (arith, c.requires, c.in_ok-whole.ensures.within)
+pub element-returns-in-Err : goal.element-returns-in-Err
+element-returns-in-Err t c =
+    element-bad c.requires.0.few c.requires.3 c.in_ok-index.ensures (not-behind refl c.in-Err.ensures) refl
 
 pub levels-returns-then-level-top : goal.levels-returns-then-level-top
 levels-returns-then-level-top t c =
-    levels-more c.args.level c.args.top c.requires.0.few c.requires.2 c.in_ok-whole.ensures refl c.if-level-top.true c.levels.ensures
+    levels-last c.args.level c.args.top c.requires.0.few c.requires.2 c.operations.ensures c.if-level-top.true
 
-pub levels-returns : goal.levels-returns
-levels-returns t c =
-    levels-last c.args.level c.args.top c.requires.0.few c.requires.2 c.in_ok-whole.ensures refl c.requires.1 c.if-level-top.false
+pub levels-levels-requires : goal.levels-levels-requires
+levels-levels-requires t c = omega (arith, c.requires, c.if-level-top.false, c.in-Ok.ensures.within)
+
+pub levels-returns-in-Ok : goal.levels-returns-in-Ok
+levels-returns-in-Ok t c =
+    levels-more c.args.level c.args.top c.requires.0.few c.requires.2 c.in-Ok.ensures refl (omega (arith, c.requires.1, c.if-level-top.false)) c.levels.ensures
+
+pub levels-returns-in-Err : goal.levels-returns-in-Err
+levels-returns-in-Err t c = levels-bad c.args.level c.args.top c.requires.0.few c.requires.2 c.in-Err.ensures refl c.requires.1
 
 pub new_array-returns-in_err-start : goal.new_array-returns-in_err-start
 new_array-returns-in_err-start t c =
@@ -109,21 +104,20 @@ new_array-returns-in_err-size t c =
     rw (passed-on c.from_residual-in_err-size.ensures.1)
     (array-bad c.args.table.now c.args.n c.args.i c.requires.1 c.in_ok-start.ensures c.requires.0.few c.in_err-size.ensures nothing refl)
 
-pub new_array-returns-in_err-next : goal.new_array-returns-in_err-next
-new_array-returns-in_err-next t c =
-    rw (passed-on c.from_residual-in_err-next.ensures.1)
-    (array-bad c.args.table.now c.args.n c.args.i c.requires.1 c.in_ok-start.ensures c.requires.0.few c.in_ok-size.ensures (not-behind refl c.in_err-next.ensures) refl)
-
 pub new_array-node-requires : goal.new_array-node-requires
 new_array-node-requires t c = omega (arith, c.requires.0, past (omega arith) c.in_ok-start.ensures, c.in_ok-size.ensures.within)
 
 pub new_array-suffixes-requires : goal.new_array-suffixes-requires
 new_array-suffixes-requires t c =
-    omega (arith, c.requires.0, past (omega arith) c.in_ok-start.ensures, c.in_ok-size.ensures.within, past (omega arith) c.in_ok-next.ensures)
+    omega (arith, c.requires.0, past (omega arith) c.in_ok-start.ensures, c.in_ok-size.ensures.within, past (omega arith) c.in-Ok.ensures)
 
-pub new_array-returns : goal.new_array-returns
-new_array-returns t c =
-    array_ok c.args.table.now c.args.n c.args.i c.requires.1 c.in_ok-start.ensures c.requires.0.few c.in_ok-size.ensures (behind refl c.in_ok-next.ensures) refl c.node.ensures c.suffixes.ensures
+pub new_array-returns-in-Ok : goal.new_array-returns-in-Ok
+new_array-returns-in-Ok t c =
+    array_ok c.args.table.now c.args.n c.args.i c.requires.1 c.in_ok-start.ensures c.requires.0.few c.in_ok-size.ensures (behind refl c.in-Ok.ensures) refl c.node.ensures c.suffixes.ensures
+
+pub new_array-returns-in-Err : goal.new_array-returns-in-Err
+new_array-returns-in-Err t c =
+    array-bad c.args.table.now c.args.n c.args.i c.requires.1 c.in_ok-start.ensures c.requires.0.few c.in_ok-size.ensures (not-behind refl c.in-Err.ensures) refl
 
 pub operand-returns-then-level-lt3 : goal.operand-returns-then-level-lt3
 operand-returns-then-level-lt3 t c = search operand-next
@@ -131,40 +125,37 @@ operand-returns-then-level-lt3 t c = search operand-next
 pub operand-returns-else-level-lt3 : goal.operand-returns-else-level-lt3
 operand-returns-else-level-lt3 t c = search operand-last
 
-pub operation-returns-in_err-first : goal.operation-returns-in_err-first
-operation-returns-in_err-first t c =
-    rw (passed-on c.from_residual.ensures.1)
-    (unary-bad c.args.level c.in_err-first.ensures c.requires.0.few refl c.requires.1)
-
 pub operation-levels-requires : goal.operation-levels-requires
-operation-levels-requires t c = omega (arith, c.requires, c.in_ok-first.ensures.within)
+operation-levels-requires t c = omega (arith, c.requires, c.in-Ok.ensures.within)
 
-pub operation-returns : goal.operation-returns
-operation-returns t c = levels-ok c.args.level c.in_ok-first.ensures refl c.levels.ensures
+pub operation-returns-in-Ok : goal.operation-returns-in-Ok
+operation-returns-in-Ok t c = levels-ok c.args.level c.in-Ok.ensures refl c.levels.ensures
+
+pub operation-returns-in-Err : goal.operation-returns-in-Err
+operation-returns-in-Err t c = unary-bad c.args.level c.in-Err.ensures c.requires.0.few refl c.requires.1
 
 pub operations-operand-requires : goal.operations-operand-requires
 operations-operand-requires t c =
     omega (arith, c.requires, operator-there c.args.table.now c.args.n c.args.i _ c.args.level c.kind-k.ensures c.is_operator.ensures c.if-is_operator.true)
 
-pub operations-returns-in_err-right : goal.operations-returns-in_err-right
-operations-returns-in_err-right t c =
-    rw (passed-on c.from_residual.ensures.1)
-    (operations-bad c.args.level c.kind-k.ensures c.is_operator.ensures c.if-is_operator.true c.in_err-right.ensures refl)
-
 pub operations-node-requires : goal.operations-node-requires
 operations-node-requires t c =
-    omega (arith, c.requires, operator-there c.args.table.now c.args.n c.args.i _ c.args.level c.kind-k.ensures c.is_operator.ensures c.if-is_operator.true, c.in_ok-right.ensures.within)
+    omega (arith, c.requires, operator-there c.args.table.now c.args.n c.args.i _ c.args.level c.kind-k.ensures c.is_operator.ensures c.if-is_operator.true, c.in-Ok.ensures.within)
 
 pub operations-operations-requires : goal.operations-operations-requires
 operations-operations-requires t c =
-    omega (arith, c.requires, operator-there c.args.table.now c.args.n c.args.i _ c.args.level c.kind-k.ensures c.is_operator.ensures c.if-is_operator.true, c.in_ok-right.ensures.within)
+    omega (arith, c.requires, operator-there c.args.table.now c.args.n c.args.i _ c.args.level c.kind-k.ensures c.is_operator.ensures c.if-is_operator.true, c.in-Ok.ensures.within)
 
-pub operations-returns-then-is_operator : goal.operations-returns-then-is_operator
-operations-returns-then-is_operator t c =
-    operations-ok c.args.level c.kind-k.ensures c.is_operator.ensures c.requires.0.few c.requires.2 c.if-is_operator.true c.in_ok-right.ensures refl c.node.ensures c.operations.ensures
+pub operations-returns-in-Ok : goal.operations-returns-in-Ok
+operations-returns-in-Ok t c =
+    operations-ok c.args.level c.kind-k.ensures c.is_operator.ensures c.requires.0.few c.requires.2 c.if-is_operator.true c.in-Ok.ensures refl c.node.ensures c.operations.ensures
 
-pub operations-returns : goal.operations-returns
-operations-returns t c = search operations-none
+pub operations-returns-in-Err : goal.operations-returns-in-Err
+operations-returns-in-Err t c =
+    operations-bad c.args.level c.kind-k.ensures c.is_operator.ensures c.if-is_operator.true c.in-Err.ensures refl
+
+pub operations-returns-else-is_operator : goal.operations-returns-else-is_operator
+operations-returns-else-is_operator t c = search operations-none
 
 pub parentheses-operation-requires : goal.parentheses-operation-requires
 parentheses-operation-requires t c =
@@ -217,17 +208,15 @@ port_get-returns t c =
 pub postfix-new_array-requires : goal.postfix-new_array-requires
 postfix-new_array-requires t c = (omega arith, (search rules, sym c.starts_array.ensures ∙ c.if-starts_array.true))
 
-pub postfix-returns-in_err-first : goal.postfix-returns-in_err-first
-postfix-returns-in_err-first t c =
-    rw (passed-on c.from_residual.ensures.1)
-    (postfix-bad c.requires.few c.starts_array.ensures c.if-starts_array.false c.in_err-first.ensures refl)
-
 pub postfix-suffixes-requires : goal.postfix-suffixes-requires
-postfix-suffixes-requires t c = omega (arith, c.requires, c.in_ok-first.ensures.within)
+postfix-suffixes-requires t c = omega (arith, c.requires, c.in-Ok.ensures.within)
 
-pub postfix-returns : goal.postfix-returns
-postfix-returns t c =
-    postfix-ok c.requires.few c.starts_array.ensures c.if-starts_array.false c.in_ok-first.ensures refl c.suffixes.ensures
+pub postfix-returns-in-Ok : goal.postfix-returns-in-Ok
+postfix-returns-in-Ok t c =
+    postfix-ok c.requires.few c.starts_array.ensures c.if-starts_array.false c.in-Ok.ensures refl c.suffixes.ensures
+
+pub postfix-returns-in-Err : goal.postfix-returns-in-Err
+postfix-returns-in-Err t c = postfix-bad c.requires.few c.starts_array.ensures c.if-starts_array.false c.in-Err.ensures refl
 
 pub primary-node-requires : goal.primary-node-requires
 primary-node-requires t c =
@@ -308,9 +297,9 @@ pub unary-node-requires : goal.unary-node-requires
 unary-node-requires t c =
     omega (arith, c.requires, there c.args.table.now c.args.n c.args.i _ k_not c.kind.ensures c.if-kind-eq-NOT.true (omega arith), c.in_ok-part.ensures.within)
 
-pub unary-returns-then-kind-eq-NOT : goal.unary-returns-then-kind-eq-NOT
-unary-returns-then-kind-eq-NOT t c =
+pub unary-returns-in_ok-part : goal.unary-returns-in_ok-part
+unary-returns-in_ok-part t c =
     negation-is c.kind.ensures c.requires.few c.if-kind-eq-NOT.true c.in_ok-part.ensures (with-one c.node.ensures)
 
-pub unary-returns : goal.unary-returns
-unary-returns t c = search to-postfix
+pub unary-returns-else-kind-eq-NOT : goal.unary-returns-else-kind-eq-NOT
+unary-returns-else-kind-eq-NOT t c = search to-postfix
