@@ -45,7 +45,6 @@ use Rattle.std.specs.Prelude.{Result, Ok, Err}
 use Rattle.base.specs.declared.refusal.Reason.TheVariants as reason
 use Rattle.base.specs.declared.refusal.Refusal.{Refusal}
 use Rattle.base.specs.promises.Refusals.{number_of, refusal}
-use Rattle.lookup.specs.declared.sizes.Sizes.{Sizes}
 use Rattle.encoder.specs.promises.Strip.{Puts}
 use Rattle.encoder.specs.promises.Frames.{HeldFrom, BehindPost, PlainPost}
 use Rattle.encoder.specs.promises.Names.{no_place, numbered, ClassesNumbered, Declared, declared_by, EachPost}
@@ -54,6 +53,17 @@ use Rattle.encoder.specs.promises.Encoding.{Whole, PassPost, BothPost, WritesFra
 use Rattle.encoder.specs.laws.Bytes.{puts_then, text-length, leading}
 use Rattle.encoder.specs.laws.Order.{place_in, place_none}
 use Rattle.encoder.specs.laws.Placing.{program-placed}
+
+-- WHAT IS FOUND
+
+-- how many tokens and classes
+abbrev tokens_of : Finding → ℕ
+tokens_of (Ok z) = z.tokens
+tokens_of (Err q) = 0
+
+abbrev classes_of : Finding → ℕ
+classes_of (Ok z) = z.classes
+classes_of (Err q) = 0
 
 -- A PASS
 
@@ -218,14 +228,11 @@ module _ {tab : List ℕ} {tokens many : ℕ} {code entries : List ℕ} (w : Pre
     abbrev k : List Instruction
     k = (compile g).instructions
 
-    sizes : record { tokens = tokens; classes = many } ≡ record { tokens = length ts; classes = length g.classes }
-    sizes = let z = A.answer in cc
-
     many-tokens : tokens ≡ length ts
-    many-tokens = ap (λ (z : Sizes). z.tokens) sizes
+    many-tokens = ap tokens_of A.answer
 
     many-classes : many ≡ length g.classes
-    many-classes = ap (λ (z : Sizes). z.classes) sizes
+    many-classes = ap classes_of A.answer
 
     lesson : Lesson tab entries plan ts g
     lesson =
@@ -321,9 +328,8 @@ found-few s tab {n} {k} {f} l is = by (checking s) l.finds
     by : (v : Outcome Program) → FindsProgram s v f tab → (n ≤ 2048) × (k ≤ 2048)
     by (accepted p) a =
         let e = a.answer in
-        let both : record { tokens = length a.stream; classes = length p.classes } ≡ record { tokens = n; classes = k } = cc in
-        let t = ap (λ (z : Sizes). z.tokens) both in
-        let c = ap (λ (z : Sizes). z.classes) both in
+        let t : length a.stream ≡ n = ap tokens_of (sym e ∙ is) in
+        let c : length p.classes ≡ k = ap classes_of (sym e ∙ is) in
         (omega (arith, t, a.ready.world.tokens.few), omega (arith, c, a.ready.world.few, a.ready.world.tokens.few))
     by (refused m i) a = let e = a in apart (cc)
 

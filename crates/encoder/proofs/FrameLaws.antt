@@ -20,59 +20,6 @@ use Rattle.encoder.specs.promises.Frames.{Placed, HeldFrom, NumbersHeld, Operato
 use Rattle.encoder.specs.laws.Bytes.{puts_none, puts_then}
 use Rattle.encoder.specs.laws.Instructions.{special, View, as_is, an-operator, an-object, a_call, view, first_of, stands-first, number_small, held_first, held-rest}
 
--- OPERATORS
-
-module _ {k : ℕ} where
-  pub is-less : k ≡ 25 → OperatorPost k 0
-  is-less e = record { says = go }
-    where
-      go : (o : Operator) → k ≡ operator_kind o → 0 ≡ operator_line o
-      go and q = absurd (omega (arith, e, q))
-      go less q = refl
-      go plus q = absurd (omega (arith, e, q))
-      go minus q = absurd (omega (arith, e, q))
-      go times q = absurd (omega (arith, e, q))
-
-  pub is-plus : k ≡ 26 → OperatorPost k 1
-  is-plus e = record { says = go }
-    where
-      go : (o : Operator) → k ≡ operator_kind o → 1 ≡ operator_line o
-      go and q = absurd (omega (arith, e, q))
-      go less q = absurd (omega (arith, e, q))
-      go plus q = refl
-      go minus q = absurd (omega (arith, e, q))
-      go times q = absurd (omega (arith, e, q))
-
-  pub is-minus : k ≡ 27 → OperatorPost k 2
-  is-minus e = record { says = go }
-    where
-      go : (o : Operator) → k ≡ operator_kind o → 2 ≡ operator_line o
-      go and q = absurd (omega (arith, e, q))
-      go less q = absurd (omega (arith, e, q))
-      go plus q = absurd (omega (arith, e, q))
-      go minus q = refl
-      go times q = absurd (omega (arith, e, q))
-
-  pub is-times : k ≡ 28 → OperatorPost k 3
-  is-times e = record { says = go }
-    where
-      go : (o : Operator) → k ≡ operator_kind o → 3 ≡ operator_line o
-      go and q = absurd (omega (arith, e, q))
-      go less q = absurd (omega (arith, e, q))
-      go plus q = absurd (omega (arith, e, q))
-      go minus q = absurd (omega (arith, e, q))
-      go times q = refl
-
-  pub is-other : (k ≡ 25 → ⊥) → (k ≡ 26 → ⊥) → (k ≡ 27 → ⊥) → (k ≡ 28 → ⊥) → OperatorPost k 4
-  is-other a b c d = record { says = go }
-    where
-      go : (o : Operator) → k ≡ operator_kind o → 4 ≡ operator_line o
-      go and q = refl
-      go less q = absurd (a q)
-      go plus q = absurd (b q)
-      go minus q = absurd (c q)
-      go times q = absurd (d q)
-
 -- OPERANDS
 
 -- a table line is below 2 to the power 34
@@ -138,9 +85,6 @@ module _ {code classes methods : List ℕ} {p : Plan} {i op : ℕ} where
 -- HOW MANY
 
 module _ {code : List ℕ} {i left : ℕ} where
-  pub behind-none : left ≡ 0 → BehindPost code i left i
-  behind-none z = record { within = omega arith; says = λ ν k h few past. omega (arith, few, z) }
-
   pub behind-end : {o : ℕ} → o ≡ get_or code (4 * i) 0 → 255 ≤ o → BehindPost code i left i
   behind-end {o} e far = record { within = omega arith; says = λ ν k h few past. go ν k h }
     where

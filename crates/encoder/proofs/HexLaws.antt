@@ -12,12 +12,6 @@ use Rattle.frames.specs.Lines.{digit, in_hex}
 use Rattle.encoder.specs.promises.Strip.{overwritten, Digits}
 use Rattle.encoder.specs.laws.Bytes.{digits-none, digits_more}
 
-pub figure : {n : ℕ} → n < 10 → 48 + n ≡ digit n
-figure {n} h = ap (λ (b : Bool). if b then (λ _. 48 + n) otherwise λ _. 87 + n) (sym (lt-ltb n 10 h))
-
-pub letter : {n : ℕ} → 10 ≤ n → 87 + n ≡ digit n
-letter {n} h = ap (λ (b : Bool). if b then (λ _. 48 + n) otherwise λ _. 87 + n) (sym (le-ltb n 10 h))
-
 pub digits-end : {at count n : ℕ} {l : List ℕ} → count ≡ 0 → Digits at count n l l
 digits-end {at} {count} {n} {l} z = record { strip = sym (ap (λ (k : ℕ). overwritten at (in_hex k n []) l) z ∙ digits-none at n l) }
 

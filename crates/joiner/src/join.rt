@@ -51,7 +51,12 @@ fn text(s: &Sources, first: usize, strip: &mut [u8]) -> Result<usize, Refusal>
 }
 
 // The library, once the lesson is in the table: its names are kept while the library takes its place.
-fn under(lesson: &[u8], table: &mut [u32], library: &[u8], strip: &mut [u8]) -> Result<usize, Refusal>
+fn under(
+    lesson: &[u8],
+    table: &mut [u32],
+    library: &[u8],
+    strip: &mut [u8],
+) -> Result<usize, Refusal>
     requires { (table_least ≤ length table.old) × LessonHeld lesson.now table.old }
     ensures { JoinAnswered (join_result (joining lesson.now library.now) strip.old) result
         strip.new }
@@ -79,7 +84,12 @@ fn under(lesson: &[u8], table: &mut [u32], library: &[u8], strip: &mut [u8]) -> 
 }
 
 // What Join answers, and the strip; the table is left filled.
-fn stages(lesson: &[u8], table: &mut [u32], library: &[u8], strip: &mut [u8]) -> Result<usize, Refusal>
+fn stages(
+    lesson: &[u8],
+    table: &mut [u32],
+    library: &[u8],
+    strip: &mut [u8],
+) -> Result<usize, Refusal>
     requires { table_least ≤ length table.old }
     ensures { JoinAnswered (join_result (joining lesson.now library.now) strip.old) result
         strip.new }
@@ -89,7 +99,12 @@ fn stages(lesson: &[u8], table: &mut [u32], library: &[u8], strip: &mut [u8]) ->
 }
 
 // The operation Join. The answer is how many bytes were written.
-pub fn join(lesson: &[u8], table: &mut [u32], library: &[u8], strip: &mut [u8]) -> Result<usize, Refusal>
+pub fn join(
+    lesson: &[u8],
+    table: &mut [u32],
+    library: &[u8],
+    strip: &mut [u8],
+) -> Result<usize, Refusal>
     ensures { Joins lesson.now library.now table.old strip.old (write_answer_of result)
         table.new strip.new }
 {

@@ -30,7 +30,10 @@ fn add(source: &[u8], table: &mut [u32], count: usize, token: Lexeme) -> Result<
     match judge(&source[start..end], count, token.kind) {
         Ok(Entry::Name) => store_name(source, table, count, token),
         Ok(Entry::Plain(number)) => store(table, count, token, number, 0),
-        Err(reason) => return Err(Refusal { reason, position: start }),
+        Err(reason) => return Err(Refusal {
+            reason,
+            position: start,
+        }),
     }
     Ok(())
 }
@@ -52,10 +55,16 @@ pub fn lex(source: &[u8], table: &mut [u32]) -> Result<usize, Refusal>
                 at = next;
             }
             Piece::Unclosed => {
-                return Err(Refusal { reason: Reason::CommentNotClosed, position: at });
+                return Err(Refusal {
+                    reason: Reason::CommentNotClosed,
+                    position: at,
+                });
             }
             Piece::Nothing => {
-                return Err(Refusal { reason: Reason::NoToken, position: at });
+                return Err(Refusal {
+                    reason: Reason::NoToken,
+                    position: at,
+                });
             }
             Piece::Token(kind, end) => {
                 let start = at;

@@ -2,7 +2,6 @@
 pub mod Operators
 pub mod Laws
 pub mod Types
-pub mod Cycles
 pub mod Wholes
 pub mod Stages
 pub mod Pieces

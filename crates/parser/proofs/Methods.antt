@@ -22,15 +22,14 @@ use Rattle.parser.specs.promises.Layout.{given, row_of, store, head_of, row_vari
 use Rattle.parser.specs.promises.Layout.{store_method, row_methods, store_methods, row_parent, class_row_lem, store_class, row_classes}
 use Rattle.parser.specs.promises.Layout.{store_classes, store_program, absent, list_top, main_row}
 use Rattle.parser.specs.promises.Post.{kind_in_table, TokensIn, Stored, part, Met, met-ok, met-bad, Within, ModePost, ListPost, level_at}
-use Rattle.parser.specs.promises.Post.{matched_in}
 use Rattle.parser.specs.promises.DeclarationPost.{a_variable, formals, a_method, method_list, a_parent, a_class, class_list}
 use Rattle.parser.specs.promises.DeclarationPost.{declaration_stored, DeclPost}
-use Rattle.parser.specs.promises.DeclarationPost.{ProgramPost, EndsThere}
+use Rattle.parser.specs.promises.DeclarationPost.{ProgramPost}
 use Rattle.parser.specs.promises.Parts.{PiecePost}
 use Rattle.parser.proofs.Pieces.{and_token, regroup, regroup-two, follows-ok, then-token, then-bad, then-on, of-mode}
 use Rattle.parser.proofs.Pieces.{of-list, of-declaration, as-declaration}
 use Rattle.parser.proofs.Laws.{there, tokens-kept, given-put, is, is-not, passes, at-result, bind_ok, bind-bad, within-ok}
-use Rattle.parser.proofs.Laws.{within_more, plus-two}
+use Rattle.parser.proofs.Laws.{within_more}
 use Rattle.parser.proofs.Lists.{list-end, list-bad, list-more}
 use Rattle.parser.proofs.Postfix.{name-there}
 use Rattle.parser.proofs.Matched.{all-matched, not-matched}

@@ -1,7 +1,7 @@
 -- Pieces of the definition's parsers, put together as the code puts them together: a token after a piece, a node or a list made of one, and what goes on
 -- after one.
 use Prim.Native.Nat.{ℕ, suc, ◌+◌, ◌*◌, ◌-◌, ◌≤◌, ◌<◌}
-use mathlib.Core.Path.{◌≡◌, refl, sym, ap, ◌∙◌, subst}
+use mathlib.Core.Path.{◌≡◌, refl, ap, ◌∙◌}
 use mathlib.Core.List.{List}
 use mathlib.Core.Logic.{◌≢◌}
 use mathlib.Core.Bool.{Bool, true, false}
@@ -14,7 +14,7 @@ use Rattle.base.specs.Codes.{tokens_most}
 use Rattle.lexer.specs.Tokens.{Token}
 use Rattle.lexer.specs.Kinds.{k_close, k_comma}
 use Rattle.parser.specs.promises.Answers.{Answer, At, Bad}
-use Rattle.parser.specs.Tree.{Sort, Sort.arguments, Sort.statements, Part}
+use Rattle.parser.specs.Tree.{Sort, Sort.statements, Part}
 use Rattle.parser.specs.Stream.{kind_at, start_at}
 use Rattle.parser.specs.Parse.{Parsed, ok, bad, out, bind, expect, Mode, statement_list, step, parse_as}
 use Rattle.parser.specs.promises.Layout.{absent, row_of, node, given, store, list_top}
@@ -65,13 +65,6 @@ follows-within low n top nothing pos w = tt
 pub follows-ok : {low n top x j : ℕ} {T : List ℕ} {q : ℕ} {r r' : Answer} → r' ≡ At x j → Follows T n q r r' → 0 < q → Within low n top r
     → (low < j) × (j ≤ n) × (x < top)
 follows-ok {low} {n} {top} e s pos w = let v = within-ok e (follows-within low n top s pos w) in (omega (arith, v), v.1, v.2)
-
-pub two-follow : {low n top x j : ℕ} {T : List ℕ} {q q' : ℕ} {r r' r'' : Answer} → r'' ≡ At x j → Follows T n q r r' → Follows T n q' r' r''
-    → 0 < q
-    → 0 < q'
-    → Within low n top r → (suc low < j) × (j ≤ n) × (x < top)
-two-follow {low} {n} {top} e s s₂ pos pos' w =
-    let v = follows-ok e s₂ pos' (follows-within low n top s pos w) in (omega (arith, v.0), v.1, v.2)
 
 -- WHAT A PIECE IS PART OF
 

@@ -26,10 +26,10 @@ use Rattle.parser.specs.Parse.{Parsed, ok, bad, bind, expect, element_type_lem, 
 use Rattle.parser.specs.Parse.{some_arguments_lem, get_head, expect_all, step, parse_as}
 use Rattle.parser.specs.promises.Layout.{absent, row_of, node, given, store, list_top}
 use Rattle.parser.specs.promises.Post.{kind_in_table, TokensIn, met-ok, met-bad, ModePost, RestPost, more_suffixes, level_at, is_atom_lem}
-use Rattle.parser.specs.promises.Post.{begins_element_lem, starts_array_lem, matched_in, fuel}
+use Rattle.parser.specs.promises.Post.{begins_element_lem, starts_array_lem, fuel}
 use Rattle.parser.proofs.Pieces.{and_token, regroup, member, then-token, then-bad, then-on, then-node, last-member, no_member, more-members}
 use Rattle.parser.proofs.Pieces.{of-mode, as-mode}
-use Rattle.parser.proofs.Laws.{plus-two, plus-three, plus-four, there, there-by, tokens-kept, given-node, kind-of, is, is-not}
+use Rattle.parser.proofs.Laws.{there, there-by, tokens-kept, given-node, kind-of, is, is-not}
 use Rattle.parser.proofs.Laws.{passes, at-result, bind_ok, bind-bad, stepped, within-ok, within_more}
 use Rattle.parser.proofs.Expressions.{made}
 use Rattle.parser.proofs.Heads.{head-there, head-bad, head_passed}

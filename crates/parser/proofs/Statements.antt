@@ -22,9 +22,9 @@ use Rattle.parser.specs.Parse.{begins_statement_lem, print_head, call_end, put_h
 use Rattle.parser.specs.Parse.{repeated_from, step, parse_as}
 use Rattle.parser.specs.promises.Layout.{row_of, node, given, store, absent, list_top}
 use Rattle.parser.specs.promises.Post.{kind_in_table, TokensIn, part, met-ok, met-bad, ModePost, ListPost, level_at}
-use Rattle.parser.specs.promises.Post.{matched_in, fuel}
+use Rattle.parser.specs.promises.Post.{fuel}
 use Rattle.parser.specs.promises.Parts.{PiecePost, test_from, TestPost}
-use Rattle.parser.proofs.Laws.{plus-two, there, tokens-kept, given-put, given-node, is, is-not, passes, at-result, bind_ok, bind-bad}
+use Rattle.parser.proofs.Laws.{there, tokens-kept, given-put, given-node, is, is-not, passes, at-result, bind_ok, bind-bad}
 use Rattle.parser.proofs.Laws.{stepped, within-ok, within_more}
 use Rattle.parser.proofs.Pieces.{and_token, regroup, regroup-two, bind-same, then-token, then-bad, then-on, then-list, then-node}
 use Rattle.parser.proofs.Pieces.{then-second, of-mode, as-mode, of-list, as-list, as-piece}

@@ -24,7 +24,7 @@ use Rattle.parser.specs.promises.DeclarationPost.{formals, DeclPost, EndsThere, 
 use Rattle.parser.specs.promises.Parts.{PiecePost}
 use Rattle.parser.proofs.Pieces.{and_token, regroup, member, then-token, then-bad, last-member, no_member, more-members}
 use Rattle.parser.proofs.Pieces.{of-declaration, as-declarations, as-piece}
-use Rattle.parser.proofs.Laws.{there, given-put, is, is-not, passes, bind_ok, bind-bad, within-ok, plus-three}
+use Rattle.parser.proofs.Laws.{there, given-put, is, is-not, passes, bind_ok, bind-bad, within-ok}
 use Rattle.parser.proofs.Lists.{list-end, list-bad, list-more}
 use Rattle.parser.proofs.Postfix.{name-there}
 use Rattle.parser.proofs.Types.{ElementRead, element-read, element-not, element-there, type-or-fixed, not-fixed}

@@ -44,11 +44,12 @@ fn levels(
     requires { Parsable table.old n i × (level ≤ top) × (top ≤ 3) × (first < n) × (left < n) }
     ensures { LevelsPost level top n first left i table.old result table.new }
 {
+    let whole = operations(table, n, top, first, left, i);
     if level == top {
-        return operations(table, n, top, first, left, i);
+        return whole;
     }
-    match operations(table, n, top, first, left, i) {
-        Ok(whole) => levels(table, n, level, top - 1, first, whole.row, whole.next),
+    match whole {
+        Ok(part) => levels(table, n, level, top - 1, first, part.row, part.next),
         Err(misfit) => Err(misfit),
     }
 }

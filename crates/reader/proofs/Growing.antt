@@ -13,7 +13,7 @@ use Rattle.base.specs.Codes
 use Rattle.base.specs.Codes.{source_most, tokens_most, table_least}
 use Rattle.base.specs.declared.refusal.Reason.TheVariants as reason
 use Rattle.base.specs.declared.refusal.Refusal.{Refusal}
-use Rattle.base.specs.promises.Refusals.{number_of, outcome, refusal, Refuses}
+use Rattle.base.specs.promises.Refusals.{number_of, outcome, refusal}
 use Rattle.base.specs.laws.Lists.{get-get_d}
 use Rattle.base.specs.laws.Tests.{apart}
 use Rattle.base.specs.Outcome.{Outcome, accepted, refused}

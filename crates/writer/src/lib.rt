@@ -12,3 +12,4 @@ pub mod program;
 pub mod scope;
 pub mod sizes;
 pub mod stmt;
+pub mod view;

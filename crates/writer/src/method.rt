@@ -11,6 +11,7 @@ use crate::code::put;
 use crate::expr::expression;
 use crate::job::{Job, part};
 use crate::stmt::list;
+use crate::view::View;
 use bodies::scope::Scope;
 use codegen::numbers;
 use lookup::rows::word;
@@ -26,12 +27,17 @@ fn method(table: &[u32], names: &[u32], code: &mut [u32], mut s: Scope, mut p: J
 {
     s.parameters = word(table, columns::PARAMETERS, p.row);
     s.locals = word(table, columns::LOCALS, p.row);
+    let v = View {
+        table,
+        names,
+        scope: s,
+    };
     p.left = s.tokens;
     p.row += 1;
-    let body = part(table, columns::BODY, p, p.at);
-    let a = list(table, names, code, s, body);
-    let value = part(table, columns::VALUE, p, a);
-    let b = expression(table, names, code, s, value);
+    let body = v.part(columns::BODY, p, p.at);
+    let a = list(&v, code, body);
+    let value = v.part(columns::VALUE, p, a);
+    let b = expression(&v, code, value);
     put(code, b, numbers::RETURN, 0, 0, 0)
 }
 

@@ -11,6 +11,7 @@ use crate::code::put;
 use crate::job::Job;
 use crate::sizes::sizes;
 use crate::stmt::single;
+use crate::view::View;
 use bodies::scope::Scope;
 use codegen::numbers;
 use lookup::fields::fill;
@@ -39,7 +40,12 @@ fn main_code(table: &[u32], names: &[u32], code: &mut [u32], s: Scope) -> usize
         row: columns::MAIN_STATEMENT,
         at: 0,
     };
-    let a = single(table, names, code, s, p);
+    let v = View {
+        table,
+        names,
+        scope: s,
+    };
+    let a = single(&v, code, p);
     put(code, a, numbers::HALT, 0, 0, 0)
 }
 

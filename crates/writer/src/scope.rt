@@ -1,10 +1,9 @@
 // Names by number. What a body sees is a scope of `bodies`; what the fields of the declaring class and those above it mean stands in
 // `names` (see `fields` of `lookup`).
-ghost use Rattle.bodies.specs.promises.Scoping.{Judgeable};
 ghost use Rattle.writer.specs.promises.Scoping.{SlotPost};
 
 use crate::places::place;
-use bodies::scope::Scope;
+use crate::view::View;
 use lookup::member::count;
 use lookup::types::NOTHING;
 use parser::columns::ABSENT;
@@ -13,23 +12,23 @@ use parser::columns::ABSENT;
 const SLOTS: usize = 2048;
 
 // What a name means: a parameter or local by its place among these, else the nearest field upwards from the declaring class.
-pub fn slot(table: &[u32], names: &[u32], s: Scope, x: usize) -> usize
-    requires { Judgeable table.now names.now s }
-    ensures { SlotPost table.now s x result }
+pub fn slot(v: &View, x: usize) -> usize
+    ensures { SlotPost v.now.table.now v.now.scope x result }
 {
-    let i = place(table, s.tokens, s.parameters, x, 0);
+    let s = v.scope;
+    let i = place(v.table, s.tokens, s.parameters, x, 0);
     if i < ABSENT {
         return i;
     }
-    let j = place(table, s.tokens, s.locals, x, 0);
+    let j = place(v.table, s.tokens, s.locals, x, 0);
     if j < ABSENT {
-        return count(table, s.tokens, s.parameters) + j;
+        return count(v.table, s.tokens, s.parameters) + j;
     }
     if ABSENT <= x {
         return ABSENT;
     }
-    if NOTHING <= names[x] as usize {
+    if NOTHING <= v.names[x] as usize {
         return ABSENT;
     }
-    names[SLOTS + x] as usize
+    v.names[SLOTS + x] as usize
 }

@@ -64,8 +64,7 @@ pub returns-in_err-add-in-Token : goal.returns-in_err-add-in-Token
 returns-in_err-add-in-Token c =
     let g = token-to c.loop-at-test.true c.loop-at.invariant.0 (sym c.in-Token.is ∙ c.piece_at.ensures) in
     let q = token-refused c.loop-at-test.true c.loop-at.invariant.0 g c.add.ensures c.in_err-add-in-Token.was in
-    let p = err_from_is_err_and c.from_residual.result c.from_residual.ensures.1 in
-    (
+    let p = err_from_is_err_and c.from_residual.result c.from_residual.ensures.1 in (
       omega (arith, c.loop-at.invariant.1, c.clear_buckets.auto.table, c.add.auto.table),
       rw (p.1, p.2) (answers-refused c.args.source.now c.add.new.table c.in_err-add-in-Token.field-0.0 q),
     )

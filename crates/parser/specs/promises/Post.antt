@@ -5,7 +5,7 @@ use Rattle.base.specs.promises.Table.{col, c_kind, c_start}
 use Rattle.base.specs.Codes.{tokens_most, table_least}
 use Rattle.lexer.specs.Kinds.{is_name_lem, k_literal, k_fixed_literal, k_boolean, k_int, k_true, k_false, k_this, k_new, k_open_bracket}
 use Rattle.lexer.specs.Tokens.{Token}
-use Rattle.parser.specs.Tree.{Sort, Sort.expression, Sort.statement, Sort.statements, Part, Expression}
+use Rattle.parser.specs.Tree.{Sort, Sort.expression, Sort.statements, Part, Expression}
 use Rattle.parser.specs.Stream.{kind_at, start_at, Level, Level.conjunction, Level.comparison, Level.sum, Level.product, operator_of}
 use Rattle.parser.specs.Parse.{Parsed, ok, bad, Mode, operation, operations, operand, unary, postfix, primary, suffixes, argument_list}
 use Rattle.parser.specs.Parse.{some_arguments_lem, a_statement, statement_list, accepts, parse_as}

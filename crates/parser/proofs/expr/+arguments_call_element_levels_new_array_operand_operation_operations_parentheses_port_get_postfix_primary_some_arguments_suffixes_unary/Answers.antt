@@ -79,7 +79,7 @@ element-returns-in-Err t c =
 
 pub levels-returns-then-level-top : goal.levels-returns-then-level-top
 levels-returns-then-level-top t c =
-    levels-last c.args.level c.args.top c.requires.0.few c.requires.2 c.operations.ensures c.if-level-top.true
+    levels-last c.args.level c.args.top c.requires.0.few c.requires.2 c.operations-whole.ensures c.if-level-top.true
 
 pub levels-levels-requires : goal.levels-levels-requires
 levels-levels-requires t c = omega (arith, c.requires, c.if-level-top.false, c.in-Ok.ensures.within)

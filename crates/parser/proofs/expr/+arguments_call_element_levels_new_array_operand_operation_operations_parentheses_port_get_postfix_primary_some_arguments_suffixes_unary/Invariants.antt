@@ -1,5 +1,5 @@
 -- The proof of the cycle of calls on expressions. The measure is 16 for each token left, and the rank of the function.
--- What a return shows is a law of `Expressions` or `Postfix`; what a call or a sum asks is arithmetic, from `there` (a token is there) and `within-ok` (bounds of a callee's answer).
+-- What a return shows is a law of `Expressions` or `Postfix`; what a call or a sum asks is arithmetic, from `there` and `past` (a token is there) and the bounds of a callee's answer.
 use Prim.Native.Nat.{◌+◌, ◌*◌, ◌-◌}
 use Rattle.parser.proofs.expr.+arguments_call_element_levels_new_array_operand_operation_operations_parentheses_port_get_postfix_primary_some_arguments_suffixes_unary.Given as goal
 

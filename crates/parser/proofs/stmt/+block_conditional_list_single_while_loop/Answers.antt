@@ -1,7 +1,6 @@
 -- The proof of the cycle of calls on statements. The measure is 16 for each token left, and the rank of the function.
 -- What a return shows is a law of `Statements`; what a call asks is arithmetic, from `there` and `past` (a token is there) and the bounds of a callee's answer.
 use borrow.Author.Rules.{rules}
-use Prim.Native.Nat.{◌+◌}
 use mathlib.Core.Path.{refl, sym, ap, ◌∙◌}
 use native.Mathlib.Omega.{arith}
 use Rattle.lexer.specs.Kinds.{k_open_brace, is_name_lem}

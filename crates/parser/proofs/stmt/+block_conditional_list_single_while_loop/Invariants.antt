@@ -1,5 +1,5 @@
 -- The proof of the cycle of calls on statements. The measure is 16 for each token left, and the rank of the function.
--- What a return shows is a law of `Statements`; what a call asks is arithmetic, from `there` (a token is there) and `within-ok` and `follows-ok` (bounds of a callee's answer).
+-- What a return shows is a law of `Statements`; what a call asks is arithmetic, from `there` and `past` (a token is there) and the bounds of a callee's answer.
 use Prim.Native.Nat.{◌+◌, ◌*◌, ◌-◌}
 use Rattle.parser.proofs.stmt.+block_conditional_list_single_while_loop.Given as goal
 
