@@ -1,10 +1,10 @@
 -- Digits and lines of a text, as the code reads them.
-use Rattle.std.specs.Prelude.{ℕ, zero, suc, ◌+◌, ◌*◌, ◌/◌, ◌%◌, ◌≤◌, ◌<◌, List, [], ◌∷◌, ◌≡◌, length, get_or, drop, ltb}
+use Rattle.std.specs.Prelude.{ℕ, zero, suc, ◌+◌, ◌*◌, ◌/◌, ◌%◌, ◌≤◌, ◌<◌, List, [], ◌∷◌, ◌≡◌, length, get_or, drop, ltb, Option as Maybe, Some, Result, Ok, Err, unwrap_or}
 use Rattle.std.proofs.Math.Option.{Option, none, some}
-use Rattle.base.specs.Choice.{if◌then◌otherwise◌, option}
+use Rattle.base.specs.Choice.{option}
 use Rattle.base.specs.Outcome.{accepted, refused}
 use Rattle.frames.specs.Lines.{Line, line, digit_of, digits, single_line, lines}
-use Rattle.frames.specs.Machine.{Turn, bad, entered}
+use Rattle.frames.specs.Machine.{Turn, ends, entered}
 use Rattle.base.specs.Word.{modulus}
 use Rattle.base.specs.Codes.{other_form}
 use Rattle.frames.specs.Numbers.{line_bytes}
@@ -49,9 +49,15 @@ lines_at s (suc n) at = unpacked (word_at s at) ∷ lines_at s n (at + line_byte
 abbrev pub lines_in : List ℕ → List Line
 lines_in s = lines_at s (length s / line_bytes) 0
 
+-- what is read is followed by a turn; where nothing is, the run ends with a number
+abbrev pub followed : {A : Type 0} → Result A ℕ → (A → Turn) → Turn
+followed (Ok v) k = k v
+followed (Err n) k = ends n
+
 -- the line from a place on
-pub record LineAt (s : List ℕ) (at r : ℕ) : Type 0 where
-  pub is : r ≡ word_at s at
+pub record LineAt (s : List ℕ) (at : ℕ) (r : Maybe ℕ) : Type 0 where
+  pub is : unwrap_or r without_line ≡ word_at s at
+  pub small : (v : ℕ) → r ≡ Some v → v < without_line
 
 -- a text of the form, and its first lines in words
 pub record Decoded (s words : List ℕ) : Type 0 where
@@ -60,16 +66,20 @@ pub record Decoded (s words : List ℕ) : Type 0 where
   pub first : (i : ℕ) → i < decoded_lines → i < length s / line_bytes → get_or words i 0 ≡ word_at s (line_bytes * i)
   pub small : (i : ℕ) → i < length s / line_bytes → word_at s (line_bytes * i) < without_line
 
--- the text's length where all of it is of the form, else the first byte of the first line that is not
-pub record Form (s words : List ℕ) (r : ℕ) : Type 0 where
-  pub fine : length s ≤ r → Decoded s words
-  pub other : r < length s → lines s ≡ refused other_form r
+-- the same, and how many lines there are
+abbrev pub Counted : (s words : List ℕ) → (count : ℕ) → Type 0
+Counted s words n = Decoded s words × (n ≡ length s / line_bytes)
+
+-- whether all lines are of the form, else the first byte of the first line that is not
+pub record Form (s words : List ℕ) (r : Result (Unit {0}) ℕ) : Type 0 where
+  pub fine : (u : Unit {0}) → r ≡ Ok u → Decoded s words
+  pub other : (at : ℕ) → r ≡ Err at → (lines s ≡ refused other_form at) × (at < length s)
 
 -- line number i in one word
 pub record FrameAt (s : List ℕ) (i r : ℕ) : Type 0 where
   pub is : r ≡ word_at s (line_bytes * i)
   pub small : r < without_line
 
--- the operand of the `entry` at a line, or 4294967296
-pub record EntryAt (s : List ℕ) (i r : ℕ) : Type 0 where
-  pub says : (k : ℕ → Turn) → entered (lines_in s) i k ≡ if ltb r modulus then (λ _. k r) otherwise λ _. bad
+-- the operand of the `entry` at a line
+pub record EntryAt (s : List ℕ) (i : ℕ) (r : Result ℕ ℕ) : Type 0 where
+  pub says : (k : ℕ → Turn) → entered (lines_in s) i k ≡ followed r k

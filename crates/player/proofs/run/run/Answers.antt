@@ -1,15 +1,12 @@
 -- `player::run::run` meets its contract.
-use Rattle.player.proofs.Parts.{is-admitted, run-refused, run-form, run-begun}
+use Rattle.player.proofs.Parts.{run-refused, run-form, run-begun}
 use Rattle.player.proofs.run.run.Goals as goal
 
-pub returns-then-number-gt0 : goal.returns-then-number-gt0
-returns-then-number-gt0 c = search run-refused
+pub returns-in-Err : goal.returns-in-Err
+returns-in-Err c = run-refused c.in-Err.ensures c.refusal.ensures
 
-pub returns-then-at-text : goal.returns-then-at-text
-returns-then-at-text c = search run-form
-
-pub begin-requires : goal.begin-requires
-begin-requires c = search is-admitted
+pub returns-in-Err-form : goal.returns-in-Err-form
+returns-in-Err-form c = run-form c.in_default.ensures c.in-Err-form.ensures c.refusal-in-Err-form.ensures
 
 pub returns : goal.returns
-returns c = search run-begun
+returns c = run-begun c.in_default.ensures c.in_default-form.ensures c.begin.ensures
