@@ -26,8 +26,11 @@ use Rattle.reader.specs.promises.Spans.{Spans}
 use Rattle.reader.specs.laws.SpanLaws.{inside}
 use Rattle.typesystem.specs.ClassTable.{Found, Context, chain, method_of}
 use Rattle.typesystem.specs.Judge.{judge, must, receiver, arity, invocation}
-use Rattle.lookup.specs.declared.answer.Judged.{Judged}
-use Rattle.lookup.specs.declared.answer.Judged.TheVariants.{Fine, Refused}
+use Rattle.std.specs.Prelude.{Result, Ok, Err}
+use Rattle.base.specs.declared.refusal.Reason.TheVariants as reason
+use Rattle.base.specs.declared.refusal.Refusal.{Refusal}
+use Rattle.base.specs.promises.Refusals.{number_of, refusal}
+use Rattle.lookup.specs.promises.Answers.{Judged, Typed}
 use Rattle.lookup.specs.promises.HeldClasses.{word_at, NameNumber, MaybeNumber, no_name, a-name, no_type, VariablesHeld, more-variables}
 use Rattle.lookup.specs.promises.HeldClasses.{MethodHeld, code-int, code-boolean, code_fixed, code-class, Codes, code-plain}
 use Rattle.lookup.specs.promises.HeldClasses.{code-array, ListedAt, int_number, boolean_number, number_of_fixed, array_mark}
@@ -35,7 +38,7 @@ use Rattle.lookup.specs.laws.HeldLaws.{word_in, row-there}
 use Rattle.lookup.specs.promises.Lookups.{TypeOf, Knows, Fits, row_found, FindsMethod}
 use Rattle.lookup.specs.laws.ChainLaws.{found-stands}
 use Rattle.lookup.specs.laws.VariableLaws.{typed-some, typed-none}
-use Rattle.lookup.specs.promises.Answers.{as_judged, as_judged-fine, as_judged-refused, Judges, well, ill}
+use Rattle.lookup.specs.promises.Answers.{told, told-fine, told-refused, Judges, well, ill}
 use Rattle.lookup.specs.promises.Shows.{PartAt, Form, a_variable, a_new_array, a_new_object, a_binary, an_element, a_length, a_call_shown}
 use Rattle.lookup.specs.promises.Shows.{a_literal, a_fixed_literal, a_truth, a_this, form_atom, form_compound, form_e, form_at, GoesOn}
 use Rattle.lookup.specs.promises.Shows.{one-more-argument, shows-literal, shows-fixed-literal, shows-truth, shows-variable, shows-this}
@@ -46,7 +49,7 @@ use Rattle.bodies.specs.declared.scope.Scope.{Scope}
 use Rattle.bodies.specs.promises.Scoping.{InScope, PartIn, NameTyped}
 use Rattle.bodies.specs.promises.OperatorPost.{OperationPost}
 use Rattle.bodies.specs.promises.ExpressionPost.{Invoked, NamePost, ThisPost, NodeJudged, NodePost, AtomPost, CreationPost}
-use Rattle.bodies.specs.promises.ExpressionPost.{DottedPost, ExpressionPost, OperandPost, TypedPost, typed-fine, typed-refused, ArrayPost, NewArrayPost}
+use Rattle.bodies.specs.promises.ExpressionPost.{DottedPost, ExpressionPost, OperandPost, ArrayPost, NewArrayPost}
 use Rattle.bodies.specs.promises.ExpressionPost.{LengthPost, InvocationPost, ArgumentsPost}
 use Rattle.bodies.specs.promises.ExpressionPost.{ObjectPost, SameCount}
 use Rattle.bodies.proofs.PartLaws.{judges-fine, judges-refused, judged-fine, judged-refused, goes, halts, plain_code, array-code}
@@ -54,7 +57,7 @@ use Rattle.bodies.proofs.PartLaws.{array-fine, array-refused, few-tokens}
 use Rattle.bodies.proofs.PartLaws.{one_more, seen-in, start_of}
 
 -- a form by another name
-formed : {tab : List ℕ} {s : Scope} {F H : Form} {first end row : ℕ} {r : Judged} → F ≡ H → NodePost tab s F first end row r
+formed : {tab : List ℕ} {s : Scope} {F H : Form} {first end row : ℕ} {r : Typed} → F ≡ H → NodePost tab s F first end row r
     → NodePost tab s H first end row r
 formed {tab} {s} {first = first} {end = end} {row = row} {r = r} e f = subst (λ (J : Form). NodePost tab s J first end row r) e f
 
@@ -62,7 +65,7 @@ formed {tab} {s} {first = first} {end = end} {row = row} {r = r} e f = subst (λ
 
 module _ {tab : List ℕ} {s : Scope} {row : ℕ} where
   module _ {x t : ℕ} (e₂ : x ≡ word_at tab c_number row) (h : NameTyped tab s x t) where
-    pub name-known : t < no_type → NamePost tab s row (Fine t)
+    pub name-known : t < no_type → NamePost tab s row (Ok t)
     name-known low =
         record {
           says = λ ts G Γ i p y st sp.
@@ -70,31 +73,31 @@ module _ {tab : List ℕ} {s : Scope} {row : ℕ} where
               rw w.1 (well w.2);
         }
 
-    pub name-unknown : no_type ≤ t → {at₃ : ℕ} → at₃ ≡ word_at tab c_begin row → NamePost tab s row (Refused name_unknown at₃)
+    pub name-unknown : no_type ≤ t → {at₃ : ℕ} → at₃ ≡ word_at tab c_begin row → NamePost tab s row (refusal reason.NameUnknown at₃)
     name-unknown high e₃ =
         record {
           says = λ ts G Γ i p y st sp. rw (typed-none (few-tokens i) high (h.says ts G Γ i y (rw e₂ sp)), e₃, st) ill;
         }
 
-  pub this-main : {at₃ : ℕ} → absent ≤ s.owner → at₃ ≡ word_at tab c_begin row → ThisPost tab s row (Refused this_in_main at₃)
+  pub this-main : {at₃ : ℕ} → absent ≤ s.owner → at₃ ≡ word_at tab c_begin row → ThisPost tab s row (refusal reason.ThisInMain at₃)
   unfolding judge
   this-main {at₃} far e₃ = record { says = λ ts G Γ i p st. go (few-tokens i) Γ.owner i.declarer (sym st ∙ sym e₃) }
     where
       go : {ts : List Token} → length ts ≤ tokens_most → {p : ℕ} (o : Option (List ℕ)) → MaybeNumber ts o s.owner → p ≡ at₃
-          → Judges ts (option o (refused this_in_main p) λ c. accepted (plain (class c))) (Refused this_in_main at₃)
+          → Judges ts (option o (refused this_in_main p) λ c. accepted (plain (class c))) (refusal reason.ThisInMain at₃)
       go few none (no_name q) z = rw z ill
       go few (some c) (a-name sp) z = absurd (omega (arith, sp.there))
 
-  pub this-object : s.owner < absent → ThisPost tab s row (Fine s.owner)
+  pub this-object : s.owner < absent → ThisPost tab s row (Ok s.owner)
   unfolding judge
   this-object near = record { says = λ ts G Γ i p st. go p.start Γ.owner i.declarer }
     where
       go : {ts : List Token} (p : ℕ) (o : Option (List ℕ)) → MaybeNumber ts o s.owner
-          → Judges ts (option o (refused this_in_main p) λ c. accepted (plain (class c))) (Fine s.owner)
+          → Judges ts (option o (refused this_in_main p) λ c. accepted (plain (class c))) (Ok s.owner)
       go p none (no_name q) = absurd (omega arith)
       go p (some c) (a-name sp) = well (code-plain (code-class sp))
 
-module _ {tab : List ℕ} {s : Scope} {kind row : ℕ} {r : Judged} where
+module _ {tab : List ℕ} {s : Scope} {kind row : ℕ} {r : Typed} where
   -- what is answered to a form is answered to a kind of that form
   atom : {F : Form} → F ≡ form_atom kind → ((first end : ℕ) → NodeJudged tab s F first end row r) → AtomPost tab s kind row r
   atom f g = record { says = λ first end. (formed f (record { says = g first end })).says }
@@ -115,37 +118,37 @@ module _ {tab : List ℕ} {s : Scope} {kind row : ℕ} {r : Judged} where
       go : (first end : ℕ) → NodeJudged tab s a_variable first end row r
       go first end ts G Γ i e (shows-variable {p = p} {x = x} st sp) = f.says ts G Γ i p x st sp
 
-truths : {tab : List ℕ} {s : Scope} {row : ℕ} (b : Bool) (first end : ℕ) → NodeJudged tab s (a_truth b) first end row (Fine boolean_number)
+truths : {tab : List ℕ} {s : Scope} {row : ℕ} (b : Bool) (first end : ℕ) → NodeJudged tab s (a_truth b) first end row (Ok boolean_number)
 unfolding judge
 truths b first end ts G Γ i e (shows-truth st) = well (code-plain (code-boolean refl))
 
 module _ {tab : List ℕ} {s : Scope} {kind row : ℕ} where
-  pub atom-literal : kind ≡ k_literal → AtomPost tab s kind row (Fine int_number)
+  pub atom-literal : kind ≡ k_literal → AtomPost tab s kind row (Ok int_number)
   unfolding form_atom judge
   atom-literal is = atom (sym (ap form_atom is)) go
     where
-      go : (first end : ℕ) → NodeJudged tab s a_literal first end row (Fine int_number)
+      go : (first end : ℕ) → NodeJudged tab s a_literal first end row (Ok int_number)
       go first end ts G Γ i e (shows-literal st v) = well (code-plain (code-int refl))
 
-  pub atom-fixed-literal : kind ≡ k_fixed_literal → AtomPost tab s kind row (Fine number_of_fixed)
+  pub atom-fixed-literal : kind ≡ k_fixed_literal → AtomPost tab s kind row (Ok number_of_fixed)
   unfolding form_atom judge
   atom-fixed-literal is = atom (sym (ap form_atom is)) go
     where
-      go : (first end : ℕ) → NodeJudged tab s a_fixed_literal first end row (Fine number_of_fixed)
+      go : (first end : ℕ) → NodeJudged tab s a_fixed_literal first end row (Ok number_of_fixed)
       go first end ts G Γ i e (shows-fixed-literal st v) = well (code-plain (code_fixed refl))
 
-  pub atom-true : kind ≡ k_true → AtomPost tab s kind row (Fine boolean_number)
+  pub atom-true : kind ≡ k_true → AtomPost tab s kind row (Ok boolean_number)
   unfolding form_atom
   atom-true is = atom (sym (ap form_atom is)) (truths true)
 
-  pub atom-false : kind ≡ k_false → AtomPost tab s kind row (Fine boolean_number)
+  pub atom-false : kind ≡ k_false → AtomPost tab s kind row (Ok boolean_number)
   unfolding form_atom
   atom-false is = atom (sym (ap form_atom is)) (truths false)
 
 -- `new C()`
 
 module _ {tab : List ℕ} {n row x : ℕ} (e₂ : x ≡ word_at tab c_number (row + 1)) {b : Bool} (f : Knows tab n x b) where
-  pub object-known : b ≡ true → ObjectPost tab n row (Fine x)
+  pub object-known : b ≡ true → ObjectPost tab n row (Ok x)
   unfolding judge
   object-known is =
       record {
@@ -154,7 +157,7 @@ module _ {tab : List ℕ} {n row x : ℕ} (e₂ : x ≡ word_at tab c_number (ro
             rw (sym (f.says ts G w (plain (class c.text)) k) ∙ is) (well k);
       }
 
-  pub object-unknown : b ≡ false → {at₁ : ℕ} → at₁ ≡ word_at tab c_start (row + 1) → ObjectPost tab n row (Refused type_unknown at₁)
+  pub object-unknown : b ≡ false → {at₁ : ℕ} → at₁ ≡ word_at tab c_start (row + 1) → ObjectPost tab n row (refusal reason.TypeUnknown at₁)
   unfolding judge
   object-unknown is e₁ =
       record {
@@ -235,19 +238,19 @@ module _ {tab : List ℕ} {left a p : ℕ} where
 -- EXPRESSIONS
 
 module _ {tab : List ℕ} {s : Scope} {first end row : ℕ} where
-  pub expression-before : row < first → {n p : ℕ} → ExpressionPost tab s first end row (Refused n p)
+  pub expression-before : row < first → {z : Refusal} → ExpressionPost tab s first end row (Err z)
   expression-before low =
       record { among = λ is. apart (cc); says = λ ts G Γ i e h. absurd (omega (arith, (inside e h.within).low, h.at)) }
 
-  pub expression-behind : end ≤ row → {n p : ℕ} → ExpressionPost tab s first end row (Refused n p)
+  pub expression-behind : end ≤ row → {z : Refusal} → ExpressionPost tab s first end row (Err z)
   expression-behind high =
       record { among = λ is. apart (cc); says = λ ts G Γ i e h. absurd (omega (arith, (inside e h.within).high, h.at)) }
 
-  module _ (low : first ≤ row) (high : row < end) {k : ℕ} (kind : k ≡ kind_in_table tab s.tokens row) {r : Judged} where
+  module _ (low : first ≤ row) (high : row < end) {k : ℕ} (kind : k ≡ kind_in_table tab s.tokens row) {r : Typed} where
     -- the kinds tell the form
-    told : {F : Form} → form_e k (kind_in_table tab s.tokens (row + 1)) (kind_in_table tab s.tokens (row + 2)) ≡ F
+    by_kinds : {F : Form} → form_e k (kind_in_table tab s.tokens (row + 1)) (kind_in_table tab s.tokens (row + 2)) ≡ F
         → NodeJudged tab s F first end row r → ExpressionPost tab s first end row r
-    told f g =
+    by_kinds f g =
         record {
           among = λ is. record { low = low; high = high };
           says = λ ts G Γ i e h. g ts G Γ i e (seen-in i first end (by kind ∙ f) e h);
@@ -261,11 +264,11 @@ module _ {tab : List ℕ} {s : Scope} {first end row : ℕ} where
     alone : (k' : ℕ) → k ≡ k'
         → NodeJudged tab s (form_e k' (kind_in_table tab s.tokens (row + 1)) (kind_in_table tab s.tokens (row + 2))) first end row r
         → ExpressionPost tab s first end row r
-    alone k' is g = told (ap (λ (j : ℕ). form_e j (kind_in_table tab s.tokens (row + 1)) (kind_in_table tab s.tokens (row + 2))) is) g
+    alone k' is g = by_kinds (ap (λ (j : ℕ). form_e j (kind_in_table tab s.tokens (row + 1)) (kind_in_table tab s.tokens (row + 2))) is) g
 
     pub expression-atom : {a : Bool} → a ≡ is_atom_lem k → a ≡ true → AtomPost tab s k row r → ExpressionPost tab s first end row r
     unfolding form_e
-    expression-atom ea is f = told (rw (sym ea ∙ is)) (f.says first end)
+    expression-atom ea is f = by_kinds (rw (sym ea ∙ is)) (f.says first end)
 
     pub expression-new : k ≡ k_new → CreationPost tab s first end row r → ExpressionPost tab s first end row r
     unfolding form_e is_atom_lem is_name_lem
@@ -283,17 +286,21 @@ module _ {tab : List ℕ} {s : Scope} {first end row : ℕ} where
         → (k ≡ k_open_bracket → ⊥) → NodePost tab s a_binary first end row r → ExpressionPost tab s first end row r
     unfolding form_e form_compound
     expression-binary ea other n₁ n₂ n₃ n₄ n₅ f =
-        told (rw (sym ea ∙ other, ne_eqb k k_new n₁, ne_eqb k k_dot n₂, ne_eqb k k_not n₃, ne_eqb k k_port n₄, ne_eqb k k_open_bracket n₅)) f.says
+        by_kinds (rw (sym ea ∙ other, ne_eqb k k_new n₁, ne_eqb k k_dot n₂, ne_eqb k k_not n₃, ne_eqb k k_port n₄, ne_eqb k k_open_bracket n₅)) f.says
 
--- a last part that must fit, of a node with a type of its own
+-- the answer for a node by that for its last part, which must fit: the node has a type of its own, unless the part is refused
+pub data LastPart (t : ℕ) (part : Judged) : Typed → Type 0 where
+  last-fine : part ≡ Ok tt → LastPart t part (Ok t)
+  last-refused : {z : Refusal} → part ≡ Err z → LastPart t part (Err z)
+
 module _ {tab : List ℕ} {s : Scope} {first end row want answer : ℕ} {v : Judged} (f : OperandPost tab s first end row want v) where
-  last : {r : Judged} → TypedPost answer v r → (ts : List Token) (G : List Class) (Γ : Context) → InScope tab ts G Γ s → (e : Expression)
+  last : {r : Typed} → LastPart answer v r → (ts : List Token) (G : List Class) (Γ : Context) → InScope tab ts G Γ s → (e : Expression)
       → PartIn tab ts row first end e → (t u : Ty) → Codes ts t want → Codes ts u answer
       → Judges ts (judge G Γ e >>= λ v. must G e t v >>= λ _. accepted u) r
-  last (typed-fine is) ts G Γ i e h t u c d =
+  last (last-fine is) ts G Γ i e h t u c d =
       judged-fine (goes (judge G Γ e) (must G e t) (accepted u) (f.says ts G Γ i e h t c) is) d
-  last (typed-refused is) ts G Γ i e h t u c d =
-      judged-refused (halts (judge G Γ e) (must G e t) (accepted u) (f.says ts G Γ i e h t c) is)
+  last (last-refused {z = z} is) ts G Γ i e h t u c d =
+      judged-refused z (halts (judge G Γ e) (must G e t) (accepted u) (f.says ts G Γ i e h t c) is)
 
 -- the kinds of a node with one part, which is of its own type, and the number of that type
 pub data Unary : (kind want : ℕ) → Type 0 where
@@ -302,12 +309,12 @@ pub data Unary : (kind want : ℕ) → Type 0 where
 
 pub expression-unary : {k' want : ℕ} → Unary k' want → {tab : List ℕ} {s : Scope} {first end row k : ℕ} → first ≤ row → row < end
     → k ≡ kind_in_table tab s.tokens row → k ≡ k' → {part : ℕ} → part ≡ word_at tab c_first row → {after end' : ℕ} → after ≡ row + 1 → end' ≡ end
-    → {v r : Judged} → OperandPost tab s after end' part want v → TypedPost want v r → ExpressionPost tab s first end row r
+    → {v : Judged} {r : Typed} → OperandPost tab s after end' part want v → LastPart want v r → ExpressionPost tab s first end row r
 unfolding form_e form_compound is_atom_lem is_name_lem judge
 expression-unary {k'} u {tab} {s} {first} {end} {row} from below kind is {part} e₄ {after} {end'} low high {v} {r} f g =
     alone from below kind k' is (go u f g)
   where
-    go : {k' want : ℕ} → Unary k' want → OperandPost tab s after end' part want v → TypedPost want v r
+    go : {k' want : ℕ} → Unary k' want → OperandPost tab s after end' part want v → LastPart want v r
         → NodeJudged tab s (form_e k' (kind_in_table tab s.tokens (row + 1)) (kind_in_table tab s.tokens (row + 2))) first end row r
     go of-not f g ts G Γ i t (shows-negation {e = e} st x) =
         last f g ts G Γ i e (rw (e₄, low, high) x) (plain boolean) (plain boolean) (code-plain (code-boolean refl)) (code-plain (code-boolean refl))
@@ -316,9 +323,9 @@ expression-unary {k'} u {tab} {s} {first} {end} {row} from below kind is {part} 
 
 -- PARTS THAT MUST FIT
 
-module _ {tab : List ℕ} {s : Scope} {first end row want : ℕ} {v : Judged} (f : ExpressionPost tab s first end row v) where
-  module _ {t : ℕ} (is : v ≡ Fine t) {b : Bool} (g : Fits tab s.tokens s.classes t want b) where
-    pub operand-fits : b ≡ true → OperandPost tab s first end row want (Fine 0)
+module _ {tab : List ℕ} {s : Scope} {first end row want : ℕ} {v : Typed} (f : ExpressionPost tab s first end row v) where
+  module _ {t : ℕ} (is : v ≡ Ok t) {b : Bool} (g : Fits tab s.tokens s.classes t want b) where
+    pub operand-fits : b ≡ true → OperandPost tab s first end row want (Ok tt)
     operand-fits yes' =
         record {
           among = λ _. f.among is;
@@ -327,7 +334,7 @@ module _ {tab : List ℕ} {s : Scope} {first end row want : ℕ} {v : Judged} (f
               rw (w.1, sym (g.says ts G i.world i.many w.0 u w.2 c) ∙ yes');
         }
 
-    pub operand-wrong : b ≡ false → {at₃ : ℕ} → at₃ ≡ word_at tab c_begin row → OperandPost tab s first end row want (Refused type_wrong at₃)
+    pub operand-wrong : b ≡ false → {at₃ : ℕ} → at₃ ≡ word_at tab c_begin row → OperandPost tab s first end row want (refusal reason.WrongType at₃)
     operand-wrong no' e₃ =
         record {
           among = λ z. apart (cc);
@@ -336,12 +343,12 @@ module _ {tab : List ℕ} {s : Scope} {first end row want : ℕ} {v : Judged} (f
               rw (w.1, sym (g.says ts G i.world i.many w.0 u w.2 c) ∙ no', e₃, start_of i first end h);
         }
 
-  pub operand-refused : {n p : ℕ} → v ≡ Refused n p → OperandPost tab s first end row want (Refused n p)
+  pub operand-refused : {z : Refusal} → v ≡ Err z → OperandPost tab s first end row want (Err z)
   operand-refused is = record { among = λ z. apart (cc); says = λ ts G Γ i e h u c. rw (judges-refused (f.says ts G Γ i e h) is) }
 
 -- an expression that fits lies in the range
-module _ {tab : List ℕ} {s : Scope} {first end row want : ℕ} {v : Judged} (f : OperandPost tab s first end row want v) {w : ℕ}
-    (is : v ≡ Fine w) where
+module _ {tab : List ℕ} {s : Scope} {first end row want : ℕ} {v : Judged} (f : OperandPost tab s first end row want v)
+    (is : v ≡ Ok tt) where
   pub operand_low : first ≤ row
   operand_low = (f.among is).low
 
@@ -350,12 +357,12 @@ module _ {tab : List ℕ} {s : Scope} {first end row want : ℕ} {v : Judged} (f
 
 -- ARRAYS
 
-module _ {tab : List ℕ} {s : Scope} {first end row : ℕ} {v : Judged} (f : ExpressionPost tab s first end row v) where
-  pub array-unjudged : {n p : ℕ} → v ≡ Refused n p → ArrayPost tab s first end row (Refused n p)
+module _ {tab : List ℕ} {s : Scope} {first end row : ℕ} {v : Typed} (f : ExpressionPost tab s first end row v) where
+  pub array-unjudged : {z : Refusal} → v ≡ Err z → ArrayPost tab s first end row (Err z)
   array-unjudged is = record { says = λ ts G Γ i e h. rw (judges-refused (f.says ts G Γ i e h) is) ill }
 
-  module _ {t : ℕ} (is : v ≡ Fine t) where
-    pub array-wrong : t < array_mark → {at₃ : ℕ} → at₃ ≡ word_at tab c_begin row → ArrayPost tab s first end row (Refused type_wrong at₃)
+  module _ {t : ℕ} (is : v ≡ Ok t) where
+    pub array-wrong : t < array_mark → {at₃ : ℕ} → at₃ ≡ word_at tab c_begin row → ArrayPost tab s first end row (refusal reason.WrongType at₃)
     array-wrong low e₃ =
         record {
           says = λ ts G Γ i e h.
@@ -364,7 +371,7 @@ module _ {tab : List ℕ} {s : Scope} {first end row : ℕ} {v : Judged} (f : Ex
               rw (w.1, u.1, e₃, start_of i first end h) ill;
         }
 
-    pub array-right : array_mark ≤ t → ArrayPost tab s first end row (Fine (t - array_mark))
+    pub array-right : array_mark ≤ t → ArrayPost tab s first end row (Ok (t - array_mark))
     array-right high =
         record {
           says = λ ts G Γ i e h.
@@ -376,17 +383,17 @@ module _ {tab : List ℕ} {s : Scope} {first end row : ℕ} {v : Judged} (f : Ex
 -- `a[i]` and `a.length`
 
 module _ {tab : List ℕ} {s : Scope} {first row left first' until : ℕ} (e₄ : left ≡ word_at tab c_first row) (low : first' ≡ first)
-    (high : until ≡ row) {v : Judged} (f : ArrayPost tab s first' until left v) where
-  pub element-first : {n p : ℕ} → v ≡ Refused n p → {end : ℕ} → NodePost tab s an_element first end row (Refused n p)
+    (high : until ≡ row) {v : Typed} (f : ArrayPost tab s first' until left v) where
+  pub element-first : {z : Refusal} → v ≡ Err z → {end : ℕ} → NodePost tab s an_element first end row (Err z)
   unfolding judge
-  element-first {n} {p} is {end} = record { says = go }
+  element-first {z = z} is {end} = record { says = go }
     where
-      go : NodeJudged tab s an_element first end row (Refused n p)
+      go : NodeJudged tab s an_element first end row (Err z)
       go ts G Γ i e (shows-element {a = a} {i = j} st x y) =
-          judged-refused (array-refused (place_e a).start _ (judge G Γ a) (f.says ts G Γ i a (rw (e₄, low, high) x)) is)
+          judged-refused z (array-refused (place_e a).start _ (judge G Γ a) (f.says ts G Γ i a (rw (e₄, low, high) x)) is)
 
-  pub element-second : {w : ℕ} → v ≡ Fine w → {right : ℕ} → right ≡ word_at tab c_second row → {end after end' : ℕ} → after ≡ row + 1 → end' ≡ end
-      → {u r : Judged} → OperandPost tab s after end' right int_number u → TypedPost w u r → NodePost tab s an_element first end row r
+  pub element-second : {w : ℕ} → v ≡ Ok w → {right : ℕ} → right ≡ word_at tab c_second row → {end after end' : ℕ} → after ≡ row + 1 → end' ≡ end
+      → {u : Judged} {r : Typed} → OperandPost tab s after end' right int_number u → LastPart w u r → NodePost tab s an_element first end row r
   unfolding judge
   element-second is e₅ {end} low' high' {r = r} g d = record { says = go }
     where
@@ -396,32 +403,28 @@ module _ {tab : List ℕ} {s : Scope} {first row left first' until : ℕ} (e₄ 
           (f.says ts G Γ i a (rw (e₄, low, high) x)) is in
           rw w.1 (last g d ts G Γ i j (rw (e₅, low', high') y) (plain int) (plain w.0) (code-plain (code-int refl)) w.2)
 
-  length-refused : {n p : ℕ} → v ≡ Refused n p → LengthPost tab s first row (Refused n p)
+  pub length-refused : {z : Refusal} → v ≡ Err z → LengthPost tab s first row (Err z)
   unfolding judge
-  length-refused {n} {p} is = record { says = λ end. go end }
+  length-refused {z = z} is = record { says = λ end. go end }
     where
-      go : (end : ℕ) → NodeJudged tab s a_length first end row (Refused n p)
+      go : (end : ℕ) → NodeJudged tab s a_length first end row (Err z)
       go end ts G Γ i t (shows-length {e = e} st x) =
-          judged-refused (array-refused (place_e e).start _ (judge G Γ e) (f.says ts G Γ i e (rw (e₄, low, high) x)) is)
+          judged-refused z (array-refused (place_e e).start _ (judge G Γ e) (f.says ts G Γ i e (rw (e₄, low, high) x)) is)
 
-  length-fine : {w : ℕ} → v ≡ Fine w → LengthPost tab s first row (Fine int_number)
+  pub length-fine : {w : ℕ} → v ≡ Ok w → LengthPost tab s first row (Ok int_number)
   unfolding judge
   length-fine is = record { says = λ end. go end }
     where
-      go : (end : ℕ) → NodeJudged tab s a_length first end row (Fine int_number)
+      go : (end : ℕ) → NodeJudged tab s a_length first end row (Ok int_number)
       go end ts G Γ i t (shows-length {e = e} st x) =
           let w = array-fine (place_e e).start (λ _. accepted (plain int)) (judge G Γ e) (f.says ts G Γ i e (rw (e₄, low, high) x)) is in
           judged-fine w.1 (code-plain (code-int refl))
 
-  pub length-typed : {r : Judged} → TypedPost int_number v r → LengthPost tab s first row r
-  length-typed (typed-fine is) = length-fine is
-  length-typed (typed-refused is) = length-refused is
-
 -- `new T[e]`
 
 module _ {tab : List ℕ} {s : Scope} {end row t : ℕ} (type : TypeOf tab s.tokens (row + 1) t) {b : Bool} (f : Knows tab s.tokens t b) where
-  pub new-array-known : b ≡ true → {part : ℕ} → part ≡ word_at tab c_first row → {after end' : ℕ} → after ≡ row + 1 → end' ≡ end → {v r : Judged}
-      → OperandPost tab s after end' part int_number v → TypedPost t v r → NewArrayPost tab s end row r
+  pub new-array-known : b ≡ true → {part : ℕ} → part ≡ word_at tab c_first row → {after end' : ℕ} → after ≡ row + 1 → end' ≡ end → {v : Judged} {r : Typed}
+      → OperandPost tab s after end' part int_number v → LastPart t v r → NewArrayPost tab s end row r
   unfolding judge
   new-array-known is e₄ low high {r = r} g d = record { says = λ first. go first }
     where
@@ -431,11 +434,11 @@ module _ {tab : List ℕ} {s : Scope} {end row t : ℕ} (type : TypeOf tab s.tok
           rw (sym (f.says ts G i.world (array_of u.element) c) ∙ is)
           (last g d ts G Γ i x (rw (e₄, low, high) y) (plain int) (array_of u.element) (code-plain (code-int refl)) c)
 
-  pub new-array-unknown : b ≡ false → {at₁ : ℕ} → at₁ ≡ word_at tab c_start (row + 1) → NewArrayPost tab s end row (Refused type_unknown at₁)
+  pub new-array-unknown : b ≡ false → {at₁ : ℕ} → at₁ ≡ word_at tab c_start (row + 1) → NewArrayPost tab s end row (refusal reason.TypeUnknown at₁)
   unfolding judge
   new-array-unknown is {at₁} e₁ = record { says = λ first. go first }
     where
-      go : (first : ℕ) → NodeJudged tab s a_new_array first end row (Refused type_unknown at₁)
+      go : (first : ℕ) → NodeJudged tab s a_new_array first end row (refusal reason.TypeUnknown at₁)
       go first ts G Γ i e (shows-new-array {u = u} {e = x} st m q y) =
           let c = type.says ts i.world.tokens (row + 1) refl (array_of u.element) m in
           rw (sym (f.says ts G i.world (array_of u.element) c) ∙ is, sym q ∙ sym e₁) ill
@@ -447,24 +450,24 @@ pub data LeftFirst : Form → Type 0 where
   of-call : LeftFirst a_call_shown
 
 pub left-refused : {F : Form} → LeftFirst F → {tab : List ℕ} {s : Scope} {first end row left : ℕ} → left ≡ word_at tab c_first row
-    → {first' until : ℕ} → first' ≡ first → until ≡ row → {v : Judged} → ExpressionPost tab s first' until left v → {n p : ℕ} → v ≡ Refused n p → NodePost tab s F first end row (Refused n p)
+    → {first' until : ℕ} → first' ≡ first → until ≡ row → {v : Typed} → ExpressionPost tab s first' until left v → {z : Refusal} → v ≡ Err z → NodePost tab s F first end row (Err z)
 unfolding judge
-left-refused l {tab} {s} {first} {end} {row} e₄ low high f {n} {p} is = record { says = go l }
+left-refused l {tab} {s} {first} {end} {row} e₄ low high f {z = z} is = record { says = go l }
   where
-    go : {F : Form} → LeftFirst F → NodeJudged tab s F first end row (Refused n p)
-    go of-binary ts G Γ i e (shows-binary {l = l} st k x y) = judged-refused (rw (judges-refused (f.says ts G Γ i l (rw (e₄, low, high) x)) is))
-    go of-call ts G Γ i t (shows-call {e = e} st sp q x y) = judged-refused (rw (judges-refused (f.says ts G Γ i e (rw (e₄, low, high) x)) is))
+    go : {F : Form} → LeftFirst F → NodeJudged tab s F first end row (Err z)
+    go of-binary ts G Γ i e (shows-binary {l = l} st k x y) = judged-refused z (rw (judges-refused (f.says ts G Γ i l (rw (e₄, low, high) x)) is))
+    go of-call ts G Γ i t (shows-call {e = e} st sp q x y) = judged-refused z (rw (judges-refused (f.says ts G Γ i e (rw (e₄, low, high) x)) is))
 
 -- OPERATIONS
 
 module _ {tab : List ℕ} {s : Scope} {first end row left first' until : ℕ} (e₄ : left ≡ word_at tab c_first row) (low : first' ≡ first)
-    (high : until ≡ row) {v : Judged} (f : ExpressionPost tab s first' until left v) where
-  module _ {t : ℕ} (is : v ≡ Fine t) {k : ℕ} (kind : k ≡ kind_in_table tab s.tokens row) {answer : ℕ} (g : OperationPost k t answer) where
-    pub binary-wrong : no_type ≤ answer → {at₃ : ℕ} → at₃ ≡ word_at tab c_begin left → NodePost tab s a_binary first end row (Refused type_wrong at₃)
+    (high : until ≡ row) {v : Typed} (f : ExpressionPost tab s first' until left v) where
+  module _ {t : ℕ} (is : v ≡ Ok t) {k : ℕ} (kind : k ≡ kind_in_table tab s.tokens row) {answer : ℕ} (g : OperationPost k t answer) where
+    pub binary-wrong : no_type ≤ answer → {at₃ : ℕ} → at₃ ≡ word_at tab c_begin left → NodePost tab s a_binary first end row (refusal reason.WrongType at₃)
     unfolding judge
     binary-wrong none' {at₃} e₃ = record { says = go }
       where
-        go : NodeJudged tab s a_binary first end row (Refused type_wrong at₃)
+        go : NodeJudged tab s a_binary first end row (refusal reason.WrongType at₃)
         go ts G Γ i e (shows-binary {o = o} {l = l} st is' x y) =
             let h : PartIn tab ts left first' until l = rw (e₄, low, high) x in
             let w = judges-fine (f.says ts G Γ i l h) is in
@@ -472,7 +475,7 @@ module _ {tab : List ℕ} {s : Scope} {first end row left first' until : ℕ} (e
             rw (w.1, z, e₃, start_of i first' until h) ill
 
     pub binary-right : answer < no_type → {right : ℕ} → right ≡ word_at tab c_second row → {after end' : ℕ} → after ≡ row + 1 → end' ≡ end
-        → {u r : Judged} → OperandPost tab s after end' right t u → TypedPost answer u r → NodePost tab s a_binary first end row r
+        → {u : Judged} {r : Typed} → OperandPost tab s after end' right t u → LastPart answer u r → NodePost tab s a_binary first end row r
     unfolding judge
     binary-right fine e₅ low' high' {r = r} h d = record { says = go }
       where
@@ -484,7 +487,7 @@ module _ {tab : List ℕ} {s : Scope} {first end row left first' until : ℕ} (e
 
 -- `new` AND `.`
 
-module _ {tab : List ℕ} {s : Scope} {first end row k : ℕ} {r : Judged} where
+module _ {tab : List ℕ} {s : Scope} {first end row k : ℕ} {r : Typed} where
   -- a form of which the code has read the kind that tells it from the other
   module _ (kind : k ≡ kind_in_table tab s.tokens (row + 2)) where
     third : {F : Form} → form_compound k_new (kind_in_table tab s.tokens (row + 1)) k ≡ F → NodeJudged tab s F first end row r
@@ -519,28 +522,28 @@ module _ {tab : List ℕ} {s : Scope} {first end row k : ℕ} {r : Judged} where
 -- CALLS
 
 module _ {tab : List ℕ} {s : Scope} {first end row left first' until : ℕ} (e₄ : left ≡ word_at tab c_first row) (low : first' ≡ first)
-    (high : until ≡ row) {v : Judged} (f : ExpressionPost tab s first' until left v) where
-  module _ {t : ℕ} (is : v ≡ Fine t) where
-    pub call-plain : int_number ≤ t → {at₃ : ℕ} → at₃ ≡ word_at tab c_begin left → NodePost tab s a_call_shown first end row (Refused type_wrong at₃)
+    (high : until ≡ row) {v : Typed} (f : ExpressionPost tab s first' until left v) where
+  module _ {t : ℕ} (is : v ≡ Ok t) where
+    pub call-plain : int_number ≤ t → {at₃ : ℕ} → at₃ ≡ word_at tab c_begin left → NodePost tab s a_call_shown first end row (refusal reason.WrongType at₃)
     unfolding judge
     call-plain other {at₃} e₃ = record { says = go }
       where
         pick : (ts : List Token) → length ts ≤ tokens_most → (e : Expression) → (place_e e).start ≡ at₃ → (u : Ty) → Codes ts u t
             → (k : List ℕ → Outcome Ty)
-            → Judges ts (receiver e u k) (Refused type_wrong at₃)
+            → Judges ts (receiver e u k) (refusal reason.WrongType at₃)
         pick ts few e z (plain int) c k = rw z ill
         pick ts few e z (plain boolean) c k = rw z ill
         pick ts few e z (plain fixed) c k = rw z ill
         pick ts few e z (plain (class d)) (code-plain (code-class sp)) k = absurd (omega (arith, sp.there))
         pick ts few e z (array_of u) c k = rw z ill
 
-        go : NodeJudged tab s a_call_shown first end row (Refused type_wrong at₃)
+        go : NodeJudged tab s a_call_shown first end row (refusal reason.WrongType at₃)
         go ts G Γ i t (shows-call {e = e} st sp q x y) =
             let h : PartIn tab ts left first' until e = rw (e₄, low, high) x in
             let w = judges-fine (f.says ts G Γ i e h) is in
             rw w.1 (pick ts (few-tokens i) e (sym (start_of i first' until h) ∙ sym e₃) w.0 w.2 _)
 
-    pub call-object : t < int_number → {after end' : ℕ} → after ≡ row + 1 → end' ≡ end → {r : Judged} → InvocationPost tab s after end' row t r
+    pub call-object : t < int_number → {after end' : ℕ} → after ≡ row + 1 → end' ≡ end → {r : Typed} → InvocationPost tab s after end' row t r
         → NodePost tab s a_call_shown first end row r
     unfolding judge
     call-object near low' high' {r} g = record { says = go }
@@ -601,7 +604,7 @@ module _ (tab : List ℕ) (s : Scope) (first end row c x f : ℕ) {ts : List Tok
 module _ {tab : List ℕ} {s : Scope} {first end row c x f : ℕ} (e₂ : x ≡ word_at tab c_number (row + 1))
     (finds : FindsMethod tab s.tokens s.classes c x f) where
   pub invocation-unknown : absent ≤ f → {at₁ : ℕ} → at₁ ≡ word_at tab c_start (row + 1)
-      → InvocationPost tab s first end row c (Refused method_unknown at₁)
+      → InvocationPost tab s first end row c (refusal reason.MethodUnknown at₁)
   invocation-unknown far {at₁} e₁ =
       record {
         says = λ ts G Γ i m es h name sp.
@@ -612,13 +615,13 @@ module _ {tab : List ℕ} {s : Scope} {first end row c x f : ℕ} (e₂ : x ≡ 
       go : {ts : List Token} {G : List Class} {Γ : Context} → InScope tab ts G Γ s → (m : Name) (count : ℕ)
           (k : List Variable → Outcome (Unit {0})) (o : Option Found)
           → ((F : Found) → o ≡ some F → MethodHeld tab s.tokens ts F.method)
-          → f ≡ row_found o → m.start ≡ at₁ → Judges ts (invocation m count k o) (Refused method_unknown at₁)
+          → f ≡ row_found o → m.start ≡ at₁ → Judges ts (invocation m count k o) (refusal reason.MethodUnknown at₁)
       go i m count k none st e z = rw z ill
       go i m count k (some F) st e z =
           absurd (omega (arith, e, row-there i.world.tokens F.method.name.row (st F refl).head.name.token.there))
 
   -- an invocation is answered where the method is there
-  found : (near : f < absent) (r : Judged)
+  found : (near : f < absent) (r : Typed)
       → ((ts : List Token) (G : List Class) (Γ : Context) (i : InScope tab ts G Γ s) (m : Name) (es : Part arguments)
       → Invoked tab ts first end row m es → (F : Found) → f ≡ F.method.name.row → MethodHeld tab s.tokens ts F.method
       → Judges ts (invocation m (arity es) (judge G Γ es) (some F)) r)
@@ -638,9 +641,9 @@ module _ {tab : List ℕ} {s : Scope} {first end row c x f : ℕ} (e₂ : x ≡ 
 
   module _ (near : f < absent) {given taken : ℕ} (e₅ : given ≡ word_at tab c_second row) (e₄ : taken ≡ word_at tab c_parameters f) {b : Bool}
       (same : SameCount tab s.tokens given taken b) (most : end ≤ s.tokens) where
-    pub invocation-count : b ≡ false → {at₁ : ℕ} → at₁ ≡ word_at tab c_start (row + 1) → InvocationPost tab s first end row c (Refused argument_count at₁)
+    pub invocation-count : b ≡ false → {at₁ : ℕ} → at₁ ≡ word_at tab c_start (row + 1) → InvocationPost tab s first end row c (refusal reason.ArgumentCount at₁)
     invocation-count no' {at₁} e₁ =
-        found near (Refused argument_count at₁) λ ts G Γ i m es h F z st.
+        found near (refusal reason.ArgumentCount at₁) λ ts G Γ i m es h F z st.
         let q = sym (counts tab s first end row c x f i taken near e₄ F z st given e₅ most same m es h) ∙ no' in
         rw (q, sym h.start ∙ sym e₁) ill
 
@@ -648,7 +651,7 @@ module _ {tab : List ℕ} {s : Scope} {first end row c x f : ℕ} (e₂ : x ≡ 
       -- there are as many arguments as parameters, and this is the answer for them
       answered : {ts : List Token} {G : List Class} {Γ : Context} → InScope tab ts G Γ s → (m : Name) (es : Part arguments)
           → Invoked tab ts first end row m es → (F : Found) → f ≡ F.method.name.row → MethodHeld tab s.tokens ts F.method
-          → (eqb (arity es) (length F.method.parameters) ≡ true) × (v ≡ as_judged (judge G Γ es F.method.parameters))
+          → (eqb (arity es) (length F.method.parameters) ≡ true) × (told v ≡ (judge G Γ es F.method.parameters))
       answered {ts} {G} {Γ} i m es h F z st =
           let q = sym (counts tab s first end row c x f i taken near e₄ F z st given e₅ most same m es h) ∙ yes' in (
             q,
@@ -657,34 +660,29 @@ module _ {tab : List ℕ} {s : Scope} {first end row c x f : ℕ} (e₂ : x ≡ 
                 (eqb-true (arity es) (length F.method.parameters) q),
           )
 
-      invocation-fine : {w : ℕ} → v ≡ Fine w → {t r : ℕ} → t ≡ word_at tab c_type f → TypeOf tab s.tokens t r
-          → InvocationPost tab s first end row c (Fine r)
+      pub invocation-fine : v ≡ Ok tt → {t r : ℕ} → t ≡ word_at tab c_type f → TypeOf tab s.tokens t r
+          → InvocationPost tab s first end row c (Ok r)
       invocation-fine is {r = r} e₃ type =
-          found near (Fine r) λ ts G Γ i m es h F z st.
+          found near (Ok r) λ ts G Γ i m es h F z st.
           let q = answered i m es h F z st in
-          rw (q.0, as_judged-fine (judge G Γ es F.method.parameters) q.1 is)
+          rw (q.0, told-fine q.1 is)
           (well (result-code tab s first end row c x f i taken near e₄ F z st e₃ type))
 
-      invocation-refused : {n p : ℕ} → v ≡ Refused n p → InvocationPost tab s first end row c (Refused n p)
-      invocation-refused {n} {p} is =
-          found near (Refused n p) λ ts G Γ i m es h F z st.
+      pub invocation-refused : {z : Refusal} → v ≡ Err z → InvocationPost tab s first end row c (Err z)
+      invocation-refused {z = z} is =
+          found near (Err z) λ ts G Γ i m es h F z st.
           let q = answered i m es h F z st in
-          rw (q.0, as_judged-refused (judge G Γ es F.method.parameters) q.1 is) ill
-
-      pub invocation-typed : {t u : ℕ} → t ≡ word_at tab c_type f → TypeOf tab s.tokens t u → {r : Judged} → TypedPost u v r
-          → InvocationPost tab s first end row c r
-      invocation-typed e₃ type (typed-fine is) = invocation-fine is e₃ type
-      invocation-typed e₃ type (typed-refused is) = invocation-refused is
+          rw (q.0, told-refused q.1 is) ill
 
 -- ARGUMENTS
 
 module _ {tab : List ℕ} {s : Scope} {first end row parameter : ℕ} where
-  pub arguments-end : absent ≤ row → ArgumentsPost tab s first end row parameter (Fine 0)
+  pub arguments-end : absent ≤ row → ArgumentsPost tab s first end row parameter (Ok tt)
   unfolding judge
   arguments-end far =
       record {
         says = λ ts G Γ i es h n vs l a.
-            subst (λ (xs : Part arguments). Fine 0 ≡ as_judged (judge G Γ xs vs)) (ended (few-tokens i) far es h) refl;
+            subst (λ (xs : Part arguments). told (Ok tt) ≡ (judge G Γ xs vs)) (ended (few-tokens i) far es h) refl;
       }
 
   module _ (near : row < absent) where
@@ -693,26 +691,26 @@ module _ {tab : List ℕ} {s : Scope} {first end row parameter : ℕ} where
       -- the first argument and its parameter
       one : {ts : List Token} {G : List Class} {Γ : Context} → InScope tab ts G Γ s → (e : Expression) → PartIn tab ts row first end e
           → (w : Variable) (vs : List Variable) → w.name.row ≡ parameter → VariablesHeld tab ts (w ∷ vs)
-          → v ≡ as_judged (judge G Γ e >>= λ u. must G e w.type.type u)
+          → told v ≡ (judge G Γ e >>= λ u. must G e w.type.type u)
       one {ts} {G} {Γ} i e h w vs d (more-variables x c₃ c₆ st) =
           let there = row-there i.world.tokens w.name.row x.name.token.there in
           f.says ts G Γ i e h w.type.type
           (type.says ts i.world.tokens w.type.row (sym (word_in tab c_type w.name.row there c₃) ∙ ap (word_at tab c_type) d ∙ sym e₃)
           w.type.type x.type)
 
-      pub arguments-refused : {n p : ℕ} → v ≡ Refused n p → ArgumentsPost tab s first end row parameter (Refused n p)
+      pub arguments-refused : {z : Refusal} → v ≡ Err z → ArgumentsPost tab s first end row parameter (Err z)
       unfolding judge arity
-      arguments-refused {n} {p} is =
+      arguments-refused {z = z} is =
           record { says = λ ts G Γ i es h k vs l a. go ts G Γ i es (one_more first end row near es h) vs l.at l.stand a }
         where
           go : (ts : List Token) (G : List Class) (Γ : Context) → InScope tab ts G Γ s → (es : Part arguments)
               → GoesOn tab ts row (Spans first end) (Spans (row + 1) end) es → (vs : List Variable) → row_variables vs ≡ parameter
-              → VariablesHeld tab ts vs → arity es ≡ length vs → Refused n p ≡ as_judged (judge G Γ es vs)
+              → VariablesHeld tab ts vs → arity es ≡ length vs → told (Err z) ≡ (judge G Γ es vs)
           go ts G Γ i es (one-more-argument x y) [] d st a = absurd (omega arith)
           go ts G Γ i es (one-more-argument {e = e} {es = xs} x y) (w ∷ vs) d st a =
               rw (halts (judge G Γ e) (must G e w.type.type) (judge G Γ xs vs) (one i e x w vs d st) is)
 
-      pub arguments-next : {w : ℕ} → v ≡ Fine w → {next p : ℕ} → next ≡ word_at tab c_next row → p ≡ word_at tab c_next parameter → {after end' : ℕ}
+      pub arguments-next : v ≡ Ok tt → {next p : ℕ} → next ≡ word_at tab c_next row → p ≡ word_at tab c_next parameter → {after end' : ℕ}
           → after ≡ row + 1 → end' ≡ end → {r : Judged} → ArgumentsPost tab s after end' next p r
           → ArgumentsPost tab s first end row parameter r
       unfolding judge arity
@@ -721,7 +719,7 @@ module _ {tab : List ℕ} {s : Scope} {first end row parameter : ℕ} where
         where
           go : (ts : List Token) (G : List Class) (Γ : Context) → InScope tab ts G Γ s → (es : Part arguments)
               → GoesOn tab ts row (Spans first end) (Spans (row + 1) end) es → (k : ℕ) (vs : List Variable) → row_variables vs ≡ parameter
-              → VariablesHeld tab ts vs → length vs ≤ k → arity es ≡ length vs → r ≡ as_judged (judge G Γ es vs)
+              → VariablesHeld tab ts vs → length vs ≤ k → arity es ≡ length vs → told r ≡ (judge G Γ es vs)
           go ts G Γ i es (one-more-argument x y) k [] d st l a = absurd (omega arith)
           go ts G Γ i es (one-more-argument {e = e} {es = xs} x y) k (w ∷ vs) d st l a =
               rw (goes (judge G Γ e) (must G e w.type.type) (judge G Γ xs vs) (one i e x w vs d st) is)

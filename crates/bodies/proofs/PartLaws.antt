@@ -2,7 +2,7 @@
 -- tokens.
 use Prim.Native.Nat.{ℕ, ◌+◌, ◌-◌, ◌≤◌, ◌<◌}
 use native.Mathlib.Omega.{arith}
-use mathlib.Core.Path.{◌≡◌, refl, ◌∙◌, subst}
+use mathlib.Core.Path.{◌≡◌, refl, ap, ◌∙◌, subst}
 use mathlib.Core.List.{List}
 use lib.ListN.{length}
 use Rattle.base.specs.Outcome.{Outcome, accepted, refused, ◌>>=◌}
@@ -18,11 +18,13 @@ use Rattle.reader.specs.promises.Spans.{Spans}
 use Rattle.typing.specs.laws.Choices.{bind_assoc, refused-accepted}
 use Rattle.typesystem.specs.ClassTable.{Context}
 use Rattle.typesystem.specs.Judge.{for_array}
-use Rattle.lookup.specs.declared.answer.Judged.{Judged}
-use Rattle.lookup.specs.declared.answer.Judged.TheVariants.{Fine, Refused}
+use Rattle.std.specs.Prelude.{Result, Ok, Err}
+use Rattle.base.specs.declared.refusal.Refusal.{Refusal}
+use Rattle.base.specs.promises.Refusals.{number_of}
+use Rattle.lookup.specs.promises.Answers.{Judged, Typed}
 use Rattle.lookup.specs.promises.HeldClasses.{word_at, ElementCodes, Codes, code-plain, code-array, array_mark}
 use Rattle.lookup.specs.laws.HeldLaws.{element-below}
-use Rattle.lookup.specs.promises.Answers.{as_judged, as_judged-fine, as_judged-refused, Judges, well, ill}
+use Rattle.lookup.specs.promises.Answers.{told, told-fine, told-refused, Judges, well, ill}
 use Rattle.lookup.specs.promises.Shows.{Form, form_at, form_s, GoesOn, GoesOnS}
 use Rattle.lookup.specs.laws.ShowLaws.{Bounds, BoundsS, shown, shown_s, starts, goes_on, goes-on_s}
 use Rattle.bodies.specs.declared.scope.Scope.{Scope}
@@ -30,37 +32,38 @@ use Rattle.bodies.specs.promises.Scoping.{InScope, PartIn, ShowsIn, ShowsStateme
 
 -- ANSWERS
 
-pub judges-fine : {ts : List Token} {o : Outcome Ty} {v : Judged} {w : ℕ} → Judges ts o v → v ≡ Fine w
+pub judges-fine : {ts : List Token} {o : Outcome Ty} {v : Typed} {w : ℕ} → Judges ts o v → v ≡ Ok w
     → (t : Ty) × (o ≡ accepted t) × Codes ts t w
 judges-fine {ts} {w = w} (well {t = t} {w = u} c) e = let z : u ≡ w = cc in (t, refl, subst (Codes ts t) z c)
 judges-fine ill e = apart (cc)
 
-pub judges-refused : {ts : List Token} {o : Outcome Ty} {v : Judged} {n p : ℕ} → Judges ts o v → v ≡ Refused n p → o ≡ refused n p
+pub judges-refused : {ts : List Token} {o : Outcome Ty} {v : Typed} {z : Refusal} → Judges ts o v → v ≡ Err z
+    → o ≡ refused (number_of z.reason) z.position
 judges-refused (well c) e = apart (cc)
-judges-refused ill e = cc
+judges-refused {z = z} (ill {q = q}) e = let w : q ≡ z = cc in ap (λ (x : Refusal). refused (number_of x.reason) x.position) w
 
-pub judged-refused : {ts : List Token} {o : Outcome Ty} {n p : ℕ} → o ≡ refused n p → Judges ts o (Refused n p)
-judged-refused e = rw e ill
+pub judged-refused : {ts : List Token} {o : Outcome Ty} (z : Refusal) → o ≡ refused (number_of z.reason) z.position → Judges ts o (Err z)
+judged-refused z e = rw e ill
 
-pub judged-fine : {ts : List Token} {o : Outcome Ty} {t : Ty} {w : ℕ} → o ≡ accepted t → Codes ts t w → Judges ts o (Fine w)
+pub judged-fine : {ts : List Token} {o : Outcome Ty} {t : Ty} {w : ℕ} → o ≡ accepted t → Codes ts t w → Judges ts o (Ok w)
 judged-fine e c = rw e (well c)
 
 -- the answer for a part that must fit, and what follows
-pub goes : {A : Type 0} (o : Outcome Ty) (test : Ty → Outcome (Unit {0})) (next : Outcome A) {v : Judged} {w : ℕ}
-    → v ≡ as_judged (o >>= test) → v ≡ Fine w
+pub goes : {A : Type 0} (o : Outcome Ty) (test : Ty → Outcome (Unit {0})) (next : Outcome A) {v : Judged}
+    → told v ≡ (o >>= test) → v ≡ Ok tt
     → (o >>= λ t. test t >>= λ _. next) ≡ next
 goes o test next e is = bind_assoc o test (λ _. next) ∙ rest
   where
     rest : (o >>= test >>= λ _. next) ≡ next
-    rest = rw (as_judged-fine (o >>= test) e is)
+    rest = rw (told-fine e is)
 
-pub halts : {A : Type 0} (o : Outcome Ty) (test : Ty → Outcome (Unit {0})) (next : Outcome A) {v : Judged} {n p : ℕ}
-    → v ≡ as_judged (o >>= test) → v ≡ Refused n p
-    → (o >>= λ t. test t >>= λ _. next) ≡ refused n p
-halts o test next {n = n} {p = p} e is = bind_assoc o test (λ _. next) ∙ rest
+pub halts : {A : Type 0} (o : Outcome Ty) (test : Ty → Outcome (Unit {0})) (next : Outcome A) {v : Judged} {z : Refusal}
+    → told v ≡ (o >>= test) → v ≡ Err z
+    → (o >>= λ t. test t >>= λ _. next) ≡ refused (number_of z.reason) z.position
+halts o test next {z = z} e is = bind_assoc o test (λ _. next) ∙ rest
   where
-    rest : (o >>= test >>= λ _. next) ≡ refused n p
-    rest = rw (as_judged-refused (o >>= test) e is)
+    rest : (o >>= test >>= λ _. next) ≡ refused (number_of z.reason) z.position
+    rest = rw (told-refused e is)
 
 -- ARRAYS, by the number of a type
 
@@ -75,8 +78,8 @@ array-code {ts} {w = w} few (code-array {t = s} {v = v} c e) high =
     (s, refl, let z : v ≡ w - array_mark = omega arith in code-plain (subst (ElementCodes ts s) z c))
 
 -- the answer for a part that must be an array, and what follows
-module _ {A : Type 0} {ts : List Token} (p : ℕ) (k : Element → Outcome A) {v : Judged} where
-  pub array-fine : (o : Outcome Ty) {w : ℕ} → Judges ts (o >>= λ t. for_array p t λ u. accepted (plain u)) v → v ≡ Fine w
+module _ {A : Type 0} {ts : List Token} (p : ℕ) (k : Element → Outcome A) {v : Typed} where
+  pub array-fine : (o : Outcome Ty) {w : ℕ} → Judges ts (o >>= λ t. for_array p t λ u. accepted (plain u)) v → v ≡ Ok w
       → (s : Element) × ((o >>= λ t. for_array p t k) ≡ k s) × Codes ts (plain s) w
   array-fine (accepted (plain t)) h e = absurd (refused-accepted (judges-fine h e).1)
   array-fine (accepted (array_of t)) {w} h e =
@@ -85,8 +88,8 @@ module _ {A : Type 0} {ts : List Token} (p : ℕ) (k : Element → Outcome A) {v
       (t, refl, subst (λ (u : Ty). Codes ts u w) z j.2)
   array-fine (refused n q) h e = absurd (refused-accepted (judges-fine h e).1)
 
-  pub array-refused : (o : Outcome Ty) {n q : ℕ} → Judges ts (o >>= λ t. for_array p t λ u. accepted (plain u)) v → v ≡ Refused n q
-      → (o >>= λ t. for_array p t k) ≡ refused n q
+  pub array-refused : (o : Outcome Ty) {z : Refusal} → Judges ts (o >>= λ t. for_array p t λ u. accepted (plain u)) v → v ≡ Err z
+      → (o >>= λ t. for_array p t k) ≡ refused (number_of z.reason) z.position
   array-refused (accepted (plain t)) h e = let z = judges-refused h e in cc
   array-refused (accepted (array_of t)) h e = let z = judges-refused h e in apart (cc)
   array-refused (refused i j) h e = let z = judges-refused h e in cc

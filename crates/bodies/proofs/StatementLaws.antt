@@ -20,11 +20,14 @@ use Rattle.reader.specs.laws.SpanLaws.{inside-statement}
 use Rattle.typesystem.specs.ClassTable.{Context, same_type}
 use Rattle.typesystem.specs.Judge.{judge, must}
 use Rattle.typesystem.specs.Operators.{printable}
-use Rattle.lookup.specs.declared.answer.Judged.{Judged}
-use Rattle.lookup.specs.declared.answer.Judged.TheVariants.{Fine, Refused}
+use Rattle.std.specs.Prelude.{Result, Ok, Err}
+use Rattle.base.specs.declared.refusal.Reason.TheVariants as reason
+use Rattle.base.specs.declared.refusal.Refusal.{Refusal}
+use Rattle.base.specs.promises.Refusals.{number_of, refusal}
+use Rattle.lookup.specs.promises.Answers.{Judged, Typed}
 use Rattle.lookup.specs.promises.HeldClasses.{word_at, Lexemes, code-int, code-boolean, code_fixed, Codes, code-plain, int_number, boolean_number, number_of_fixed, array_mark}
 use Rattle.lookup.specs.laws.HeldLaws.{same_codes, other-codes}
-use Rattle.lookup.specs.promises.Answers.{as_judged, goes_on, stops}
+use Rattle.lookup.specs.promises.Answers.{told, goes_on, stops}
 use Rattle.lookup.specs.promises.Shows.{Form, a_block_shown, a_conditional, a_loop, a_print, an_assignment, an_element_store, a_port_put, form_s}
 use Rattle.lookup.specs.promises.Shows.{shows-block, shows-conditional, shows-loop, shows-print, shows-assignment, shows-element-store}
 use Rattle.lookup.specs.promises.Shows.{shows-port-put}
@@ -42,7 +45,7 @@ use Rattle.bodies.proofs.PartLaws.{one-more_s, seen-in_s, start_of}
 
 module _ {tab : List ℕ} {s : Scope} {first end row index want : ℕ} (e₄ : index ≡ word_at tab c_first row) {v : Judged}
     (f : OperandPost tab s first end index int_number v) where
-  pub value-first : {n p : ℕ} → v ≡ Refused n p → ValuePost tab s first end row want (Refused n p)
+  pub value-first : {z : Refusal} → v ≡ Err z → ValuePost tab s first end row want (Err z)
   value-first is =
       record {
         says = λ ts G Γ sc i e x y t c.
@@ -50,7 +53,7 @@ module _ {tab : List ℕ} {s : Scope} {first end row index want : ℕ} (e₄ : i
             (f.says ts G Γ sc i (rw e₄ x) (plain int) (code-plain (code-int refl))) is);
       }
 
-  pub value-second : {w : ℕ} → v ≡ Fine w → {second : ℕ} → second ≡ word_at tab c_second row → {r : Judged}
+  pub value-second : v ≡ Ok tt → {second : ℕ} → second ≡ word_at tab c_second row → {r : Judged}
       → OperandPost tab s first end second want r → ValuePost tab s first end row want r
   value-second is e₅ g =
       record {
@@ -60,22 +63,22 @@ module _ {tab : List ℕ} {s : Scope} {first end row index want : ℕ} (e₄ : i
             (g.says ts G Γ sc e (rw e₅ y) t c);
       }
 
-module _ {tab : List ℕ} {s : Scope} {first end row : ℕ} {v : Judged} (f : NamePost tab s row v) where
-  pub assignment-refused : {n p : ℕ} → v ≡ Refused n p → StatementNodePost tab s an_assignment first end row (Refused n p)
+module _ {tab : List ℕ} {s : Scope} {first end row : ℕ} {v : Typed} (f : NamePost tab s row v) where
+  pub assignment-refused : {z : Refusal} → v ≡ Err z → StatementNodePost tab s an_assignment first end row (Err z)
   unfolding judge
-  assignment-refused {n} {p} is = record { says = go }
+  assignment-refused {z = z} is = record { says = go }
     where
-      go : StatementJudged tab s an_assignment first end row (Refused n p)
+      go : StatementJudged tab s an_assignment first end row (Err z)
       go ts G Γ sc t (shows-assignment {p = q} {x = x} st sp y) = rw (judges-refused (f.says ts G Γ sc q x st sp) is)
 
-  pub element-refused : {n p : ℕ} → v ≡ Refused n p → StatementNodePost tab s an_element_store first end row (Refused n p)
+  pub element-refused : {z : Refusal} → v ≡ Err z → StatementNodePost tab s an_element_store first end row (Err z)
   unfolding judge
-  element-refused {n} {p} is = record { says = go }
+  element-refused {z = z} is = record { says = go }
     where
-      go : StatementJudged tab s an_element_store first end row (Refused n p)
+      go : StatementJudged tab s an_element_store first end row (Err z)
       go ts G Γ sc t (shows-element-store {p = q} {x = x} st sp y z) = rw (judges-refused (f.says ts G Γ sc q x st sp) is)
 
-  module _ {target : ℕ} (is : v ≡ Fine target) where
+  module _ {target : ℕ} (is : v ≡ Ok target) where
     pub assignment-value : {value : ℕ} → value ≡ word_at tab c_first row → {r : Judged} → OperandPost tab s first end value target r
         → StatementNodePost tab s an_assignment first end row r
     unfolding judge
@@ -98,11 +101,11 @@ module _ {tab : List ℕ} {s : Scope} {first end row : ℕ} {v : Judged} (f : Na
             rw (d.1, u.1) (g.says ts G Γ sc i e y z (plain u.0) u.2)
 
     pub element-wrong : target < array_mark → {at₃ : ℕ} → at₃ ≡ word_at tab c_begin row
-        → StatementNodePost tab s an_element_store first end row (Refused type_wrong at₃)
+        → StatementNodePost tab s an_element_store first end row (refusal reason.WrongType at₃)
     unfolding judge
     element-wrong low {at₃} e₃ = record { says = go }
       where
-        go : StatementJudged tab s an_element_store first end row (Refused type_wrong at₃)
+        go : StatementJudged tab s an_element_store first end row (refusal reason.WrongType at₃)
         go ts G Γ sc t (shows-element-store {p = q} {x = x} st sp y z) =
             let d = judges-fine (f.says ts G Γ sc q x st sp) is in
             let u = plain_code d.2 low in
@@ -128,40 +131,40 @@ module _ {tab : List ℕ} {n : ℕ} {ts : List Token} (lx : Lexemes tab n ts) {t
     unfolding printable
     not-printed f = rw (not_int, other-codes lx (code-plain (code_fixed refl)) c (λ z. f (sym z)))
 
-module _ {tab : List ℕ} {s : Scope} {first end row part : ℕ} (e₄ : part ≡ word_at tab c_first row) {v : Judged}
+module _ {tab : List ℕ} {s : Scope} {first end row part : ℕ} (e₄ : part ≡ word_at tab c_first row) {v : Typed}
     (f : ExpressionPost tab s first end part v) where
-  pub print-refused : {n p : ℕ} → v ≡ Refused n p → StatementNodePost tab s a_print first end row (Refused n p)
+  pub print-refused : {z : Refusal} → v ≡ Err z → StatementNodePost tab s a_print first end row (Err z)
   unfolding judge
-  print-refused {n} {p} is = record { says = go }
+  print-refused {z = z} is = record { says = go }
     where
-      go : StatementJudged tab s a_print first end row (Refused n p)
+      go : StatementJudged tab s a_print first end row (Err z)
       go ts G Γ sc t (shows-print {e = e} st x) = rw (judges-refused (f.says ts G Γ sc e (rw e₄ x)) is)
 
-  module _ {w : ℕ} (is : v ≡ Fine w) where
+  module _ {w : ℕ} (is : v ≡ Ok w) where
     -- what is printed, by its number
     fine : ((ts : List Token) (n : ℕ) → Lexemes tab n ts → (u : Ty) → Codes ts u w → printable u ≡ true)
-        → StatementNodePost tab s a_print first end row (Fine 0)
+        → StatementNodePost tab s a_print first end row (Ok tt)
     unfolding judge
     fine by = record { says = go }
       where
-        go : StatementJudged tab s a_print first end row (Fine 0)
+        go : StatementJudged tab s a_print first end row (Ok tt)
         go ts G Γ sc t (shows-print {e = e} st x) =
             let d = judges-fine (f.says ts G Γ sc e (rw e₄ x)) is in
             rw (d.1, by ts s.tokens sc.world.tokens d.0 d.2)
 
-    pub print-int : w ≡ int_number → StatementNodePost tab s a_print first end row (Fine 0)
+    pub print-int : w ≡ int_number → StatementNodePost tab s a_print first end row (Ok tt)
     print-int e = fine (λ ts n lx u c. int-printed lx c e)
 
     module _ (other : w ≡ int_number → ⊥) where
-      pub print-fixed : w ≡ number_of_fixed → StatementNodePost tab s a_print first end row (Fine 0)
+      pub print-fixed : w ≡ number_of_fixed → StatementNodePost tab s a_print first end row (Ok tt)
       print-fixed e = fine (λ ts n lx u c. fixed-printed lx c other e)
 
       pub print-wrong : (w ≡ number_of_fixed → ⊥) → {at₃ : ℕ} → at₃ ≡ word_at tab c_begin part
-          → StatementNodePost tab s a_print first end row (Refused type_wrong at₃)
+          → StatementNodePost tab s a_print first end row (refusal reason.WrongType at₃)
       unfolding judge
       print-wrong rest {at₃} e₃ = record { says = go }
         where
-          go : StatementJudged tab s a_print first end row (Refused type_wrong at₃)
+          go : StatementJudged tab s a_print first end row (refusal reason.WrongType at₃)
           go ts G Γ sc t (shows-print {e = e} st x) =
               let h : PartIn tab ts part first end e = rw e₄ x in
               let d = judges-fine (f.says ts G Γ sc e h) is in
@@ -171,10 +174,10 @@ module _ {tab : List ℕ} {s : Scope} {first end row part : ℕ} (e₄ : part �
 
 module _ {tab : List ℕ} {s : Scope} {first end row second : ℕ} (e₅ : second ≡ word_at tab c_second row) {v : Judged}
     (f : StatementPost tab s first end second v) where
-  pub branches-first : {n p : ℕ} → v ≡ Refused n p → BranchesPost tab s first end row (Refused n p)
+  pub branches-first : {z : Refusal} → v ≡ Err z → BranchesPost tab s first end row (Err z)
   branches-first is = record { says = λ ts G Γ sc a b x y. rw (stops (judge G Γ a) (λ _. judge G Γ b) (f.says ts G Γ sc a (rw e₅ x)) is) }
 
-  pub branches-second : {w : ℕ} → v ≡ Fine w → {third : ℕ} → third ≡ word_at tab c_third row → {r : Judged}
+  pub branches-second : v ≡ Ok tt → {third : ℕ} → third ≡ word_at tab c_third row → {r : Judged}
       → StatementPost tab s first end third r
       → BranchesPost tab s first end row r
   branches-second is e₇ g =
@@ -185,16 +188,16 @@ module _ {tab : List ℕ} {s : Scope} {first end row second : ℕ} (e₅ : secon
 
 module _ {tab : List ℕ} {s : Scope} {first end row test : ℕ} (e₄ : test ≡ word_at tab c_first row) {v : Judged}
     (f : OperandPost tab s first end test boolean_number v) where
-  pub conditional-refused : {n p : ℕ} → v ≡ Refused n p → StatementNodePost tab s a_conditional first end row (Refused n p)
+  pub conditional-refused : {z : Refusal} → v ≡ Err z → StatementNodePost tab s a_conditional first end row (Err z)
   unfolding judge
-  conditional-refused {n} {p} is = record { says = go }
+  conditional-refused {z = z} is = record { says = go }
     where
-      go : StatementJudged tab s a_conditional first end row (Refused n p)
+      go : StatementJudged tab s a_conditional first end row (Err z)
       go ts G Γ sc t (shows-conditional {e = e} {s = a} {t = b} st x y z) =
           rw (halts (judge G Γ e) (must G e (plain boolean)) (judge G Γ a >>= λ _. judge G Γ b)
           (f.says ts G Γ sc e (rw e₄ x) (plain boolean) (code-plain (code-boolean refl))) is)
 
-  pub conditional-branches : {w : ℕ} → v ≡ Fine w → {r : Judged} → BranchesPost tab s first end row r
+  pub conditional-branches : v ≡ Ok tt → {r : Judged} → BranchesPost tab s first end row r
       → StatementNodePost tab s a_conditional first end row r
   unfolding judge
   conditional-branches is {r} g = record { says = go }
@@ -204,15 +207,15 @@ module _ {tab : List ℕ} {s : Scope} {first end row test : ℕ} (e₄ : test �
           rw (goes (judge G Γ e) (must G e (plain boolean)) (judge G Γ a >>= λ _. judge G Γ b)
           (f.says ts G Γ sc e (rw e₄ x) (plain boolean) (code-plain (code-boolean refl))) is) (g.says ts G Γ sc a b y z)
 
-  pub loop-refused : {n p : ℕ} → v ≡ Refused n p → StatementNodePost tab s a_loop first end row (Refused n p)
+  pub loop-refused : {z : Refusal} → v ≡ Err z → StatementNodePost tab s a_loop first end row (Err z)
   unfolding judge
-  loop-refused {n} {p} is = record { says = go }
+  loop-refused {z = z} is = record { says = go }
     where
-      go : StatementJudged tab s a_loop first end row (Refused n p)
+      go : StatementJudged tab s a_loop first end row (Err z)
       go ts G Γ sc t (shows-loop {e = e} {s = a} st x y) =
           rw (halts (judge G Γ e) (must G e (plain boolean)) (judge G Γ a) (f.says ts G Γ sc e (rw e₄ x) (plain boolean) (code-plain (code-boolean refl))) is)
 
-  pub loop-body : {w : ℕ} → v ≡ Fine w → {body : ℕ} → body ≡ word_at tab c_second row → {r : Judged} → StatementPost tab s first end body r
+  pub loop-body : v ≡ Ok tt → {body : ℕ} → body ≡ word_at tab c_second row → {r : Judged} → StatementPost tab s first end body r
       → StatementNodePost tab s a_loop first end row r
   unfolding judge
   loop-body is e₅ {r} g = record { says = go }
@@ -225,20 +228,20 @@ module _ {tab : List ℕ} {s : Scope} {first end row test : ℕ} (e₄ : test �
 -- STATEMENTS
 
 module _ {tab : List ℕ} {s : Scope} {first end row : ℕ} where
-  pub statement-before : row < first → {n p : ℕ} → StatementPost tab s first end row (Refused n p)
+  pub statement-before : row < first → {z : Refusal} → StatementPost tab s first end row (Err z)
   statement-before low =
       record { among = λ is. apart (cc); says = λ ts G Γ sc t h. absurd (omega (arith, (inside-statement t h.within).low, h.at)) }
 
-  pub statement-behind : end ≤ row → {n p : ℕ} → StatementPost tab s first end row (Refused n p)
+  pub statement-behind : end ≤ row → {z : Refusal} → StatementPost tab s first end row (Err z)
   statement-behind high =
       record { among = λ is. apart (cc); says = λ ts G Γ sc t h. absurd (omega (arith, (inside-statement t h.within).high, h.at)) }
 
   -- the kind of its token, and the range of its parts
   module _ (from : first ≤ row) (below : row < end) {k after end' : ℕ} (kind : k ≡ kind_in_table tab s.tokens row) (low : after ≡ row + 1) (high : end' ≡ end) {r : Judged} where
     -- the kinds tell the form
-    told : {F : Form} → form_s k (kind_in_table tab s.tokens (row + 1)) ≡ F → StatementJudged tab s F after end' row r
+    by_kinds : {F : Form} → form_s k (kind_in_table tab s.tokens (row + 1)) ≡ F → StatementJudged tab s F after end' row r
         → StatementPost tab s first end row r
-    told f g =
+    by_kinds f g =
         record {
           among = λ is. record { low = from; high = below };
           says = λ ts G Γ sc t h.
@@ -249,7 +252,7 @@ module _ {tab : List ℕ} {s : Scope} {first end row : ℕ} where
     -- this kind alone tells it
     alone : (k' : ℕ) → k ≡ k' → StatementJudged tab s (form_s k' (kind_in_table tab s.tokens (row + 1))) after end' row r
         → StatementPost tab s first end row r
-    alone k' is g = told (ap (λ (j : ℕ). form_s j (kind_in_table tab s.tokens (row + 1))) is) g
+    alone k' is g = by_kinds (ap (λ (j : ℕ). form_s j (kind_in_table tab s.tokens (row + 1))) is) g
 
     pub statement-block : k ≡ k_open_brace → {part : ℕ} → part ≡ word_at tab c_first row → ListPost tab s after end' part r
         → StatementPost tab s first end row r
@@ -283,18 +286,18 @@ module _ {tab : List ℕ} {s : Scope} {first end row : ℕ} where
       pub statement-element : k' ≡ k_open_bracket → StatementNodePost tab s an_element_store after end' row r → StatementPost tab s first end row r
       unfolding form_s
       statement-element is f =
-          told (rw (ne_eqb k k_open_brace n₁, ne_eqb k k_if n₂, ne_eqb k k_while n₃, ne_eqb k k_system n₄, ne_eqb k k_port n₅, sym next ∙ is)) f.says
+          by_kinds (rw (ne_eqb k k_open_brace n₁, ne_eqb k k_if n₂, ne_eqb k k_while n₃, ne_eqb k k_system n₄, ne_eqb k k_port n₅, sym next ∙ is)) f.says
 
       pub statement-assignment : (k' ≡ k_open_bracket → ⊥) → StatementNodePost tab s an_assignment after end' row r → StatementPost tab s first end row r
       unfolding form_s
       statement-assignment other f =
-          told (rw (ne_eqb k k_open_brace n₁, ne_eqb k k_if n₂, ne_eqb k k_while n₃, ne_eqb k k_system n₄, ne_eqb k k_port n₅, sym next, ne_eqb k' k_open_bracket other))
+          by_kinds (rw (ne_eqb k k_open_brace n₁, ne_eqb k k_if n₂, ne_eqb k k_while n₃, ne_eqb k k_system n₄, ne_eqb k k_port n₅, sym next, ne_eqb k' k_open_bracket other))
           f.says
 
 -- LISTS
 
 -- a statement that is fine lies in the range
-module _ {tab : List ℕ} {s : Scope} {first end row : ℕ} {v : Judged} (f : StatementPost tab s first end row v) {w : ℕ} (is : v ≡ Fine w)
+module _ {tab : List ℕ} {s : Scope} {first end row : ℕ} {v : Judged} (f : StatementPost tab s first end row v) (is : v ≡ Ok tt)
   where
     pub statement-low : first ≤ row
     statement-low = (f.among is).low
@@ -303,31 +306,31 @@ module _ {tab : List ℕ} {s : Scope} {first end row : ℕ} {v : Judged} (f : St
     statement-high = (f.among is).high
 
 module _ {tab : List ℕ} {s : Scope} {first end row : ℕ} where
-  pub list-end : absent ≤ row → ListPost tab s first end row (Fine 0)
+  pub list-end : absent ≤ row → ListPost tab s first end row (Ok tt)
   unfolding judge
   list-end far =
       record {
         says = λ ts G Γ sc ss h.
-            subst (λ (xs : Part statements). Fine 0 ≡ as_judged (judge G Γ xs)) (ended_s (few-tokens sc) far ss h) refl;
+            subst (λ (xs : Part statements). told (Ok tt) ≡ (judge G Γ xs)) (ended_s (few-tokens sc) far ss h) refl;
       }
 
   module _ (near : row < absent) where
     module _ {v : Judged} (f : StatementPost tab s first end row v) where
-      pub list-refused : {n p : ℕ} → v ≡ Refused n p → ListPost tab s first end row (Refused n p)
+      pub list-refused : {z : Refusal} → v ≡ Err z → ListPost tab s first end row (Err z)
       unfolding judge
-      list-refused {n} {p} is = record { says = λ ts G Γ sc ss h. go ts G Γ sc ss (one-more_s first end row near ss h) }
+      list-refused {z = z} is = record { says = λ ts G Γ sc ss h. go ts G Γ sc ss (one-more_s first end row near ss h) }
         where
           go : (ts : List Token) (G : List Class) (Γ : Context) → InScope tab ts G Γ s → (ss : Part statements)
-              → GoesOnS tab ts row (Spans first end) (Spans (row + 1) end) ss → Refused n p ≡ as_judged (judge G Γ ss)
+              → GoesOnS tab ts row (Spans first end) (Spans (row + 1) end) ss → told (Err z) ≡ (judge G Γ ss)
           go ts G Γ sc ss (one-more-statement {t = t} {ss = xs} x y) =
               rw (stops (judge G Γ t) (λ _. judge G Γ xs) (f.says ts G Γ sc t x) is)
 
-      pub list-next : {w : ℕ} → v ≡ Fine w → {next : ℕ} → next ≡ word_at tab c_next row → {after end' : ℕ} → after ≡ row + 1 → end' ≡ end
+      pub list-next : v ≡ Ok tt → {next : ℕ} → next ≡ word_at tab c_next row → {after end' : ℕ} → after ≡ row + 1 → end' ≡ end
           → {r : Judged} → ListPost tab s after end' next r → ListPost tab s first end row r
       unfolding judge
       list-next is e₆ low high {r} g = record { says = λ ts G Γ sc ss h. go ts G Γ sc ss (one-more_s first end row near ss h) }
         where
           go : (ts : List Token) (G : List Class) (Γ : Context) → InScope tab ts G Γ s → (ss : Part statements)
-              → GoesOnS tab ts row (Spans first end) (Spans (row + 1) end) ss → r ≡ as_judged (judge G Γ ss)
+              → GoesOnS tab ts row (Spans first end) (Spans (row + 1) end) ss → told r ≡ (judge G Γ ss)
           go ts G Γ sc ss (one-more-statement {t = t} {ss = xs} x y) =
               rw (goes_on (judge G Γ t) (λ _. judge G Γ xs) (f.says ts G Γ sc t x) is) (g.says ts G Γ sc xs (rw (e₆, low, high) y))

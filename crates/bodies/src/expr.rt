@@ -7,16 +7,14 @@ ghost use Rattle.reader.specs.promises.WalkPost.{Walkable};
 ghost use Rattle.lookup.specs.promises.Shows.{a_binary, an_element, a_call_shown};
 ghost use Rattle.bodies.specs.promises.Scoping.{Judgeable};
 ghost use Rattle.bodies.specs.promises.ExpressionPost.{NamePost, ThisPost, AtomPost, NodePost, ExpressionPost, OperandPost};
-ghost use Rattle.bodies.specs.promises.ExpressionPost.{CreationPost, DottedPost, TypedPost, ArrayPost, NewArrayPost, LengthPost};
+ghost use Rattle.bodies.specs.promises.ExpressionPost.{CreationPost, DottedPost, ArrayPost, NewArrayPost, LengthPost};
 ghost use Rattle.bodies.specs.promises.ExpressionPost.{InvocationPost, ArgumentsPost, ObjectPost, SameCount};
 
 use crate::operators::operation;
 use crate::range::{Range, before, behind};
 use crate::scope::{Scope, name_type};
-use base::codes;
-use base::codes::BROKEN;
+use base::refusal::{Reason, Refusal};
 use lexer::kinds;
-use lookup::answer::Judged;
 use lookup::chain::{find_method, fits};
 use lookup::rows::word;
 use lookup::types::{ARRAY, BOOLEAN, FIXED, INT, NOTHING, known, type_of};
@@ -26,61 +24,62 @@ use parser::kinds::is_atom;
 use parser::table::kind;
 
 // `this`, which main has not: 34.
-fn receiver(table: &[u32], s: Scope, row: usize) -> Judged
+fn receiver(table: &[u32], s: Scope, row: usize) -> Result<usize, Refusal>
     requires { table_least ≤ length table.now }
     ensures { ThisPost table.now s row result }
 {
     if ABSENT <= s.owner {
-        return Judged::Refused(codes::THIS_IN_MAIN, word(table, columns::BEGIN, row));
+        return Err(Refusal {
+            reason: Reason::ThisInMain,
+            position: word(table, columns::BEGIN, row),
+        });
     }
-    Judged::Fine(s.owner)
+    Ok(s.owner)
 }
 
 // A name: 30.
-pub fn name(table: &[u32], fields: &[u32], s: Scope, row: usize) -> Judged
+pub fn name(table: &[u32], fields: &[u32], s: Scope, row: usize) -> Result<usize, Refusal>
     requires { Judgeable table.now fields.now s }
     ensures { NamePost table.now s row result }
 {
     let t = name_type(table, fields, s, word(table, columns::NUMBER, row));
     if t < NOTHING {
-        return Judged::Fine(t);
+        return Ok(t);
     }
-    Judged::Refused(codes::NAME_UNKNOWN, word(table, columns::BEGIN, row))
+    Err(Refusal {
+        reason: Reason::NameUnknown,
+        position: word(table, columns::BEGIN, row),
+    })
 }
 
 // An expression of one token, of kind k.
-fn atom(table: &[u32], fields: &[u32], s: Scope, k: u32, row: usize) -> Judged
+fn atom(table: &[u32], fields: &[u32], s: Scope, k: u32, row: usize) -> Result<usize, Refusal>
     requires { Judgeable table.now fields.now s }
     ensures { AtomPost table.now s k row result }
 {
-    if k == kinds::LITERAL {
-        return Judged::Fine(INT);
+    match k {
+        kinds::LITERAL => Ok(INT),
+        kinds::FIXED_LITERAL => Ok(FIXED),
+        kinds::TRUE => Ok(BOOLEAN),
+        kinds::FALSE => Ok(BOOLEAN),
+        kinds::THIS => receiver(table, s, row),
+        _ => name(table, fields, s, row),
     }
-    if k == kinds::FIXED_LITERAL {
-        return Judged::Fine(FIXED);
-    }
-    if k == kinds::TRUE {
-        return Judged::Fine(BOOLEAN);
-    }
-    if k == kinds::FALSE {
-        return Judged::Fine(BOOLEAN);
-    }
-    if k == kinds::THIS {
-        return receiver(table, s, row);
-    }
-    name(table, fields, s, row)
 }
 
 // `new C()`: 24.
-fn new_object(table: &[u32], n: usize, row: usize) -> Judged
+fn new_object(table: &[u32], n: usize, row: usize) -> Result<usize, Refusal>
     requires { Walkable table.now n × (row < modulus) }
     ensures { ObjectPost table.now n row result }
 {
     let x = word(table, columns::NUMBER, row + 1);
     if known(table, n, x) {
-        return Judged::Fine(x);
+        return Ok(x);
     }
-    Judged::Refused(codes::TYPE_UNKNOWN, word(table, columns::START, row + 1))
+    Err(Refusal {
+        reason: Reason::TypeUnknown,
+        position: word(table, columns::START, row + 1),
+    })
 }
 
 // Whether a list of arguments is as long as a list of parameters.
@@ -105,27 +104,29 @@ fn same_count(table: &[u32], left: usize, a: usize, p: usize) -> bool
     )
 }
 
-// The answer for a node by that for its last part: its type is t, unless the part is refused.
-fn typed(part: Judged, t: usize) -> Judged
-    ensures { TypedPost t part result }
-{
-    match part {
-        Judged::Fine(_) => Judged::Fine(t),
-        Judged::Refused(number, at) => Judged::Refused(number, at),
-    }
-}
-
 // An expression.
 #[cycle(arguments_array_binary_call_creation_dotted_element_expression_invocation_measured_new_array_operand)]
-pub fn expression(table: &[u32], fields: &[u32], s: Scope, r: Range, row: usize) -> Judged
+pub fn expression(
+    table: &[u32],
+    fields: &[u32],
+    s: Scope,
+    r: Range,
+    row: usize,
+) -> Result<usize, Refusal>
     requires { Judgeable table.now fields.now s × (r.end ≤ s.tokens) }
     ensures { ExpressionPost table.now s r.first r.end row result }
 {
     if row < r.first {
-        return Judged::Refused(BROKEN, 0);
+        return Err(Refusal {
+            reason: Reason::Broken,
+            position: 0,
+        });
     }
     if r.end <= row {
-        return Judged::Refused(BROKEN, 0);
+        return Err(Refusal {
+            reason: Reason::Broken,
+            position: 0,
+        });
     }
     let k = kind(table, s.tokens, row);
     if is_atom(k) {
@@ -139,13 +140,13 @@ pub fn expression(table: &[u32], fields: &[u32], s: Scope, r: Range, row: usize)
     }
     if k == kinds::NOT {
         let part = word(table, columns::FIRST, row);
-        let a = operand(table, fields, s, behind(r, row), part, BOOLEAN);
-        return typed(a, BOOLEAN);
+        operand(table, fields, s, behind(r, row), part, BOOLEAN)?;
+        return Ok(BOOLEAN);
     }
     if k == kinds::PORT {
         let part = word(table, columns::FIRST, row);
-        let a = operand(table, fields, s, behind(r, row), part, INT);
-        return typed(a, INT);
+        operand(table, fields, s, behind(r, row), part, INT)?;
+        return Ok(INT);
     }
     if k == kinds::OPEN_BRACKET {
         return element(table, fields, s, r, row);
@@ -155,97 +156,112 @@ pub fn expression(table: &[u32], fields: &[u32], s: Scope, r: Range, row: usize)
 
 // An expression that must fit a type: 31.
 #[cycle(arguments_array_binary_call_creation_dotted_element_expression_invocation_measured_new_array_operand)]
-pub fn operand(table: &[u32], fields: &[u32], s: Scope, r: Range, row: usize, want: usize) -> Judged
+pub fn operand(
+    table: &[u32],
+    fields: &[u32],
+    s: Scope,
+    r: Range,
+    row: usize,
+    want: usize,
+) -> Result<(), Refusal>
     requires { Judgeable table.now fields.now s × (r.end ≤ s.tokens) }
     ensures { OperandPost table.now s r.first r.end row want result }
 {
-    let e = expression(table, fields, s, r, row);
-    match e {
-        Judged::Fine(t) => {
-            if fits(table, s.tokens, s.classes, t, want) {
-                return Judged::Fine(0);
-            }
-            Judged::Refused(codes::WRONG_TYPE, word(table, columns::BEGIN, row))
-        }
-        Judged::Refused(number, at) => Judged::Refused(number, at),
+    let t = expression(table, fields, s, r, row)?;
+    if fits(table, s.tokens, s.classes, t, want) {
+        return Ok(());
     }
+    let position = word(table, columns::BEGIN, row);
+    Err(Refusal {
+        reason: Reason::WrongType,
+        position,
+    })
 }
 
 // A part that must be an array, 31; the answer is the type of what it holds.
 #[cycle(arguments_array_binary_call_creation_dotted_element_expression_invocation_measured_new_array_operand)]
-fn array(table: &[u32], fields: &[u32], s: Scope, r: Range, row: usize) -> Judged
+fn array(table: &[u32], fields: &[u32], s: Scope, r: Range, row: usize) -> Result<usize, Refusal>
     requires { Judgeable table.now fields.now s × (r.end ≤ s.tokens) }
     ensures { ArrayPost table.now s r.first r.end row result }
 {
-    let e = expression(table, fields, s, r, row);
-    match e {
-        Judged::Fine(t) => {
-            if t < ARRAY {
-                return Judged::Refused(codes::WRONG_TYPE, word(table, columns::BEGIN, row));
-            }
-            Judged::Fine(t - ARRAY)
-        }
-        Judged::Refused(number, at) => Judged::Refused(number, at),
+    let t = expression(table, fields, s, r, row)?;
+    if t < ARRAY {
+        return Err(Refusal {
+            reason: Reason::WrongType,
+            position: word(table, columns::BEGIN, row),
+        });
     }
+    Ok(t - ARRAY)
 }
 
 // `a[i]`.
 #[cycle(arguments_array_binary_call_creation_dotted_element_expression_invocation_measured_new_array_operand)]
-fn element(table: &[u32], fields: &[u32], s: Scope, r: Range, row: usize) -> Judged
+fn element(table: &[u32], fields: &[u32], s: Scope, r: Range, row: usize) -> Result<usize, Refusal>
     requires { Judgeable table.now fields.now s × (r.first ≤ row) × (row < r.end) × (r.end ≤ s.tokens) }
     ensures { NodePost table.now s an_element r.first r.end row result }
 {
     let left = word(table, columns::FIRST, row);
-    let a = array(table, fields, s, before(r, row), left);
-    match a {
-        Judged::Fine(t) => {
-            let right = word(table, columns::SECOND, row);
-            typed(operand(table, fields, s, behind(r, row), right, INT), t)
-        }
-        Judged::Refused(number, at) => Judged::Refused(number, at),
-    }
+    let t = array(table, fields, s, before(r, row), left)?;
+    let right = word(table, columns::SECOND, row);
+    operand(table, fields, s, behind(r, row), right, INT)?;
+    Ok(t)
 }
 
 // An operation of kind k: the left part must have a type that the operator takes, the right part must fit that type: 31.
 #[cycle(arguments_array_binary_call_creation_dotted_element_expression_invocation_measured_new_array_operand)]
-fn binary(table: &[u32], fields: &[u32], s: Scope, r: Range, row: usize, k: u32) -> Judged
+fn binary(
+    table: &[u32],
+    fields: &[u32],
+    s: Scope,
+    r: Range,
+    row: usize,
+    k: u32,
+) -> Result<usize, Refusal>
     requires judgeable { Judgeable table.now fields.now s × (r.first ≤ row) × (row < r.end) × (r.end ≤ s.tokens) }
     requires k_value { k ≡ kind_in_table table.now s.tokens row }
     ensures { NodePost table.now s a_binary r.first r.end row result }
 {
     let left = word(table, columns::FIRST, row);
-    let a = expression(table, fields, s, before(r, row), left);
-    match a {
-        Judged::Fine(t) => {
-            let answer = operation(k, t);
-            if NOTHING <= answer {
-                return Judged::Refused(codes::WRONG_TYPE, word(table, columns::BEGIN, left));
-            }
-            let right = word(table, columns::SECOND, row);
-            typed(operand(table, fields, s, behind(r, row), right, t), answer)
-        }
-        Judged::Refused(number, at) => Judged::Refused(number, at),
+    let t = expression(table, fields, s, before(r, row), left)?;
+    let answer = operation(k, t);
+    if NOTHING <= answer {
+        return Err(Refusal {
+            reason: Reason::WrongType,
+            position: word(table, columns::BEGIN, left),
+        });
     }
+    let right = word(table, columns::SECOND, row);
+    operand(table, fields, s, behind(r, row), right, t)?;
+    Ok(answer)
 }
 
 // `new T[e]`: 24 before e.
 #[cycle(arguments_array_binary_call_creation_dotted_element_expression_invocation_measured_new_array_operand)]
-fn new_array(table: &[u32], fields: &[u32], s: Scope, r: Range, row: usize) -> Judged
+fn new_array(
+    table: &[u32],
+    fields: &[u32],
+    s: Scope,
+    r: Range,
+    row: usize,
+) -> Result<usize, Refusal>
     requires { Judgeable table.now fields.now s × (r.first ≤ row) × (row < r.end) × (r.end ≤ s.tokens) }
     ensures { NewArrayPost table.now s r.end row result }
 {
     let t = type_of(table, s.tokens, row + 1);
     if known(table, s.tokens, t) {
         let part = word(table, columns::FIRST, row);
-        let a = operand(table, fields, s, behind(r, row), part, INT);
-        return typed(a, t);
+        operand(table, fields, s, behind(r, row), part, INT)?;
+        return Ok(t);
     }
-    Judged::Refused(codes::TYPE_UNKNOWN, word(table, columns::START, row + 1))
+    Err(Refusal {
+        reason: Reason::TypeUnknown,
+        position: word(table, columns::START, row + 1),
+    })
 }
 
 // `new T[e]` or `new C()`.
 #[cycle(arguments_array_binary_call_creation_dotted_element_expression_invocation_measured_new_array_operand)]
-fn creation(table: &[u32], fields: &[u32], s: Scope, r: Range, row: usize) -> Judged
+fn creation(table: &[u32], fields: &[u32], s: Scope, r: Range, row: usize) -> Result<usize, Refusal>
     requires { Judgeable table.now fields.now s × (r.first ≤ row) × (row < r.end) × (r.end ≤ s.tokens) }
     ensures { CreationPost table.now s r.first r.end row result }
 {
@@ -257,17 +273,18 @@ fn creation(table: &[u32], fields: &[u32], s: Scope, r: Range, row: usize) -> Ju
 
 // `e.length`.
 #[cycle(arguments_array_binary_call_creation_dotted_element_expression_invocation_measured_new_array_operand)]
-fn measured(table: &[u32], fields: &[u32], s: Scope, r: Range, row: usize) -> Judged
+fn measured(table: &[u32], fields: &[u32], s: Scope, r: Range, row: usize) -> Result<usize, Refusal>
     requires { Judgeable table.now fields.now s × (r.first ≤ row) × (row < r.end) × (r.end ≤ s.tokens) }
     ensures { LengthPost table.now s r.first row result }
 {
     let part = word(table, columns::FIRST, row);
-    typed(array(table, fields, s, before(r, row), part), INT)
+    array(table, fields, s, before(r, row), part)?;
+    Ok(INT)
 }
 
 // `e.length` or a call.
 #[cycle(arguments_array_binary_call_creation_dotted_element_expression_invocation_measured_new_array_operand)]
-fn dotted(table: &[u32], fields: &[u32], s: Scope, r: Range, row: usize) -> Judged
+fn dotted(table: &[u32], fields: &[u32], s: Scope, r: Range, row: usize) -> Result<usize, Refusal>
     requires { Judgeable table.now fields.now s × (r.first ≤ row) × (row < r.end) × (r.end ≤ s.tokens) }
     ensures { DottedPost table.now s r.first r.end row result }
 {
@@ -279,60 +296,73 @@ fn dotted(table: &[u32], fields: &[u32], s: Scope, r: Range, row: usize) -> Judg
 
 // `e.m(e, ..)`: the receiver must be an object, 31.
 #[cycle(arguments_array_binary_call_creation_dotted_element_expression_invocation_measured_new_array_operand)]
-fn call(table: &[u32], fields: &[u32], s: Scope, r: Range, row: usize) -> Judged
+fn call(table: &[u32], fields: &[u32], s: Scope, r: Range, row: usize) -> Result<usize, Refusal>
     requires { Judgeable table.now fields.now s × (r.first ≤ row) × (row < r.end) × (r.end ≤ s.tokens) }
     ensures { NodePost table.now s a_call_shown r.first r.end row result }
 {
     let left = word(table, columns::FIRST, row);
-    let e = expression(table, fields, s, before(r, row), left);
-    match e {
-        Judged::Fine(t) => {
-            if INT <= t {
-                return Judged::Refused(codes::WRONG_TYPE, word(table, columns::BEGIN, left));
-            }
-            invocation(table, fields, s, behind(r, row), row, t)
-        }
-        Judged::Refused(number, at) => Judged::Refused(number, at),
+    let t = expression(table, fields, s, before(r, row), left)?;
+    if INT <= t {
+        return Err(Refusal {
+            reason: Reason::WrongType,
+            position: word(table, columns::BEGIN, left),
+        });
     }
+    invocation(table, fields, s, behind(r, row), row, t)
 }
 
 // The method, in a class of name c, and the arguments: 32, 33. The range is that of the arguments, behind the token in `row`.
 #[cycle(arguments_array_binary_call_creation_dotted_element_expression_invocation_measured_new_array_operand)]
-fn invocation(table: &[u32], fields: &[u32], s: Scope, r: Range, row: usize, c: usize) -> Judged
+fn invocation(
+    table: &[u32],
+    fields: &[u32],
+    s: Scope,
+    r: Range,
+    row: usize,
+    c: usize,
+) -> Result<usize, Refusal>
     requires { Judgeable table.now fields.now s × (row < r.first) × (r.end ≤ s.tokens) }
     ensures { InvocationPost table.now s r.first r.end row c result }
 {
     let called = word(table, columns::NUMBER, row + 1);
     let m = find_method(table, s.tokens, s.classes, c, called);
     if ABSENT <= m {
-        return Judged::Refused(codes::METHOD_UNKNOWN, word(table, columns::START, row + 1));
+        return Err(Refusal {
+            reason: Reason::MethodUnknown,
+            position: word(table, columns::START, row + 1),
+        });
     }
     let given = word(table, columns::SECOND, row);
     let taken = word(table, columns::PARAMETERS, m);
     if same_count(table, s.tokens, given, taken) {
-        let a = arguments(table, fields, s, r, given, taken);
-        return typed(a, type_of(table, s.tokens, word(table, columns::TYPE, m)));
+        arguments(table, fields, s, r, given, taken)?;
+        return Ok(type_of(table, s.tokens, word(table, columns::TYPE, m)));
     }
-    Judged::Refused(codes::ARGUMENT_COUNT, word(table, columns::START, row + 1))
+    Err(Refusal {
+        reason: Reason::ArgumentCount,
+        position: word(table, columns::START, row + 1),
+    })
 }
 
 // The arguments from a row on, each of which must fit its parameter; the parameters stand from the row `taken` on.
 #[cycle(arguments_array_binary_call_creation_dotted_element_expression_invocation_measured_new_array_operand)]
-fn arguments(table: &[u32], fields: &[u32], s: Scope, r: Range, row: usize, taken: usize) -> Judged
+fn arguments(
+    table: &[u32],
+    fields: &[u32],
+    s: Scope,
+    r: Range,
+    row: usize,
+    taken: usize,
+) -> Result<(), Refusal>
     requires { Judgeable table.now fields.now s × (r.end ≤ s.tokens) }
     ensures { ArgumentsPost table.now s r.first r.end row taken result }
 {
     if ABSENT <= row {
-        return Judged::Fine(0);
+        return Ok(());
     }
     let want = type_of(table, s.tokens, word(table, columns::TYPE, taken));
-    let a = operand(table, fields, s, r, row, want);
-    match a {
-        Judged::Fine(_) => {
-            let next = word(table, columns::NEXT, row);
-            let after = word(table, columns::NEXT, taken);
-            arguments(table, fields, s, behind(r, row), next, after)
-        }
-        Judged::Refused(number, at) => Judged::Refused(number, at),
-    }
+    operand(table, fields, s, r, row, want)?;
+    let next = word(table, columns::NEXT, row);
+    let after = word(table, columns::NEXT, taken);
+    arguments(table, fields, s, behind(r, row), next, after)
 }

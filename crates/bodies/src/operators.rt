@@ -28,20 +28,12 @@ fn numeric(left: usize, integer: usize, fixed: usize) -> usize
 pub fn operation(k: u32, left: usize) -> usize
     ensures { OperationPost k left result }
 {
-    if k == kinds::AND {
-        return line(left, BOOLEAN, BOOLEAN);
+    match k {
+        kinds::AND => line(left, BOOLEAN, BOOLEAN),
+        kinds::LESS => numeric(left, BOOLEAN, BOOLEAN),
+        kinds::PLUS => numeric(left, INT, FIXED),
+        kinds::MINUS => numeric(left, INT, FIXED),
+        kinds::TIMES => numeric(left, INT, FIXED),
+        _ => NOTHING,
     }
-    if k == kinds::LESS {
-        return numeric(left, BOOLEAN, BOOLEAN);
-    }
-    if k == kinds::PLUS {
-        return numeric(left, INT, FIXED);
-    }
-    if k == kinds::MINUS {
-        return numeric(left, INT, FIXED);
-    }
-    if k == kinds::TIMES {
-        return numeric(left, INT, FIXED);
-    }
-    NOTHING
 }

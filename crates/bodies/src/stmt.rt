@@ -8,10 +8,8 @@ ghost use Rattle.bodies.specs.promises.StatementPost.{StatementPost, ListPost, S
 use crate::expr::{expression, name, operand};
 use crate::range::{Range, behind};
 use crate::scope::Scope;
-use base::codes;
-use base::codes::BROKEN;
+use base::refusal::{Reason, Refusal};
 use lexer::kinds;
-use lookup::answer::Judged;
 use lookup::rows::word;
 use lookup::types::{ARRAY, BOOLEAN, FIXED, INT};
 use parser::columns;
@@ -19,85 +17,96 @@ use parser::columns::ABSENT;
 use parser::table::kind;
 
 // Where and what is stored: index and value of an assignment to an element, which is of type `want`; register and value of `Port.put`.
-fn stored(table: &[u32], fields: &[u32], s: Scope, parts: Range, row: usize, want: usize) -> Judged
+fn stored(
+    table: &[u32],
+    fields: &[u32],
+    s: Scope,
+    parts: Range,
+    row: usize,
+    want: usize,
+) -> Result<(), Refusal>
     requires { Judgeable table.now fields.now s × (parts.end ≤ s.tokens) }
     ensures { ValuePost table.now s parts.first parts.end row want result }
 {
     let index = word(table, columns::FIRST, row);
-    let i = operand(table, fields, s, parts, index, INT);
-    match i {
-        Judged::Fine(_) => {
-            let value = word(table, columns::SECOND, row);
-            operand(table, fields, s, parts, value, want)
-        }
-        Judged::Refused(number, at) => Judged::Refused(number, at),
-    }
+    operand(table, fields, s, parts, index, INT)?;
+    let value = word(table, columns::SECOND, row);
+    operand(table, fields, s, parts, value, want)
 }
 
 // An assignment to an element: the target is looked up first, and must be an array: 31 at its name.
-fn element_store(table: &[u32], fields: &[u32], s: Scope, parts: Range, row: usize) -> Judged
+fn element_store(
+    table: &[u32],
+    fields: &[u32],
+    s: Scope,
+    parts: Range,
+    row: usize,
+) -> Result<(), Refusal>
     requires { Judgeable table.now fields.now s × (parts.end ≤ s.tokens) }
     ensures { StatementNodePost table.now s an_element_store parts.first parts.end row result }
 {
-    let x = name(table, fields, s, row);
-    match x {
-        Judged::Fine(t) => {
-            if t < ARRAY {
-                return Judged::Refused(codes::WRONG_TYPE, word(table, columns::BEGIN, row));
-            }
-            stored(table, fields, s, parts, row, t - ARRAY)
-        }
-        Judged::Refused(number, at) => Judged::Refused(number, at),
+    let t = name(table, fields, s, row)?;
+    if t < ARRAY {
+        return Err(Refusal {
+            reason: Reason::WrongType,
+            position: word(table, columns::BEGIN, row),
+        });
     }
+    stored(table, fields, s, parts, row, t - ARRAY)
 }
 
 // An assignment: the target is looked up first.
-fn assignment(table: &[u32], fields: &[u32], s: Scope, parts: Range, row: usize) -> Judged
+fn assignment(
+    table: &[u32],
+    fields: &[u32],
+    s: Scope,
+    parts: Range,
+    row: usize,
+) -> Result<(), Refusal>
     requires { Judgeable table.now fields.now s × (parts.end ≤ s.tokens) }
     ensures { StatementNodePost table.now s an_assignment parts.first parts.end row result }
 {
-    let x = name(table, fields, s, row);
-    match x {
-        Judged::Fine(t) => {
-            let value = word(table, columns::FIRST, row);
-            operand(table, fields, s, parts, value, t)
-        }
-        Judged::Refused(number, at) => Judged::Refused(number, at),
-    }
+    let t = name(table, fields, s, row)?;
+    let value = word(table, columns::FIRST, row);
+    operand(table, fields, s, parts, value, t)
 }
 
 // `System.out.println`: what is printed must be int or fixed, 31 at it.
-fn printed(table: &[u32], fields: &[u32], s: Scope, parts: Range, row: usize) -> Judged
+fn printed(table: &[u32], fields: &[u32], s: Scope, parts: Range, row: usize) -> Result<(), Refusal>
     requires { Judgeable table.now fields.now s × (parts.end ≤ s.tokens) }
     ensures { StatementNodePost table.now s a_print parts.first parts.end row result }
 {
     let part = word(table, columns::FIRST, row);
-    let e = expression(table, fields, s, parts, part);
-    match e {
-        Judged::Fine(t) => {
-            if t == INT {
-                return Judged::Fine(0);
-            }
-            if t == FIXED {
-                return Judged::Fine(0);
-            }
-            Judged::Refused(codes::WRONG_TYPE, word(table, columns::BEGIN, part))
-        }
-        Judged::Refused(number, at) => Judged::Refused(number, at),
+    let t = expression(table, fields, s, parts, part)?;
+    if t == INT {
+        return Ok(());
     }
+    if t == FIXED {
+        return Ok(());
+    }
+    Err(Refusal {
+        reason: Reason::WrongType,
+        position: word(table, columns::BEGIN, part),
+    })
 }
 
 // A statement.
 #[cycle(branches_conditional_list_repeated_single)]
-pub fn single(table: &[u32], fields: &[u32], s: Scope, r: Range, row: usize) -> Judged
+pub fn single(table: &[u32], fields: &[u32], s: Scope, r: Range, row: usize) -> Result<(), Refusal>
     requires { Judgeable table.now fields.now s × (r.end ≤ s.tokens) }
     ensures { StatementPost table.now s r.first r.end row result }
 {
     if row < r.first {
-        return Judged::Refused(BROKEN, 0);
+        return Err(Refusal {
+            reason: Reason::Broken,
+            position: 0,
+        });
     }
     if r.end <= row {
-        return Judged::Refused(BROKEN, 0);
+        return Err(Refusal {
+            reason: Reason::Broken,
+            position: 0,
+        });
     }
     let parts = behind(r, row);
     let k = kind(table, s.tokens, row);
@@ -124,67 +133,67 @@ pub fn single(table: &[u32], fields: &[u32], s: Scope, r: Range, row: usize) -> 
 
 // The branches of an `if`.
 #[cycle(branches_conditional_list_repeated_single)]
-fn branches(table: &[u32], fields: &[u32], s: Scope, parts: Range, row: usize) -> Judged
+fn branches(
+    table: &[u32],
+    fields: &[u32],
+    s: Scope,
+    parts: Range,
+    row: usize,
+) -> Result<(), Refusal>
     requires { Judgeable table.now fields.now s × (parts.end ≤ s.tokens) }
     ensures { BranchesPost table.now s parts.first parts.end row result }
 {
     let second = word(table, columns::SECOND, row);
-    let a = single(table, fields, s, parts, second);
-    match a {
-        Judged::Fine(_) => {
-            let third = word(table, columns::THIRD, row);
-            single(table, fields, s, parts, third)
-        }
-        Judged::Refused(number, at) => Judged::Refused(number, at),
-    }
+    single(table, fields, s, parts, second)?;
+    let third = word(table, columns::THIRD, row);
+    single(table, fields, s, parts, third)
 }
 
 // `if`: its test, then both branches.
 #[cycle(branches_conditional_list_repeated_single)]
-fn conditional(table: &[u32], fields: &[u32], s: Scope, parts: Range, row: usize) -> Judged
+fn conditional(
+    table: &[u32],
+    fields: &[u32],
+    s: Scope,
+    parts: Range,
+    row: usize,
+) -> Result<(), Refusal>
     requires { Judgeable table.now fields.now s × (parts.end ≤ s.tokens) }
     ensures { StatementNodePost table.now s a_conditional parts.first parts.end row result }
 {
     let test = word(table, columns::FIRST, row);
-    let t = operand(table, fields, s, parts, test, BOOLEAN);
-    match t {
-        Judged::Fine(_) => branches(table, fields, s, parts, row),
-        Judged::Refused(number, at) => Judged::Refused(number, at),
-    }
+    operand(table, fields, s, parts, test, BOOLEAN)?;
+    branches(table, fields, s, parts, row)
 }
 
 // `while`: its test, then its body.
 #[cycle(branches_conditional_list_repeated_single)]
-fn repeated(table: &[u32], fields: &[u32], s: Scope, parts: Range, row: usize) -> Judged
+fn repeated(
+    table: &[u32],
+    fields: &[u32],
+    s: Scope,
+    parts: Range,
+    row: usize,
+) -> Result<(), Refusal>
     requires { Judgeable table.now fields.now s × (parts.end ≤ s.tokens) }
     ensures { StatementNodePost table.now s a_loop parts.first parts.end row result }
 {
     let test = word(table, columns::FIRST, row);
-    let t = operand(table, fields, s, parts, test, BOOLEAN);
-    match t {
-        Judged::Fine(_) => {
-            let body = word(table, columns::SECOND, row);
-            single(table, fields, s, parts, body)
-        }
-        Judged::Refused(number, at) => Judged::Refused(number, at),
-    }
+    operand(table, fields, s, parts, test, BOOLEAN)?;
+    let body = word(table, columns::SECOND, row);
+    single(table, fields, s, parts, body)
 }
 
 // The statements from a row on.
 #[cycle(branches_conditional_list_repeated_single)]
-pub fn list(table: &[u32], fields: &[u32], s: Scope, r: Range, row: usize) -> Judged
+pub fn list(table: &[u32], fields: &[u32], s: Scope, r: Range, row: usize) -> Result<(), Refusal>
     requires { Judgeable table.now fields.now s × (r.end ≤ s.tokens) }
     ensures { ListPost table.now s r.first r.end row result }
 {
     if ABSENT <= row {
-        return Judged::Fine(0);
+        return Ok(());
     }
-    let a = single(table, fields, s, r, row);
-    match a {
-        Judged::Fine(_) => {
-            let next = word(table, columns::NEXT, row);
-            list(table, fields, s, behind(r, row), next)
-        }
-        Judged::Refused(number, at) => Judged::Refused(number, at),
-    }
+    single(table, fields, s, r, row)?;
+    let next = word(table, columns::NEXT, row);
+    list(table, fields, s, behind(r, row), next)
 }

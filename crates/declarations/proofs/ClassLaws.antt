@@ -21,12 +21,15 @@ use Rattle.reader.specs.promises.Matches.{ParentMatches}
 use Rattle.typesystem.specs.ClassTable.{class_named}
 use Rattle.typesystem.specs.Declarations.{known_parent, known_parents, fields, heads, declarations}
 use Rattle.typing.specs.laws.Choices.{bind_assoc}
-use Rattle.lookup.specs.declared.answer.Judged.{Judged}
-use Rattle.lookup.specs.declared.answer.Judged.TheVariants.{Fine, Refused}
+use Rattle.std.specs.Prelude.{Result, Ok, Err}
+use Rattle.base.specs.declared.refusal.Reason.TheVariants as reason
+use Rattle.base.specs.declared.refusal.Refusal.{Refusal}
+use Rattle.base.specs.promises.Refusals.{number_of, refusal}
+use Rattle.lookup.specs.promises.Answers.{Judged, Typed}
 use Rattle.lookup.specs.promises.HeldClasses.{word_at, Lexemes, NameNumber, a-name, ClassHeld, ClassesHeld, more-classes, ClassTableHeld}
 use Rattle.lookup.specs.laws.HeldLaws.{word_in, start_word, name-word, row-there, ClassAt, no-class, a-class, class-at, none_left}
 use Rattle.lookup.specs.promises.Lookups.{Above}
-use Rattle.lookup.specs.promises.Answers.{as_judged, goes_on, stops}
+use Rattle.lookup.specs.promises.Answers.{told, goes_on, stops}
 use Rattle.declarations.specs.promises.Marking.{StampsBelow}
 use Rattle.declarations.specs.promises.Judgements.{FieldsJudged, HeadsJudged, orphaned, OrphanAt, ClassesAt, ParentsJudged, FoundByName, MembersJudged, DeclarationsJudged}
 use Rattle.declarations.proofs.MarkLaws.{below_more, none-marked}
@@ -98,21 +101,21 @@ known-class none start e = absurd (false≢true e)
 known-class (some k) start e = refl
 
 module _ {tab : List ℕ} {left row : ℕ} where
-  pub parents-none-left : row < absent → left ≡ 0 → {number p : ℕ} → ParentsJudged tab left row (Refused number p)
+  pub parents-none-left : row < absent → left ≡ 0 → {z : Refusal} → ParentsJudged tab left row (Err z)
   parents-none-left near e = record { says = λ n ts G w ks a. absurd (none_left row_classes refl ks a.here a.few near e) }
 
-  pub parents-absent : absent ≤ row → ParentsJudged tab left row (Fine 0)
+  pub parents-absent : absent ≤ row → ParentsJudged tab left row (Ok tt)
   unfolding known_parents
   parents-absent far = record { says = λ n ts G w ks a. go n ts G w ks a }
     where
       go : (n : ℕ) (ts : List Token) (G : List Class) → ClassTableHeld tab n ts G → (ks : List Class) → ClassesAt tab n ts ks left row
-          → Fine 0 ≡ as_judged (known_parents G ks)
+          → told (Ok tt) ≡ (known_parents G ks)
       go n ts G w [] a = refl
       go n ts G w (k ∷ ks) a = absurd (omega (arith, (first-class w.tokens a).near))
 
   module _ (near : row < absent) {b : Bool} (h : OrphanAt tab row b) where
     pub parents-orphan : b ≡ true → {p q : ℕ} → p ≡ word_at tab c_parent row → q ≡ word_at tab c_start p
-        → ParentsJudged tab left row (Refused parent_unknown q)
+        → ParentsJudged tab left row (refusal reason.ParentUnknown q)
     unfolding known_parents ParentMatches
     parents-orphan is {p} {q} e₃ e₁ = record { says = λ n ts G w ks a. go n ts G w ks a }
       where
@@ -125,7 +128,7 @@ module _ {tab : List ℕ} {left row : ℕ} where
             ∙ ap (λ (i : ℕ). refused parent_unknown i) (sym (e₁ ∙ ap (word_at tab c_start) e ∙ start_word w.tokens x.row m.token.there ∙ m.start))
 
         go : (n : ℕ) (ts : List Token) (G : List Class) → ClassTableHeld tab n ts G → (ks : List Class) → ClassesAt tab n ts ks left row
-            → Refused parent_unknown q ≡ as_judged (known_parents G ks)
+            → told (refusal reason.ParentUnknown q) ≡ (known_parents G ks)
         go n ts G w [] a = absurd (omega (arith, a.here))
         go n ts G w (k ∷ ks) a =
             let s = (first-class w.tokens a).stands in
@@ -141,7 +144,7 @@ module _ {tab : List ℕ} {left row : ℕ} where
         parent G (some x) r = known-class (class_named G x.text) x.start r
 
         go : (n : ℕ) (ts : List Token) (G : List Class) → ClassTableHeld tab n ts G → (ks : List Class) → ClassesAt tab n ts ks left row
-            → r ≡ as_judged (known_parents G ks)
+            → told r ≡ (known_parents G ks)
         go n ts G w [] a = absurd (omega (arith, a.here))
         go n ts G w (k ∷ ks) a =
             let f = first-class w.tokens a in
@@ -157,17 +160,17 @@ fields-below {stamp = stamp} new h = h.below (stamp + 1) (omega arith) (below_mo
 module _ {tab : List ℕ} {n stamp class first : ℕ} (e₄ : first ≡ word_at tab c_fields class) {before mid : List ℕ} (new : StampsBelow stamp before)
     {f : Judged} (h : FieldsJudged tab n n stamp first before mid f) where
   own-fields : {ts : List Token} {G : List Class} → ClassTableHeld tab n ts G → (k : Class) → k.name.row ≡ class → ClassHeld tab n ts k
-      → f ≡ as_judged (fields G [] k.fields)
+      → told f ≡ (fields G [] k.fields)
   own-fields {ts} {G} w k at s =
       h.says ts G w [] k.fields (record { here = sym (class-word w.tokens k at s c_fields e₄ s.first); stand = s.fields; few = s.few-fields; marked = none-marked new })
 
-  pub members-stop : {classes number p : ℕ} → f ≡ Refused number p → MembersJudged tab n classes stamp class mid (Refused number p)
+  pub members-stop : {classes : ℕ} {z : Refusal} → f ≡ Err z → MembersJudged tab n classes stamp class mid (Err z)
   members-stop is = record {
     below = below_more (omega arith) (fields-below new h);
-    says = λ ts G w l k at s own. ap as_judged (sym (stops (fields G [] k.fields) (λ _. heads G k [] k.methods) (own-fields w k at s) is));
+    says = λ ts G w l k at s own. (sym (stops (fields G [] k.fields) (λ _. heads G k [] k.methods) (own-fields w k at s) is));
   }
 
-  pub members-next : {classes u : ℕ} → f ≡ Fine u → {methods p : ℕ} {after : List ℕ} {r : Judged} → methods ≡ word_at tab c_methods class
+  pub members-next : {classes : ℕ} → f ≡ Ok tt → {methods p : ℕ} {after : List ℕ} {r : Judged} → methods ≡ word_at tab c_methods class
       → Above tab class p
       → HeadsJudged tab n classes n p (stamp + 1) methods mid after r → MembersJudged tab n classes stamp class after r
   members-next is {methods} {p} {after} {r} e₅ up h' = record {
@@ -175,7 +178,7 @@ module _ {tab : List ℕ} {n stamp class first : ℕ} (e₄ : first ≡ word_at 
     says = λ ts G w l k at s own.
         h'.says ts G w l k (record { own = own; above = up.says n ts w.tokens k at s }) [] k.methods
         (record { here = sym (class-word w.tokens k at s c_methods e₅ s.second); stand = s.methods; few = s.few-methods; marked = none-marked (fields-below new h) })
-        ∙ ap as_judged (sym (goes_on (fields G [] k.fields) (λ _. heads G k [] k.methods) (own-fields w k at s) is));
+        ∙ (sym (goes_on (fields G [] k.fields) (λ _. heads G k [] k.methods) (own-fields w k at s) is));
   }
 
 -- DECLARATIONS
@@ -186,41 +189,41 @@ unfolding declarations
 declarations-more G k ks = bind_assoc (fields G [] k.fields) (λ _. heads G k [] k.methods) (λ _. declarations G ks)
 
 module _ {tab : List ℕ} {n classes left row : ℕ} where
-  pub declarations-none-left : row < absent → left ≡ 0 → {number p : ℕ} → DeclarationsJudged tab n classes left row (Refused number p)
+  pub declarations-none-left : row < absent → left ≡ 0 → {z : Refusal} → DeclarationsJudged tab n classes left row (Err z)
   declarations-none-left near e = record { says = λ ts G w l ks a own. absurd (none_left row_classes refl ks a.here a.few near e) }
 
-  pub declarations-absent : absent ≤ row → DeclarationsJudged tab n classes left row (Fine 0)
+  pub declarations-absent : absent ≤ row → DeclarationsJudged tab n classes left row (Ok tt)
   unfolding declarations
   declarations-absent far = record { says = λ ts G w l ks a own. go ts G w ks a }
     where
       go : (ts : List Token) (G : List Class) → ClassTableHeld tab n ts G → (ks : List Class) → ClassesAt tab n ts ks left row
-          → Fine 0 ≡ as_judged (declarations G ks)
+          → told (Ok tt) ≡ (declarations G ks)
       go ts G w [] a = refl
       go ts G w (k ∷ ks) a = absurd (omega (arith, (first-class w.tokens a).near))
 
   module _ (near : row < absent) {stamp : ℕ} {after : List ℕ} {o : Judged} (h : MembersJudged tab n classes stamp row after o) where
-    pub declarations-stop : {number p : ℕ} → o ≡ Refused number p → DeclarationsJudged tab n classes left row (Refused number p)
-    declarations-stop {number} {p} is = record { says = λ ts G w l ks a own. go ts G w l ks a own }
+    pub declarations-stop : {z : Refusal} → o ≡ Err z → DeclarationsJudged tab n classes left row (Err z)
+    declarations-stop {z = z} is = record { says = λ ts G w l ks a own. go ts G w l ks a own }
       where
         go : (ts : List Token) (G : List Class) → ClassTableHeld tab n ts G → length G ≡ classes → (ks : List Class)
             → ClassesAt tab n ts ks left row → FoundByName G ks
-            → Refused number p ≡ as_judged (declarations G ks)
+            → told (Err z) ≡ (declarations G ks)
         go ts G w l [] a own = absurd (omega (arith, a.here))
         go ts G w l (k ∷ ks) a (all_cons own owns) =
-            ap as_judged (sym (declarations-more G k ks
+            (sym (declarations-more G k ks
             ∙ stops (fields G [] k.fields >>= λ _. heads G k [] k.methods) (λ _. declarations G ks)
             (h.says ts G w l k a.here (first-class w.tokens a).stands own) is))
 
-    pub declarations-next : (left ≡ 0 → ⊥) → {u : ℕ} → o ≡ Fine u → {next : ℕ} {r : Judged} → next ≡ word_at tab c_next row
+    pub declarations-next : (left ≡ 0 → ⊥) → o ≡ Ok tt → {next : ℕ} {r : Judged} → next ≡ word_at tab c_next row
         → DeclarationsJudged tab n classes (left - 1) next r → DeclarationsJudged tab n classes left row r
     declarations-next more is {next} {r} e₆ h' = record { says = λ ts G w l ks a own. go ts G w l ks a own }
       where
         go : (ts : List Token) (G : List Class) → ClassTableHeld tab n ts G → length G ≡ classes → (ks : List Class)
             → ClassesAt tab n ts ks left row → FoundByName G ks
-            → r ≡ as_judged (declarations G ks)
+            → told r ≡ (declarations G ks)
         go ts G w l [] a own = absurd (omega (arith, a.here))
         go ts G w l (k ∷ ks) a (all_cons own owns) =
             let f = first-class w.tokens a in
             h'.says ts G w l ks (f.rest e₆ more) owns
-            ∙ ap as_judged (sym (declarations-more G k ks
+            ∙ (sym (declarations-more G k ks
             ∙ goes_on (fields G [] k.fields >>= λ _. heads G k [] k.methods) (λ _. declarations G ks) (h.says ts G w l k a.here f.stands own) is))

@@ -21,13 +21,16 @@ use Rattle.typesystem.specs.ClassTable.{Found, class_named, chain, nearest_metho
 use Rattle.typesystem.specs.Declarations.{known_type, variables, same_types_lem, redeclares, redeclaration, new_method, heads}
 use Rattle.typesystem.specs.TypingRules.{method_name}
 use Rattle.typing.specs.laws.Choices.{none-some}
-use Rattle.lookup.specs.declared.answer.Judged.{Judged}
-use Rattle.lookup.specs.declared.answer.Judged.TheVariants.{Fine, Refused}
+use Rattle.std.specs.Prelude.{Result, Ok, Err}
+use Rattle.base.specs.declared.refusal.Reason.TheVariants as reason
+use Rattle.base.specs.declared.refusal.Refusal.{Refusal}
+use Rattle.base.specs.promises.Refusals.{number_of, refusal}
+use Rattle.lookup.specs.promises.Answers.{Judged, Typed}
 use Rattle.lookup.specs.promises.HeldClasses.{word_at, Lexemes, NameNumber, Codes, VariablesHeld, no-variables, MethodHeld, ClassTableHeld, chain_from, parent_name}
 use Rattle.lookup.specs.laws.HeldLaws.{word_in, row-there, same_codes, other-codes, none_left}
 use Rattle.lookup.specs.laws.ChainLaws.{chain-some, found-stands}
 use Rattle.lookup.specs.promises.Lookups.{TypeOf, Fits, row_found, FindsMethod}
-use Rattle.lookup.specs.promises.Answers.{as_judged, goes_on, stops}
+use Rattle.lookup.specs.promises.Answers.{told, goes_on, stops}
 use Rattle.declarations.specs.promises.Marking.{Marked, MarkPost}
 use Rattle.declarations.specs.promises.Earlier.{MethodAt, MethodsAt}
 use Rattle.declarations.specs.promises.Judgements.{KnownAt, VariablesJudged, TypesCompared, RedeclaresAt, Parented, redeclared, CompatibleAt, judged_head, closed, OpeningJudged, RestJudged, HeadJudged, HeadsJudged}
@@ -192,16 +195,16 @@ module _ {tab : List ℕ} {n classes parent row : ℕ} where
 -- ONE HEAD
 
 module _ {tab : List ℕ} {n stamp row t : ℕ} {before : List ℕ} (e₃ : t ≡ word_at tab c_type row) {b : Bool} (k : KnownAt tab n t b) where
-  pub opening-unknown : b ≡ false → {p : ℕ} → p ≡ word_at tab c_start t → OpeningJudged tab n stamp row before before (Refused type_unknown p)
+  pub opening-unknown : b ≡ false → {p : ℕ} → p ≡ word_at tab c_start t → OpeningJudged tab n stamp row before before (refusal reason.TypeUnknown p)
   unfolding judged_head
   opening-unknown is {p} e₁ = record { below = λ bound high b. b; says = go; marks = λ e. apart (cc) }
     where
       go : (ts : List Token) (G : List Class) → ClassTableHeld tab n ts G → (earlier : List (List ℕ)) (m : Method)
           → MethodAt tab n ts before stamp earlier m row
-          → Refused type_unknown p ≡ as_judged (judged_head G earlier m)
+          → told (refusal reason.TypeUnknown p) ≡ (judged_head G earlier m)
       go ts G w earlier m a =
           let d = method-declared w.tokens m a.here a.stand in
-          rw (declared_known k e₃ w d ∙ is) (ap (Refused type_unknown) (type-place e₃ e₁ d))
+          rw (declared_known k e₃ w d ∙ is) (ap (refused type_unknown) (type-place e₃ e₁ d))
 
   module _ (is : b ≡ true) {x : ℕ} (e₂ : x ≡ word_at tab c_number row) {after : List ℕ} {c : Bool} (h : MarkPost x stamp before after c) where
     -- the number of the method's name
@@ -209,41 +212,41 @@ module _ {tab : List ℕ} {n stamp row t : ℕ} {before : List ℕ} (e₃ : t �
         → NameNumber ts (method_name m) x
     number {ts} lx m a = subst (NameNumber ts (method_name m)) (sym e₂) (method-declared lx m a.here a.stand).number
 
-    pub opening-repeated : c ≡ true → {p : ℕ} → p ≡ word_at tab c_start row → OpeningJudged tab n stamp row before after (Refused method_repeated p)
+    pub opening-repeated : c ≡ true → {p : ℕ} → p ≡ word_at tab c_start row → OpeningJudged tab n stamp row before after (refusal reason.MethodRepeated p)
     unfolding judged_head
     opening-repeated again {p} e₁ = record { below = h.below; says = go; marks = λ e. apart (cc) }
       where
         go : (ts : List Token) (G : List Class) → ClassTableHeld tab n ts G → (earlier : List (List ℕ)) (m : Method)
             → MethodAt tab n ts before stamp earlier m row
-            → Refused method_repeated p ≡ as_judged (judged_head G earlier m)
+            → told (refusal reason.MethodRepeated p) ≡ (judged_head G earlier m)
         go ts G w earlier m a =
             let d = method-declared w.tokens m a.here a.stand in
-            rw (declared_known k e₃ w d ∙ is, marked-is w.tokens h (number w.tokens m a) a.marked ∙ again) (ap (Refused method_repeated) (e₁ ∙ d.start))
+            rw (declared_known k e₃ w d ∙ is, marked-is w.tokens h (number w.tokens m a) a.marked ∙ again) (ap (refused method_repeated) (e₁ ∙ d.start))
 
-    pub opening-fine : c ≡ false → OpeningJudged tab n stamp row before after (Fine 0)
+    pub opening-fine : c ≡ false → OpeningJudged tab n stamp row before after (Ok tt)
     unfolding judged_head
     opening-fine new = record { below = h.below; says = go; marks = λ e ts lx earlier m a. marked_next lx h (number lx m a) a.marked }
       where
         go : (ts : List Token) (G : List Class) → ClassTableHeld tab n ts G → (earlier : List (List ℕ)) (m : Method)
             → MethodAt tab n ts before stamp earlier m row
-            → Fine 0 ≡ as_judged (judged_head G earlier m)
+            → told (Ok tt) ≡ (judged_head G earlier m)
         go ts G w earlier m a =
             let d = method-declared w.tokens m a.here a.stand in
             rw (declared_known k e₃ w d ∙ is, marked-is w.tokens h (number w.tokens m a) a.marked ∙ new)
 
 module _ {tab : List ℕ} {n row first : ℕ} {v : Judged} (e₄ : first ≡ word_at tab c_parameters row) (h : VariablesJudged tab n n absent 0 first 0 first v) where
   own-parameters : {ts : List Token} {G : List Class} → ClassTableHeld tab n ts G → (m : Method) → m.name.row ≡ row
-      → MethodHeld tab n ts m → v ≡ as_judged (variables G [] m.parameters)
+      → MethodHeld tab n ts m → told v ≡ (variables G [] m.parameters)
   own-parameters {ts} {G} w m at s =
       let e = parameters-word w.tokens m at s e₄ in
       h.says ts G w [] (record { stand = no-variables; begins = refl; many = refl }) [] m.parameters
       (record { stand = s.parameters; begins = e; before = refl; here = e }) s.few-parameters
 
-  pub rest-stop : {classes parent number p : ℕ} → v ≡ Refused number p → RestJudged tab n classes parent row (Refused number p)
+  pub rest-stop : {classes parent : ℕ} {z : Refusal} → v ≡ Err z → RestJudged tab n classes parent row (Err z)
   unfolding closed
-  rest-stop is = record { says = λ ts G w l k p m at s. ap as_judged (sym (stops (variables G [] m.parameters) (λ _. redeclaration G k m) (own-parameters w m at s) is)) }
+  rest-stop is = record { says = λ ts G w l k p m at s. (sym (stops (variables G [] m.parameters) (λ _. redeclaration G k m) (own-parameters w m at s) is)) }
 
-  module _ {classes parent u : ℕ} (is : v ≡ Fine u) {b : Bool} (c : CompatibleAt tab n classes parent row b) where
+  module _ {classes parent : ℕ} (is : v ≡ Ok tt) {b : Bool} (c : CompatibleAt tab n classes parent row b) where
     closed-by : {ts : List Token} {G : List Class} → ClassTableHeld tab n ts G → length G ≡ classes → (k : Class)
         → Parented ts G k parent → (m : Method) → m.name.row ≡ row
         → MethodHeld tab n ts m → closed G k m ≡ redeclared b m
@@ -251,30 +254,30 @@ module _ {tab : List ℕ} {n row first : ℕ} {v : Judged} (e₄ : first ≡ wor
     closed-by {ts} {G} w l k p m at s =
         goes_on (variables G [] m.parameters) (λ _. redeclaration G k m) (own-parameters w m at s) is ∙ c.says ts G w l k p m at s
 
-    pub rest-fine : b ≡ true → RestJudged tab n classes parent row (Fine 0)
+    pub rest-fine : b ≡ true → RestJudged tab n classes parent row (Ok tt)
     rest-fine well =
-        record { says = λ ts G w l k p m at s. ap as_judged (sym (closed-by w l k p m at s ∙ ap (λ (a : Bool). redeclared a m) well)) }
+        record { says = λ ts G w l k p m at s. (sym (closed-by w l k p m at s ∙ ap (λ (a : Bool). redeclared a m) well)) }
 
-    pub rest-bad : b ≡ false → {p : ℕ} → p ≡ word_at tab c_start row → RestJudged tab n classes parent row (Refused bad_redeclaration p)
+    pub rest-bad : b ≡ false → {p : ℕ} → p ≡ word_at tab c_start row → RestJudged tab n classes parent row (refusal reason.BadRedeclaration p)
     rest-bad ill e₁ = record {
       says = λ ts G w l k p m at s.
-          ap (Refused bad_redeclaration) (e₁ ∙ (method-declared w.tokens m at s).start) ∙ ap as_judged (sym (closed-by w l k p m at s ∙ ap (λ (a : Bool). redeclared a m) ill));
+          ap (refused bad_redeclaration) (e₁ ∙ (method-declared w.tokens m at s).start) ∙ (sym (closed-by w l k p m at s ∙ ap (λ (a : Bool). redeclared a m) ill));
     }
 
 module _ {tab : List ℕ} {n classes parent stamp row : ℕ} {before after : List ℕ} {o : Judged} (h : OpeningJudged tab n stamp row before after o) where
-  pub head-stop : {number p : ℕ} → o ≡ Refused number p → HeadJudged tab n classes parent stamp row before after (Refused number p)
+  pub head-stop : {z : Refusal} → o ≡ Err z → HeadJudged tab n classes parent stamp row before after (Err z)
   head-stop is = record {
     below = h.below;
-    says = λ ts G w l k p earlier m a. ap as_judged (sym (stops (judged_head G earlier m) (λ _. closed G k m) (h.says ts G w earlier m a) is));
+    says = λ ts G w l k p earlier m a. (sym (stops (judged_head G earlier m) (λ _. closed G k m) (h.says ts G w earlier m a) is));
     marks = λ e. apart (cc);
   }
 
-  pub head-next : {u : ℕ} → o ≡ Fine u → {r : Judged} → RestJudged tab n classes parent row r
+  pub head-next : o ≡ Ok tt → {r : Judged} → RestJudged tab n classes parent row r
       → HeadJudged tab n classes parent stamp row before after r
   head-next is h' = record {
     below = h.below;
     says = λ ts G w l k p earlier m a.
-        h'.says ts G w l k p m a.here a.stand ∙ ap as_judged (sym (goes_on (judged_head G earlier m) (λ _. closed G k m) (h.says ts G w earlier m a) is));
+        h'.says ts G w l k p m a.here a.stand ∙ (sym (goes_on (judged_head G earlier m) (λ _. closed G k m) (h.says ts G w earlier m a) is));
     marks = λ e. h.marks is;
   }
 
@@ -309,42 +312,42 @@ heads-rest lx a e₆ marked =
     record { here = sym f.next ∙ sym e₆; stand = f.rest; few = omega (arith, a.few); marked = marked }
 
 module _ {tab : List ℕ} {n classes left parent stamp row : ℕ} {before : List ℕ} where
-  pub heads-none-left : row < absent → left ≡ 0 → {number p : ℕ}
-      → HeadsJudged tab n classes left parent stamp row before before (Refused number p)
+  pub heads-none-left : row < absent → left ≡ 0 → {z : Refusal}
+      → HeadsJudged tab n classes left parent stamp row before before (Err z)
   heads-none-left near e = record { below = λ bound high b. b; says = λ ts G w l k p earlier ms a. absurd (none_left row_methods refl ms a.here a.few near e) }
 
-  pub heads-absent : absent ≤ row → HeadsJudged tab n classes left parent stamp row before before (Fine 0)
+  pub heads-absent : absent ≤ row → HeadsJudged tab n classes left parent stamp row before before (Ok tt)
   unfolding heads
   heads-absent far = record { below = λ bound high b. b; says = λ ts G w l k p earlier ms a. go ts G w k earlier ms a }
     where
       go : (ts : List Token) (G : List Class) → ClassTableHeld tab n ts G → (k : Class) (earlier : List (List ℕ)) (ms : List Method)
-          → MethodsAt tab n ts before stamp earlier ms left row → Fine 0 ≡ as_judged (heads G k earlier ms)
+          → MethodsAt tab n ts before stamp earlier ms left row → told (Ok tt) ≡ (heads G k earlier ms)
       go ts G w k earlier [] a = refl
       go ts G w k earlier (m ∷ ms) a = absurd (omega (arith, (first-method w.tokens a.here a.stand).near))
 
   module _ (near : row < absent) {mid : List ℕ} {o : Judged} (h : HeadJudged tab n classes parent stamp row before mid o) where
-    pub heads-stop : {number p : ℕ} → o ≡ Refused number p → HeadsJudged tab n classes left parent stamp row before mid (Refused number p)
-    heads-stop {number} {p} is = record { below = h.below; says = go }
+    pub heads-stop : {z : Refusal} → o ≡ Err z → HeadsJudged tab n classes left parent stamp row before mid (Err z)
+    heads-stop {z = z} is = record { below = h.below; says = go }
       where
         go : (ts : List Token) (G : List Class) → ClassTableHeld tab n ts G → length G ≡ classes → (k : Class) → Parented ts G k parent
             → (earlier : List (List ℕ)) (ms : List Method)
-            → MethodsAt tab n ts before stamp earlier ms left row → Refused number p ≡ as_judged (heads G k earlier ms)
+            → MethodsAt tab n ts before stamp earlier ms left row → told (Err z) ≡ (heads G k earlier ms)
         go ts G w l k q earlier [] a = absurd (omega (arith, a.here))
         go ts G w l k q earlier (m ∷ ms) a =
-            ap as_judged (sym (heads-more G k earlier m ms
+            (sym (heads-more G k earlier m ms
             ∙ stops (judged_head G earlier m >>= λ _. closed G k m) (λ _. heads G k (method_name m ∷ earlier) ms) (h.says ts G w l k q earlier m (head_of w.tokens a)) is))
 
-    pub heads-next : {u : ℕ} → o ≡ Fine u → {next : ℕ} {after : List ℕ} {r : Judged} → next ≡ word_at tab c_next row
+    pub heads-next : o ≡ Ok tt → {next : ℕ} {after : List ℕ} {r : Judged} → next ≡ word_at tab c_next row
         → HeadsJudged tab n classes (left - 1) parent stamp next mid after r
         → HeadsJudged tab n classes left parent stamp row before after r
-    heads-next {u} is {next} {after} {r} e₆ h' = record { below = λ bound high b. h'.below bound high (h.below bound high b); says = go }
+    heads-next is {next} {after} {r} e₆ h' = record { below = λ bound high b. h'.below bound high (h.below bound high b); says = go }
       where
         go : (ts : List Token) (G : List Class) → ClassTableHeld tab n ts G → length G ≡ classes → (k : Class) → Parented ts G k parent
             → (earlier : List (List ℕ)) (ms : List Method)
-            → MethodsAt tab n ts before stamp earlier ms left row → r ≡ as_judged (heads G k earlier ms)
+            → MethodsAt tab n ts before stamp earlier ms left row → told r ≡ (heads G k earlier ms)
         go ts G w l k q earlier [] a = absurd (omega (arith, a.here))
         go ts G w l k q earlier (m ∷ ms) a =
             let one = head_of w.tokens a in
             h'.says ts G w l k q (method_name m ∷ earlier) ms (heads-rest w.tokens a e₆ (h.marks is ts w.tokens earlier m one))
-            ∙ ap as_judged (sym (heads-more G k earlier m ms
+            ∙ (sym (heads-more G k earlier m ms
             ∙ goes_on (judged_head G earlier m >>= λ _. closed G k m) (λ _. heads G k (method_name m ∷ earlier) ms) (h.says ts G w l k q earlier m one) is))

@@ -19,12 +19,16 @@ use Rattle.parser.specs.Tree.{Name, Class}
 use Rattle.parser.specs.promises.Layout.{absent, row_classes}
 use Rattle.typesystem.specs.ClassTable.{class_named, ends_within}
 use Rattle.typesystem.specs.Declarations.{ending_chains}
-use Rattle.lookup.specs.declared.answer.Judged.{Judged}
-use Rattle.lookup.specs.declared.answer.Judged.TheVariants.{Fine, Refused}
+use Rattle.std.specs.Prelude.{Result, Ok, Err}
+use Rattle.base.specs.declared.refusal.Reason.TheVariants as reason
+use Rattle.base.specs.declared.refusal.Refusal.{Refusal}
+use Rattle.base.specs.Outcome.{refused}
+use Rattle.base.specs.promises.Refusals.{number_of, refusal}
+use Rattle.lookup.specs.promises.Answers.{Judged, Typed}
 use Rattle.lookup.specs.promises.HeldClasses.{word_at, Lexemes, NameNumber, MaybeNumber, no_name, a-name, ClassHeld, ClassTableHeld, parent_name}
 use Rattle.lookup.specs.laws.HeldLaws.{start_word, name-word, row-there, ClassAt, no-class, a-class, class-at, none_left}
 use Rattle.lookup.specs.promises.Lookups.{Above}
-use Rattle.lookup.specs.promises.Answers.{as_judged}
+use Rattle.lookup.specs.promises.Answers.{told}
 use Rattle.declarations.specs.promises.Judgements.{ClassesAt, ChainsJudged}
 use Rattle.declarations.specs.promises.Climbs.{Height, Higher, HeightsRight, HeightClimbed}
 use Rattle.declarations.proofs.ClassLaws.{first-class}
@@ -181,31 +185,31 @@ class-number {tab} {ts = ts} lx k at s e₂ =
     subst (NameNumber ts k.name.text) (ap (word_at tab c_number) at ∙ sym e₂) (name-word lx k.name.row s.named.token)
 
 module _ {tab : List ℕ} {classes left row : ℕ} where
-  pub chains-none-left : row < absent → left ≡ 0 → {number p : ℕ} → ChainsJudged tab classes left row (Refused number p)
+  pub chains-none-left : row < absent → left ≡ 0 → {z : Refusal} → ChainsJudged tab classes left row (Err z)
   chains-none-left near e = record { says = λ n ts G w l ks a. absurd (none_left row_classes refl ks a.here a.few near e) }
 
-  pub chains-absent : absent ≤ row → ChainsJudged tab classes left row (Fine 0)
+  pub chains-absent : absent ≤ row → ChainsJudged tab classes left row (Ok tt)
   unfolding ending_chains
   chains-absent far = record { says = λ n ts G w l ks a. go n ts G w ks a }
     where
       go : (n : ℕ) (ts : List Token) (G : List Class) → ClassTableHeld tab n ts G → (ks : List Class) → ClassesAt tab n ts ks left row
-          → Fine 0 ≡ as_judged (ending_chains G ks)
+          → told (Ok tt) ≡ (ending_chains G ks)
       go n ts G w [] a = refl
       go n ts G w (k ∷ ks) a = absurd (omega (arith, (first-class w.tokens a).near))
 
   module _ (near : row < absent) {x : ℕ} (e₂ : x ≡ word_at tab c_number row) {heights : List ℕ} {h : ℕ} (up : HeightClimbed tab classes x heights h) where
-    pub chains-endless : h ≡ 0 → {p : ℕ} → p ≡ word_at tab c_start row → ChainsJudged tab classes left row (Refused chain_endless p)
+    pub chains-endless : h ≡ 0 → {p : ℕ} → p ≡ word_at tab c_start row → ChainsJudged tab classes left row (refusal reason.ChainEndless p)
     unfolding ending_chains
     chains-endless is {p} e₁ = record { says = λ n ts G w l ks a. go n ts G w l ks a }
       where
         go : (n : ℕ) (ts : List Token) (G : List Class) → ClassTableHeld tab n ts G → length G ≡ classes → (ks : List Class)
             → ClassesAt tab n ts ks left row
-            → Refused chain_endless p ≡ as_judged (ending_chains G ks)
+            → told (refusal reason.ChainEndless p) ≡ (ending_chains G ks)
         go n ts G w l [] a = absurd (omega (arith, a.here))
         go n ts G w l (k ∷ ks) a =
             let s = (first-class w.tokens a).stands in
             let e = ap (λ (i : ℕ). ends_within i G k.name.text) l ∙ (up.higher is).says n ts G w k.name.text (class-number w.tokens k a.here s e₂) in
-            rw e (ap (Refused chain_endless) (class-place w.tokens k a.here s e₁))
+            rw e (ap (refused chain_endless) (class-place w.tokens k a.here s e₁))
 
     pub chains-next : (left ≡ 0 → ⊥) → (h ≡ 0 → ⊥) → {next : ℕ} {r : Judged} → next ≡ word_at tab c_next row
         → ChainsJudged tab classes (left - 1) next r → ChainsJudged tab classes left row r
@@ -214,7 +218,7 @@ module _ {tab : List ℕ} {classes left row : ℕ} where
       where
         go : (n : ℕ) (ts : List Token) (G : List Class) → ClassTableHeld tab n ts G → length G ≡ classes → (ks : List Class)
             → ClassesAt tab n ts ks left row
-            → r ≡ as_judged (ending_chains G ks)
+            → told r ≡ (ending_chains G ks)
         go n ts G w l [] a = absurd (omega (arith, a.here))
         go n ts G w l (k ∷ ks) a =
             let f = first-class w.tokens a in

@@ -40,11 +40,14 @@ use Rattle.typing.specs.laws.Choices.{by-test, refused-accepted}
 use Rattle.typing.specs.laws.Chains.{all-classes}
 use Rattle.typing.specs.laws.Distinctness.{distinct-rest}
 use Rattle.typing.specs.laws.Programs.{names-sound, class-found}
-use Rattle.lookup.specs.declared.answer.Judged.{Judged}
-use Rattle.lookup.specs.declared.answer.Judged.TheVariants.{Fine, Refused}
+use Rattle.std.specs.Prelude.{Result, Ok, Err}
+use Rattle.base.specs.declared.refusal.Reason.TheVariants as reason
+use Rattle.base.specs.declared.refusal.Refusal.{Refusal}
+use Rattle.base.specs.promises.Refusals.{number_of, refusal}
+use Rattle.lookup.specs.promises.Answers.{Judged, Typed}
 use Rattle.lookup.specs.promises.HeldClasses.{word_at, Lexemes, NameNumber, Indexed, row_class}
 use Rattle.lookup.specs.laws.HeldLaws.{word_in, start_word, name-word, name-kind, row-there, one_name, same_names, other-names, none_left}
-use Rattle.lookup.specs.promises.Answers.{as_judged}
+use Rattle.lookup.specs.promises.Answers.{told}
 use Rattle.declarations.specs.promises.Earlier.{onto}
 use Rattle.declarations.specs.promises.Indexing.{wiped, cleared, indexed, ClassesNamed, none_named, more-named, ColumnsKept, Shown, EntriesMade, Ready, IndexMade}
 use Rattle.declarations.proofs.EarlierLaws.{onto-occurs, onto-next}
@@ -258,16 +261,16 @@ index-none none e h f = refl
 index-none (some k) e h f = absurd (omega (arith, e, f k refl))
 
 module _ {tab : List ℕ} {main left row : ℕ} where
-  pub entries-none-left : row < absent → left ≡ 0 → {number p : ℕ} → EntriesMade main left row tab (Refused number p) tab
+  pub entries-none-left : row < absent → left ≡ 0 → {z : Refusal} → EntriesMade main left row tab (Err z) tab
   entries-none-left near e = record { says = λ n ts lx top t js h ks d named few. absurd (none_left row_classes refl ks d few near e) }
 
-  pub entries-absent : absent ≤ row → EntriesMade main left row tab (Fine 0) tab
+  pub entries-absent : absent ≤ row → EntriesMade main left row tab (Ok tt) tab
   unfolding distinct_classes
   entries-absent far = record { says = λ n ts lx top t js h ks d named few. go n ts lx (onto (top ∷ []) (map class_name js)) js h ks d named }
     where
       go : (n : ℕ) (ts : List Token) → Lexemes tab n ts → (earlier : List (List ℕ)) (js : List Class) → Shown tab ts js
           → (ks : List Class) → row_classes ks ≡ row → ClassesNamed tab ts ks
-          → (Fine 0 ≡ as_judged (distinct_classes earlier ks)) × (distinct_classes earlier ks ≡ accepted tt → ColumnsKept ts tab tab × Indexed tab ts (js ++ ks))
+          → (told (Ok tt) ≡ (distinct_classes earlier ks)) × (distinct_classes earlier ks ≡ accepted tt → ColumnsKept ts tab tab × Indexed tab ts (js ++ ks))
       go n ts lx earlier js h [] d named = (refl, λ _. (kept_same, subst (Indexed tab ts) (sym (append-nil js)) h.index))
       go n ts lx earlier js h (k ∷ ks) d (more-named m c₆ named) = absurd (omega (arith, d, row-there lx k.name.row m.token.there))
 
@@ -284,9 +287,9 @@ class-start {tab} lx k at m e₁ = e₁ ∙ ap (word_at tab c_start) (sym at) �
 
 -- a refusal of the first class
 refused-first : (earlier : List (List ℕ)) (k : Class) (ks : List Class) {p : ℕ} → occurs (class_name k) earlier ≡ true → p ≡ k.name.start
-    → (Refused class_repeated p ≡ as_judged (distinct_classes earlier (k ∷ ks))) × (distinct_classes earlier (k ∷ ks) ≡ refused class_repeated p)
+    → (told (refusal reason.ClassRepeated p) ≡ (distinct_classes earlier (k ∷ ks))) × (distinct_classes earlier (k ∷ ks) ≡ refused class_repeated p)
 unfolding distinct_classes
-refused-first earlier k ks o e = rw o (ap (Refused class_repeated) e, ap (refused class_repeated) (sym e))
+refused-first earlier k ks o e = rw o (ap (refused class_repeated) e, ap (refused class_repeated) (sym e))
 
 or-true : (a : Bool) → (a || true) ≡ true
 or-true true = refl
@@ -310,12 +313,12 @@ module _ {tab : List ℕ} {main left row x p : ℕ} (near : row < absent) (e₂ 
   repeats : p ≡ word_at tab c_start row
       → ((n : ℕ) (ts : List Token) → Lexemes tab n ts → (top : List ℕ) → NameNumber ts top main → (js : List Class) → Shown tab ts js → (c : List ℕ) → NameNumber ts c x
       → occurs c (onto (top ∷ []) (map class_name js)) ≡ true)
-      → EntriesMade main left row tab (Refused class_repeated p) tab
+      → EntriesMade main left row tab (refusal reason.ClassRepeated p) tab
   repeats e₁ f = record { says = λ n ts lx top t js h ks d named few. go n ts lx top t js h ks d named }
     where
       go : (n : ℕ) (ts : List Token) → Lexemes tab n ts → (top : List ℕ) → NameNumber ts top main → (js : List Class) → Shown tab ts js
           → (ks : List Class) → row_classes ks ≡ row → ClassesNamed tab ts ks
-          → (Refused class_repeated p ≡ as_judged (distinct_classes (onto (top ∷ []) (map class_name js)) ks))
+          → (told (refusal reason.ClassRepeated p) ≡ (distinct_classes (onto (top ∷ []) (map class_name js)) ks))
           × (distinct_classes (onto (top ∷ []) (map class_name js)) ks ≡ accepted tt → ColumnsKept ts tab tab × Indexed tab ts (js ++ ks))
       go n ts lx top t js h [] d named = absurd (omega (arith, d))
       go n ts lx top t js h (k ∷ ks) d (more-named m c₆ named) =
@@ -323,11 +326,11 @@ module _ {tab : List ℕ} {main left row x p : ℕ} (near : row < absent) (e₂ 
           let w = refused-first (onto (top ∷ []) (map class_name js)) k ks o (class-start lx k d m e₁) in
           (w.0, λ z. absurd (refused-accepted (sym w.1 ∙ z)))
 
-  pub entries-main : x ≡ main → p ≡ word_at tab c_start row → EntriesMade main left row tab (Refused class_repeated p) tab
+  pub entries-main : x ≡ main → p ≡ word_at tab c_start row → EntriesMade main left row tab (refusal reason.ClassRepeated p) tab
   entries-main is e₁ = repeats e₁ λ n ts lx top t js h c sp. earlier-occurs top c js ∙ rw (same_names t sp (sym is))
 
   pub entries_twice : {y : ℕ} → y ≡ word_at tab c_class x → y < absent → p ≡ word_at tab c_start row
-      → EntriesMade main left row tab (Refused class_repeated p) tab
+      → EntriesMade main left row tab (refusal reason.ClassRepeated p) tab
   entries_twice {y} e₇ low e₁ = repeats e₁ λ n ts lx top t js h c sp.
       let at : y ≡ row_class (class_named js c) = e₇ ∙ word_in tab c_class x (row-there lx x sp.there) (h.index c x sp) in
       earlier-occurs top c js ∙ ap (λ (b : Bool). same top c || b) (index-some (class_named js c) at low) ∙ or-true (same top c)
@@ -343,7 +346,7 @@ entries_next {tab} {tab₁} {after} {main} {left} {row} {x} {y} {next} {r} big m
     go : (n : ℕ) (ts : List Token) → Lexemes tab n ts → (top : List ℕ) → NameNumber ts top main → (js : List Class) → Shown tab ts js
         → (ks : List Class) → row_classes ks ≡ row → ClassesNamed tab ts ks
         → length ks ≤ left
-        → (r ≡ as_judged (distinct_classes (onto (top ∷ []) (map class_name js)) ks))
+        → (told r ≡ (distinct_classes (onto (top ∷ []) (map class_name js)) ks))
         × (distinct_classes (onto (top ∷ []) (map class_name js)) ks ≡ accepted tt → ColumnsKept ts tab after × Indexed after ts (js ++ ks))
     go n ts lx top t js h [] d named few = absurd (omega (arith, d))
     go n ts lx top t js h (k ∷ ks) d (more-named m c₆ named) few =
@@ -364,7 +367,7 @@ entries_next {tab} {tab₁} {after} {main} {left} {row} {x} {y} {next} {r} big m
         let w = h'.says n ts lx₁ top t (js ++ k ∷ []) shown ks (sym (word_in tab₁ c_next k.name.row there c₆') ∙ ap (word_at tab₁ c_next) d ∙ sym e₆) (kept-named lx kept named) (omega arith) in
         let names : onto (top ∷ []) (map class_name (js ++ k ∷ [])) ≡ c ∷ onto (top ∷ []) (map class_name js) = onto-next class_name (top ∷ []) js k in
         rw new (
-          w.0 ∙ ap (λ (earlier : List (List ℕ)). as_judged (distinct_classes earlier ks)) names,
+          w.0 ∙ ap (λ (earlier : List (List ℕ)). distinct_classes earlier ks) names,
           λ z.
               let v = w.1 (ap (λ (earlier : List (List ℕ)). distinct_classes earlier ks) names ∙ z) in
               (kept_then kept v.0, subst (Indexed after ts) (append_assoc js (k ∷ []) ks) v.1),
@@ -420,7 +423,7 @@ module _ {n : ℕ} {before : List ℕ} (rd : Reading) (f : Filling before rd) (c
 
   module _ (big : table_least ≤ length before) {main first : ℕ} (e₂ : main ≡ word_at (cleared n before) c_number 1) (e₆ : first ≡ word_at (cleared n before) c_next 0) where
     made : {r : Judged} {after : List ℕ} → EntriesMade main n first (cleared n before) r after
-        → (r ≡ as_judged (distinct_classes (p.main.text ∷ []) p.classes)) × (distinct_classes (p.main.text ∷ []) p.classes ≡ accepted tt → Ready after n ts p)
+        → (told r ≡ (distinct_classes (p.main.text ∷ []) p.classes)) × (distinct_classes (p.main.text ∷ []) p.classes ≡ accepted tt → Ready after n ts p)
     made {r} {after} h =
         let tab = cleared n before in
         let k = kept-cleared lexemes n (omega arith) in

@@ -17,12 +17,15 @@ use Rattle.parser.specs.Tree.{Variable, Class}
 use Rattle.parser.specs.promises.Layout.{absent, row_variables}
 use Rattle.typesystem.specs.ClassTable.{underlying, known, occurs, text_of}
 use Rattle.typesystem.specs.Declarations.{known_type, fields, variables}
-use Rattle.lookup.specs.declared.answer.Judged.{Judged}
-use Rattle.lookup.specs.declared.answer.Judged.TheVariants.{Fine, Refused}
+use Rattle.std.specs.Prelude.{Result, Ok, Err}
+use Rattle.base.specs.declared.refusal.Reason.TheVariants as reason
+use Rattle.base.specs.declared.refusal.Refusal.{Refusal}
+use Rattle.base.specs.promises.Refusals.{number_of, refusal}
+use Rattle.lookup.specs.promises.Answers.{Judged, Typed}
 use Rattle.lookup.specs.promises.HeldClasses.{word_at, Lexemes, NameNumber, ClassTableHeld}
 use Rattle.lookup.specs.laws.HeldLaws.{none_left}
 use Rattle.lookup.specs.promises.Lookups.{TypeOf, Knows, Repeated}
-use Rattle.lookup.specs.promises.Answers.{as_judged, goes_on, stops}
+use Rattle.lookup.specs.promises.Answers.{told, goes_on, stops}
 use Rattle.declarations.specs.promises.Marking.{Marked, MarkPost}
 use Rattle.declarations.specs.promises.Earlier.{onto, VariablesListed, Along, FieldsAt}
 use Rattle.declarations.specs.promises.Judgements.{KnownAt, FieldsJudged, new_variable, VariableJudged, VariablesJudged}
@@ -57,52 +60,52 @@ fields-rest lx a e₆ m =
     record { here = sym f.next ∙ sym e₆; stand = f.rest; few = omega (arith, a.few); marked = m }
 
 module _ {tab : List ℕ} {n left stamp row : ℕ} {before : List ℕ} where
-  pub fields-none-left : row < absent → left ≡ 0 → {number p : ℕ} → FieldsJudged tab n left stamp row before before (Refused number p)
+  pub fields-none-left : row < absent → left ≡ 0 → {z : Refusal} → FieldsJudged tab n left stamp row before before (Err z)
   fields-none-left near e =
       record { below = λ bound high b. b; says = λ ts G w earlier vs a. absurd (none_left row_variables refl vs a.here a.few near e) }
 
-  pub fields-absent : absent ≤ row → FieldsJudged tab n left stamp row before before (Fine 0)
+  pub fields-absent : absent ≤ row → FieldsJudged tab n left stamp row before before (Ok tt)
   unfolding fields
   fields-absent far = record { below = λ bound high b. b; says = go }
     where
       go : (ts : List Token) (G : List Class) → ClassTableHeld tab n ts G → (earlier : List (List ℕ)) (vs : List Variable)
           → FieldsAt tab ts before stamp earlier vs left row
-          → Fine 0 ≡ as_judged (fields G earlier vs)
+          → told (Ok tt) ≡ (fields G earlier vs)
       go ts G w earlier [] a = refl
       go ts G w earlier (v ∷ vs) a = absurd (omega (arith, (first_of w.tokens a.here a.stand).near))
 
   module _ (near : row < absent) where
     -- in a row of the table there is a first field
-    by_first : {r : Judged}
+    by_first : (r : Judged)
         → ((ts : List Token) (G : List Class) → ClassTableHeld tab n ts G → (earlier : List (List ℕ)) (v : Variable) (vs : List Variable)
-        → FieldsAt tab ts before stamp earlier (v ∷ vs) left row → DeclaredAt tab ts v row → r ≡ as_judged (fields G earlier (v ∷ vs)))
+        → FieldsAt tab ts before stamp earlier (v ∷ vs) left row → DeclaredAt tab ts v row → told r ≡ (fields G earlier (v ∷ vs)))
         → (ts : List Token) (G : List Class) → ClassTableHeld tab n ts G → (earlier : List (List ℕ)) (vs : List Variable)
-        → FieldsAt tab ts before stamp earlier vs left row → r ≡ as_judged (fields G earlier vs)
-    by_first h ts G w earlier [] a = absurd (omega (arith, a.here))
-    by_first h ts G w earlier (v ∷ vs) a = h ts G w earlier v vs a (first_of w.tokens a.here a.stand).declared
+        → FieldsAt tab ts before stamp earlier vs left row → told r ≡ (fields G earlier vs)
+    by_first r h ts G w earlier [] a = absurd (omega (arith, a.here))
+    by_first r h ts G w earlier (v ∷ vs) a = h ts G w earlier v vs a (first_of w.tokens a.here a.stand).declared
 
     module _ {t : ℕ} (e₃ : t ≡ word_at tab c_type row) {b : Bool} (k : KnownAt tab n t b) where
       pub fields-unknown : b ≡ false → {p : ℕ} → p ≡ word_at tab c_start t
-          → FieldsJudged tab n left stamp row before before (Refused type_unknown p)
+          → FieldsJudged tab n left stamp row before before (refusal reason.TypeUnknown p)
       unfolding fields
-      fields-unknown is e₁ =
+      fields-unknown is {p} e₁ =
           record {
             below = λ bound high b. b;
-            says = by_first λ ts G w earlier v vs a d.
-                rw (declared_known k e₃ w d ∙ is) (ap (Refused type_unknown) (type-place e₃ e₁ d));
+            says = by_first (refusal reason.TypeUnknown p) λ ts G w earlier v vs a d.
+                rw (declared_known k e₃ w d ∙ is) (ap (refused type_unknown) (type-place e₃ e₁ d));
           }
 
       module _ (is : b ≡ true) {x : ℕ} (e₂ : x ≡ word_at tab c_number row) {mid : List ℕ} {c : Bool} (h : MarkPost x stamp before mid c) where
         pub fields-repeated : c ≡ true → {p : ℕ} → p ≡ word_at tab c_start row
-            → FieldsJudged tab n left stamp row before mid (Refused field_repeated p)
+            → FieldsJudged tab n left stamp row before mid (refusal reason.FieldRepeated p)
         unfolding fields
-        fields-repeated again e₁ =
+        fields-repeated again {p} e₁ =
             record {
               below = h.below;
-              says = by_first λ ts G w earlier v vs a d.
+              says = by_first (refusal reason.FieldRepeated p) λ ts G w earlier v vs a d.
                   let sp = subst (NameNumber ts (text_of v)) (sym e₂) d.number in
                   rw (declared_known k e₃ w d ∙ is, marked-is w.tokens h sp a.marked ∙ again)
-                  (ap (Refused field_repeated) (e₁ ∙ d.start));
+                  (ap (refused field_repeated) (e₁ ∙ d.start));
             }
 
         pub fields-next : c ≡ false → {next : ℕ} {after : List ℕ} {r : Judged} → next ≡ word_at tab c_next row
@@ -112,7 +115,7 @@ module _ {tab : List ℕ} {n left stamp row : ℕ} {before : List ℕ} where
         fields-next new e₆ h' =
             record {
               below = λ bound high b. h'.below bound high (h.below bound high b);
-              says = by_first λ ts G w earlier v vs a d.
+              says = by_first _ λ ts G w earlier v vs a d.
                   let sp = subst (NameNumber ts (text_of v)) (sym e₂) d.number in
                   rw (declared_known k e₃ w d ∙ is, marked-is w.tokens h sp a.marked ∙ new)
                   (h'.says ts G w (text_of v ∷ earlier) vs (fields-rest w.tokens a e₆ (marked_next w.tokens h sp a.marked)));
@@ -140,22 +143,22 @@ earlier-many {ps = ps} {us = us} l a =
 
 module _ {tab : List ℕ} {n others before first index row t : ℕ} (e₃ : t ≡ word_at tab c_type row) {b : Bool} (k : KnownAt tab n t b) where
   pub variable-unknown : b ≡ false → {p : ℕ} → p ≡ word_at tab c_start t
-      → VariableJudged tab n others before first index row (Refused type_unknown p)
+      → VariableJudged tab n others before first index row (refusal reason.TypeUnknown p)
   unfolding new_variable
   variable-unknown is e₁ =
       record {
         says = λ ts G w ps l us v vs a.
             let d = variable-declared w.tokens us v vs a in
-            rw (declared_known k e₃ w d ∙ is) (ap (Refused type_unknown) (type-place e₃ e₁ d));
+            rw (declared_known k e₃ w d ∙ is) (ap (refused type_unknown) (type-place e₃ e₁ d));
       }
 
   module _ (is : b ≡ true) {x : ℕ} (e₂ : x ≡ word_at tab c_number row) where
     -- the type is known: the answer is that of the tests of the name
     by_name : (again few : Bool) → OccursEarlier tab n others before first index row x again → ltb (before + index) variables_most ≡ few
-        → {p : ℕ} → p ≡ word_at tab c_start row
-        → VariableJudged tab n others before first index row (as_judged (tests again few p (accepted tt)))
+        → {p : ℕ} → p ≡ word_at tab c_start row → {r : Judged} → told r ≡ tests again few p (accepted tt)
+        → VariableJudged tab n others before first index row r
     unfolding new_variable
-    by_name again few o e e₁ =
+    by_name again few o e e₁ f =
         record {
           says = λ ts G w ps l us v vs a.
               let d = variable-declared w.tokens us v vs a in
@@ -164,13 +167,13 @@ module _ {tab : List ℕ} {n others before first index row t : ℕ} (e₃ : t �
                 o.says ts w.tokens ps l us v vs a (subst (NameNumber ts (text_of v)) (sym e₂) d.number),
                 ap (λ (i : ℕ). ltb i variables_most) (earlier-many l a) ∙ e,
               )
-              (ap (λ (q : ℕ). as_judged (tests again few q (accepted tt))) (e₁ ∙ d.start));
+              (f ∙ ap (λ (q : ℕ). tests again few q (accepted tt)) (e₁ ∙ d.start));
         }
 
     module _ {c : Bool} (h : Repeated tab before others x c) where
       pub variable-other : c ≡ true → {p : ℕ} → p ≡ word_at tab c_start row
-          → VariableJudged tab n others before first index row (Refused variable_repeated p)
-      variable-other again e₁ = by_name true _ other refl e₁
+          → VariableJudged tab n others before first index row (refusal reason.VariableRepeated p)
+      variable-other again e₁ = by_name true _ other refl e₁ refl
         where
           other : OccursEarlier tab n others before first index row x true
           other = record {
@@ -191,19 +194,19 @@ module _ {tab : List ℕ} {n others before first index row t : ℕ} (e₃ : t �
             }
 
         pub variable-twice : c' ≡ true → {p : ℕ} → p ≡ word_at tab c_start row
-            → VariableJudged tab n others before first index row (Refused variable_repeated p)
-        variable-twice again e₁ = by_name true _ (subst (OccursEarlier tab n others before first index row x) again same-list) refl e₁
+            → VariableJudged tab n others before first index row (refusal reason.VariableRepeated p)
+        variable-twice again e₁ = by_name true _ (subst (OccursEarlier tab n others before first index row x) again same-list) refl e₁ refl
 
         module _ (fresh : c' ≡ false) where
           at_last : OccursEarlier tab n others before first index row x false
           at_last = subst (OccursEarlier tab n others before first index row x) fresh same-list
 
-          pub variable-fine : before + index < variables_most → VariableJudged tab n others before first index row (Fine 0)
-          variable-fine few = by_name false true at_last (lt-ltb (before + index) variables_most few) refl
+          pub variable-fine : before + index < variables_most → VariableJudged tab n others before first index row (Ok tt)
+          variable-fine few = by_name false true at_last (lt-ltb (before + index) variables_most few) refl refl
 
           pub variable-many : variables_most ≤ before + index → {p : ℕ} → p ≡ word_at tab c_start row
-              → VariableJudged tab n others before first index row (Refused too_many_variables p)
-          variable-many many e₁ = by_name false false at_last (le-ltb (before + index) variables_most many) e₁
+              → VariableJudged tab n others before first index row (refusal reason.TooManyVariables p)
+          variable-many many e₁ = by_name false false at_last (le-ltb (before + index) variables_most many) e₁ refl
 
 tests_then : (o : Outcome (Unit {0})) (again few : Bool) (place : ℕ) (next : Outcome (Unit {0}))
     → (o >>= λ _. tests again few place next) ≡ ((o >>= λ _. tests again few place (accepted tt)) >>= λ _. next)
@@ -220,43 +223,43 @@ variables-more G earlier v vs =
     tests_then (known_type G v.type) (occurs (text_of v) earlier) (ltb (length earlier) variables_most) v.name.start (variables G (text_of v ∷ earlier) vs)
 
 module _ {tab : List ℕ} {n left others before first index row : ℕ} where
-  pub variables-none-left : row < absent → left ≡ 0 → {number p : ℕ}
-      → VariablesJudged tab n left others before first index row (Refused number p)
+  pub variables-none-left : row < absent → left ≡ 0 → {z : Refusal}
+      → VariablesJudged tab n left others before first index row (Err z)
   variables-none-left near e = record { says = λ ts G w ps l us vs a few. absurd (none_left row_variables refl vs a.here few near e) }
 
-  pub variables-absent : absent ≤ row → VariablesJudged tab n left others before first index row (Fine 0)
+  pub variables-absent : absent ≤ row → VariablesJudged tab n left others before first index row (Ok tt)
   unfolding variables
   variables-absent far = record { says = λ ts G w ps l us vs a few. go ts G w (map text_of ps) us vs a }
     where
       go : (ts : List Token) (G : List Class) → ClassTableHeld tab n ts G → (qs : List (List ℕ)) (us vs : List Variable)
           → Along tab ts us vs first index row
-          → Fine 0 ≡ as_judged (variables G (onto qs (map text_of us)) vs)
+          → told (Ok tt) ≡ (variables G (onto qs (map text_of us)) vs)
       go ts G w qs us [] a = refl
       go ts G w qs us (v ∷ vs) a = absurd (omega (arith, variable-near w.tokens us v vs a))
 
   module _ (near : row < absent) {o : Judged} (h : VariableJudged tab n others before first index row o) where
-    pub variables-stop : {number p : ℕ} → o ≡ Refused number p → VariablesJudged tab n left others before first index row (Refused number p)
-    variables-stop {number} {p} is = record { says = λ ts G w ps l us vs a few. go ts G w ps l us vs a }
+    pub variables-stop : {z : Refusal} → o ≡ Err z → VariablesJudged tab n left others before first index row (Err z)
+    variables-stop {z = z} is = record { says = λ ts G w ps l us vs a few. go ts G w ps l us vs a }
       where
         go : (ts : List Token) (G : List Class) → ClassTableHeld tab n ts G → (ps : List Variable)
             → VariablesListed tab ts ps others before → (us vs : List Variable)
-            → Along tab ts us vs first index row → Refused number p ≡ as_judged (variables G (onto (map text_of ps) (map text_of us)) vs)
+            → Along tab ts us vs first index row → told (Err z) ≡ (variables G (onto (map text_of ps) (map text_of us)) vs)
         go ts G w ps l us [] a = absurd (omega (arith, a.here))
         go ts G w ps l us (v ∷ vs) a =
             let earlier = onto (map text_of ps) (map text_of us) in
             rw (variables-more G earlier v vs, stops (new_variable G earlier v) (λ _. variables G (text_of v ∷ earlier) vs) (h.says ts G w ps l us v vs a) is)
 
-    pub variables-next : {u : ℕ} → o ≡ Fine u → {next : ℕ} {r : Judged} → next ≡ word_at tab c_next row
+    pub variables-next : o ≡ Ok tt → {next : ℕ} {r : Judged} → next ≡ word_at tab c_next row
         → VariablesJudged tab n (left - 1) others before first (index + 1) next r
         → VariablesJudged tab n left others before first index row r
-    variables-next {u} is {next} {r} e₆ h' = record { says = λ ts G w ps l us vs a few. go ts G w ps l us vs a few }
+    variables-next is {next} {r} e₆ h' = record { says = λ ts G w ps l us vs a few. go ts G w ps l us vs a few }
       where
         go : (ts : List Token) (G : List Class) → ClassTableHeld tab n ts G → (ps : List Variable)
             → VariablesListed tab ts ps others before → (us vs : List Variable)
-            → Along tab ts us vs first index row → length vs ≤ left → r ≡ as_judged (variables G (onto (map text_of ps) (map text_of us)) vs)
+            → Along tab ts us vs first index row → length vs ≤ left → told r ≡ (variables G (onto (map text_of ps) (map text_of us)) vs)
         go ts G w ps l us [] a few = absurd (omega (arith, a.here))
         go ts G w ps l us (v ∷ vs) a few =
             let earlier = onto (map text_of ps) (map text_of us) in
             rw (variables-more G earlier v vs, goes_on (new_variable G earlier v) (λ _. variables G (text_of v ∷ earlier) vs) (h.says ts G w ps l us v vs a) is)
             (h'.says ts G w ps l (us ++ v ∷ []) vs (variable-step w.tokens us v vs a e₆) (omega arith)
-            ∙ ap (λ (names : List (List ℕ)). as_judged (variables G names vs)) (onto-next text_of (map text_of ps) us v))
+            ∙ ap (λ (names : List (List ℕ)). variables G names vs) (onto-next text_of (map text_of ps) us v))

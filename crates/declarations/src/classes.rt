@@ -10,9 +10,7 @@ ghost use Rattle.declarations.specs.promises.Judgements.{OrphanAt, ParentsJudged
 use crate::heads::heads;
 use crate::heights::height;
 use crate::variables::fields;
-use base::codes;
-use base::codes::BROKEN;
-use lookup::answer::Judged;
+use base::refusal::{Reason, Refusal};
 use lookup::chain::above;
 use lookup::rows::word;
 use parser::columns;
@@ -31,39 +29,54 @@ fn is_orphan(table: &[u32], class: usize) -> bool
 }
 
 // 21: the first unknown class after `extends`.
-pub fn parents(table: &[u32], left: usize, row: usize) -> Judged
+pub fn parents(table: &[u32], left: usize, row: usize) -> Result<(), Refusal>
     requires { table_least ≤ length table.now }
     ensures { ParentsJudged table.now left row result }
 {
     if ABSENT <= row {
-        return Judged::Fine(0);
+        return Ok(());
     }
     if left == 0 {
-        return Judged::Refused(BROKEN, 0);
+        return Err(Refusal {
+            reason: Reason::Broken,
+            position: 0,
+        });
     }
     if is_orphan(table, row) {
-        return Judged::Refused(
-            codes::PARENT_UNKNOWN,
-            word(table, columns::START, word(table, columns::PARENT, row)),
-        );
+        return Err(Refusal {
+            reason: Reason::ParentUnknown,
+            position: word(table, columns::START, word(table, columns::PARENT, row)),
+        });
     }
     parents(table, left - 1, word(table, columns::NEXT, row))
 }
 
 // 22: the first class whose chain never ends.
-pub fn chains(table: &[u32], heights: &mut [u32], classes: usize, left: usize, row: usize) -> Judged
+pub fn chains(
+    table: &[u32],
+    heights: &mut [u32],
+    classes: usize,
+    left: usize,
+    row: usize,
+) -> Result<(), Refusal>
     requires { (table_least ≤ length table.now) × (rows ≤ length heights.old) × (classes ≤ rows)
         × HeightsRight table.now heights.old }
     ensures { ChainsJudged table.now classes left row result }
 {
     if ABSENT <= row {
-        return Judged::Fine(0);
+        return Ok(());
     }
     if left == 0 {
-        return Judged::Refused(BROKEN, 0);
+        return Err(Refusal {
+            reason: Reason::Broken,
+            position: 0,
+        });
     }
     if height(table, heights, classes, word(table, columns::NUMBER, row)) == 0 {
-        return Judged::Refused(codes::CHAIN_ENDLESS, word(table, columns::START, row));
+        return Err(Refusal {
+            reason: Reason::ChainEndless,
+            position: word(table, columns::START, row),
+        });
     }
     let next = word(table, columns::NEXT, row);
     chains(table, heights, classes, left - 1, next)
@@ -77,20 +90,15 @@ fn members(
     classes: usize,
     stamp: u32,
     class: usize,
-) -> Judged
+) -> Result<(), Refusal>
     requires { Walkable table.now n × (rows ≤ length marks.old) × StampsBelow stamp marks.old × (stamp ≤ 4096) }
     ensures { MembersJudged table.now n classes stamp class marks.new result }
 {
     let first = word(table, columns::FIELDS, class);
-    let f = fields(table, marks, n, n, stamp, first);
-    match f {
-        Judged::Fine(_) => {
-            let methods = word(table, columns::METHODS, class);
-            let parent = above(table, class);
-            heads(table, marks, n, classes, n, parent, stamp + 1, methods)
-        }
-        Judged::Refused(number, at) => Judged::Refused(number, at),
-    }
+    fields(table, marks, n, n, stamp, first)?;
+    let methods = word(table, columns::METHODS, class);
+    let parent = above(table, class);
+    heads(table, marks, n, classes, n, parent, stamp + 1, methods)
 }
 
 // 23 to 28, class by class. No word of `marks` has reached the stamp.
@@ -102,22 +110,20 @@ pub fn declarations(
     left: usize,
     stamp: u32,
     row: usize,
-) -> Judged
+) -> Result<(), Refusal>
     requires { Walkable table.now n × (rows ≤ length marks.old) × StampsBelow stamp marks.old × (stamp + 2 * left ≤ 4098) }
     ensures { DeclarationsJudged table.now n classes left row result }
 {
     if ABSENT <= row {
-        return Judged::Fine(0);
+        return Ok(());
     }
     if left == 0 {
-        return Judged::Refused(BROKEN, 0);
+        return Err(Refusal {
+            reason: Reason::Broken,
+            position: 0,
+        });
     }
-    let m = members(table, marks, n, classes, stamp, row);
-    match m {
-        Judged::Fine(_) => {
-            let next = word(table, columns::NEXT, row);
-            declarations(table, marks, n, classes, left - 1, stamp + 2, next)
-        }
-        Judged::Refused(number, at) => Judged::Refused(number, at),
-    }
+    members(table, marks, n, classes, stamp, row)?;
+    let next = word(table, columns::NEXT, row);
+    declarations(table, marks, n, classes, left - 1, stamp + 2, next)
 }

@@ -7,9 +7,7 @@ ghost use Rattle.declarations.specs.promises.Judgements.{HeadJudged, HeadsJudged
 
 use crate::marks::mark;
 use crate::variables::{is_known, variables};
-use base::codes;
-use base::codes::BROKEN;
-use lookup::answer::Judged;
+use base::refusal::{Reason, Refusal};
 use lookup::chain::{find_method, fits};
 use lookup::rows::word;
 use lookup::types::type_of;
@@ -85,36 +83,46 @@ fn is_compatible(table: &[u32], n: usize, classes: usize, parent: usize, row: us
 }
 
 // What a head declares before the parameters: 24, 25.
-fn opening(table: &[u32], marks: &mut [u32], n: usize, stamp: u32, row: usize) -> Judged
+fn opening(
+    table: &[u32],
+    marks: &mut [u32],
+    n: usize,
+    stamp: u32,
+    row: usize,
+) -> Result<(), Refusal>
     requires { Walkable table.now n × (rows ≤ length marks.old) }
     ensures { OpeningJudged table.now n stamp row marks.old marks.new result }
 {
     let t = word(table, columns::TYPE, row);
     if is_known(table, n, t) {
         if mark(marks, word(table, columns::NUMBER, row), stamp) {
-            return Judged::Refused(codes::METHOD_REPEATED, word(table, columns::START, row));
+            return Err(Refusal {
+                reason: Reason::MethodRepeated,
+                position: word(table, columns::START, row),
+            });
         }
-        return Judged::Fine(0);
+        return Ok(());
     }
-    Judged::Refused(codes::TYPE_UNKNOWN, word(table, columns::START, t))
+    Err(Refusal {
+        reason: Reason::TypeUnknown,
+        position: word(table, columns::START, t),
+    })
 }
 
 // The parameters, and last 26.
-fn rest(table: &[u32], n: usize, classes: usize, parent: usize, row: usize) -> Judged
+fn rest(table: &[u32], n: usize, classes: usize, parent: usize, row: usize) -> Result<(), Refusal>
     requires { Walkable table.now n }
     ensures { RestJudged table.now n classes parent row result }
 {
     let first = word(table, columns::PARAMETERS, row);
-    let v = variables(table, n, n, ABSENT, 0, first, 0, first);
-    match v {
-        Judged::Fine(_) => {
-            if is_compatible(table, n, classes, parent, row) {
-                return Judged::Fine(0);
-            }
-            Judged::Refused(codes::BAD_REDECLARATION, word(table, columns::START, row))
-        }
-        Judged::Refused(number, at) => Judged::Refused(number, at),
+    variables(table, n, n, ABSENT, 0, first, 0, first)?;
+    if is_compatible(table, n, classes, parent, row) {
+        return Ok(());
     }
+    Err(Refusal {
+        reason: Reason::BadRedeclaration,
+        position: word(table, columns::START, row),
+    })
 }
 
 // One head.
@@ -126,15 +134,12 @@ fn head(
     parent: usize,
     stamp: u32,
     row: usize,
-) -> Judged
+) -> Result<(), Refusal>
     requires { Walkable table.now n × (rows ≤ length marks.old) }
     ensures { HeadJudged table.now n classes parent stamp row marks.old marks.new result }
 {
-    let o = opening(table, marks, n, stamp, row);
-    match o {
-        Judged::Fine(_) => rest(table, n, classes, parent, row),
-        Judged::Refused(number, at) => Judged::Refused(number, at),
-    }
+    opening(table, marks, n, stamp, row)?;
+    rest(table, n, classes, parent, row)
 }
 
 // The heads of a class from a row on; `parent` is the number of the name of the class above. The methods before `row` have the stamp.
@@ -147,28 +152,28 @@ pub fn heads(
     parent: usize,
     stamp: u32,
     row: usize,
-) -> Judged
+) -> Result<(), Refusal>
     requires { Walkable table.now n × (rows ≤ length marks.old) }
     ensures { HeadsJudged table.now n classes left parent stamp row marks.old marks.new result }
 {
     if ABSENT <= row {
-        return Judged::Fine(0);
+        return Ok(());
     }
     if left == 0 {
-        return Judged::Refused(BROKEN, 0);
+        return Err(Refusal {
+            reason: Reason::Broken,
+            position: 0,
+        });
     }
-    let h = head(table, marks, n, classes, parent, stamp, row);
-    match h {
-        Judged::Fine(_) => heads(
-            table,
-            marks,
-            n,
-            classes,
-            left - 1,
-            parent,
-            stamp,
-            word(table, columns::NEXT, row),
-        ),
-        Judged::Refused(number, at) => Judged::Refused(number, at),
-    }
+    head(table, marks, n, classes, parent, stamp, row)?;
+    heads(
+        table,
+        marks,
+        n,
+        classes,
+        left - 1,
+        parent,
+        stamp,
+        word(table, columns::NEXT, row),
+    )
 }

@@ -5,10 +5,8 @@ ghost use Rattle.base.specs.Codes.{table_least};
 ghost use Rattle.reader.specs.promises.WalkPost.{Walkable};
 ghost use Rattle.declarations.specs.promises.Indexing.{wiped, cleared, indexed, EntriesMade, IndexMade};
 
-use base::codes;
-use base::codes::BROKEN;
+use base::refusal::{Reason, Refusal};
 use lexer::kinds::IF;
-use lookup::answer::Judged;
 use lookup::rows::word;
 use parser::columns;
 use parser::columns::ABSENT;
@@ -28,10 +26,8 @@ fn clear(table: &mut [u32], n: usize)
     requires { Walkable table.old n }
     ensures { table.new ≡ cleared n table.old }
 {
-    let mut i: usize = 0;
-    while i < n {
+    for i in 0..n {
         wipe(table, i);
-        i += 1;
     }
 }
 
@@ -46,29 +42,38 @@ fn enter(table: &mut [u32], row: usize, class: usize)
 }
 
 // Enters the classes from a row on, whose names are new: 20.
-fn entries(table: &mut [u32], main: usize, left: usize, row: usize) -> Judged
+fn entries(table: &mut [u32], main: usize, left: usize, row: usize) -> Result<(), Refusal>
     requires { table_least ≤ length table.old }
     ensures { EntriesMade main left row table.old result table.new }
 {
     if ABSENT <= row {
-        return Judged::Fine(0);
+        return Ok(());
     }
     if left == 0 {
-        return Judged::Refused(BROKEN, 0);
+        return Err(Refusal {
+            reason: Reason::Broken,
+            position: 0,
+        });
     }
     let x = word(table, columns::NUMBER, row);
     if x == main {
-        return Judged::Refused(codes::CLASS_REPEATED, word(table, columns::START, row));
+        return Err(Refusal {
+            reason: Reason::ClassRepeated,
+            position: word(table, columns::START, row),
+        });
     }
     if word(table, columns::CLASS, x) < ABSENT {
-        return Judged::Refused(codes::CLASS_REPEATED, word(table, columns::START, row));
+        return Err(Refusal {
+            reason: Reason::ClassRepeated,
+            position: word(table, columns::START, row),
+        });
     }
     enter(table, x, row);
     entries(table, main, left - 1, word(table, columns::NEXT, row))
 }
 
 // Makes the index. The main class's name stands in row 1; it is none of the table's classes.
-pub fn index(table: &mut [u32], n: usize) -> Judged
+pub fn index(table: &mut [u32], n: usize) -> Result<(), Refusal>
     requires { Walkable table.old n }
     ensures { IndexMade n table.old result table.new }
 {

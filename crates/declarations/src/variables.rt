@@ -7,9 +7,7 @@ ghost use Rattle.reader.specs.promises.WalkPost.{Walkable};
 ghost use Rattle.declarations.specs.promises.Judgements.{KnownAt, FieldsJudged, VariableJudged, VariablesJudged};
 
 use crate::marks::mark;
-use base::codes;
-use base::codes::BROKEN;
-use lookup::answer::Judged;
+use base::refusal::{Reason, Refusal};
 use lookup::member::repeated;
 use lookup::rows::word;
 use lookup::types::{known, type_of};
@@ -35,20 +33,26 @@ pub fn fields(
     left: usize,
     stamp: u32,
     row: usize,
-) -> Judged
+) -> Result<(), Refusal>
     requires { Walkable table.now n × (rows ≤ length marks.old) }
     ensures { FieldsJudged table.now n left stamp row marks.old marks.new result }
 {
     if ABSENT <= row {
-        return Judged::Fine(0);
+        return Ok(());
     }
     if left == 0 {
-        return Judged::Refused(BROKEN, 0);
+        return Err(Refusal {
+            reason: Reason::Broken,
+            position: 0,
+        });
     }
     let t = word(table, columns::TYPE, row);
     if is_known(table, n, t) {
         if mark(marks, word(table, columns::NUMBER, row), stamp) {
-            return Judged::Refused(codes::FIELD_REPEATED, word(table, columns::START, row));
+            return Err(Refusal {
+                reason: Reason::FieldRepeated,
+                position: word(table, columns::START, row),
+            });
         }
         return fields(
             table,
@@ -59,7 +63,10 @@ pub fn fields(
             word(table, columns::NEXT, row),
         );
     }
-    Judged::Refused(codes::TYPE_UNKNOWN, word(table, columns::START, t))
+    Err(Refusal {
+        reason: Reason::TypeUnknown,
+        position: word(table, columns::START, t),
+    })
 }
 
 // One parameter or local, after `before` others that begin at `others` and `index` that begin at `first`: 24, 27, 28.
@@ -71,7 +78,7 @@ fn variable(
     first: usize,
     index: usize,
     row: usize,
-) -> Judged
+) -> Result<(), Refusal>
     requires { Walkable table.now n × (before ≤ rows) × (index ≤ 4096) }
     ensures { VariableJudged table.now n others before first index row result }
 {
@@ -79,17 +86,29 @@ fn variable(
     if is_known(table, n, t) {
         let x = word(table, columns::NUMBER, row);
         if repeated(table, before, others, x) {
-            return Judged::Refused(codes::VARIABLE_REPEATED, word(table, columns::START, row));
+            return Err(Refusal {
+                reason: Reason::VariableRepeated,
+                position: word(table, columns::START, row),
+            });
         }
         if repeated(table, index, first, x) {
-            return Judged::Refused(codes::VARIABLE_REPEATED, word(table, columns::START, row));
+            return Err(Refusal {
+                reason: Reason::VariableRepeated,
+                position: word(table, columns::START, row),
+            });
         }
         if before + index < VARIABLES_MOST {
-            return Judged::Fine(0);
+            return Ok(());
         }
-        return Judged::Refused(codes::TOO_MANY_VARIABLES, word(table, columns::START, row));
+        return Err(Refusal {
+            reason: Reason::TooManyVariables,
+            position: word(table, columns::START, row),
+        });
     }
-    Judged::Refused(codes::TYPE_UNKNOWN, word(table, columns::START, t))
+    Err(Refusal {
+        reason: Reason::TypeUnknown,
+        position: word(table, columns::START, t),
+    })
 }
 
 // Parameters, or locals after the parameters.
@@ -102,28 +121,28 @@ pub fn variables(
     first: usize,
     index: usize,
     row: usize,
-) -> Judged
+) -> Result<(), Refusal>
     requires { Walkable table.now n × (before ≤ rows) × (index + left ≤ 4096) }
     ensures { VariablesJudged table.now n left others before first index row result }
 {
     if ABSENT <= row {
-        return Judged::Fine(0);
+        return Ok(());
     }
     if left == 0 {
-        return Judged::Refused(BROKEN, 0);
+        return Err(Refusal {
+            reason: Reason::Broken,
+            position: 0,
+        });
     }
-    let v = variable(table, n, others, before, first, index, row);
-    match v {
-        Judged::Fine(_) => variables(
-            table,
-            n,
-            left - 1,
-            others,
-            before,
-            first,
-            index + 1,
-            word(table, columns::NEXT, row),
-        ),
-        Judged::Refused(number, at) => Judged::Refused(number, at),
-    }
+    variable(table, n, others, before, first, index, row)?;
+    variables(
+        table,
+        n,
+        left - 1,
+        others,
+        before,
+        first,
+        index + 1,
+        word(table, columns::NEXT, row),
+    )
 }

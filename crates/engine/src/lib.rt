@@ -2,26 +2,35 @@
 #![tactic(auto)]
 
 ghost use Rattle.std.specs.Prelude.{◌≡◌};
+ghost use Rattle.base.specs.promises.Answers.{write_answer_of};
 ghost use Rattle.parser.specs.Read.{Reads};
+ghost use Rattle.reader.specs.promises.ReadPost.{read_answer_of};
 ghost use Rattle.typesystem.specs.Check.{Checks};
+ghost use Rattle.typecheck.specs.promises.CheckPost.{check_answer_of};
 ghost use Rattle.menu.specs.Menu.{Menus};
+ghost use Rattle.menu.specs.promises.MenuPost.{menu_answer_of};
 ghost use Rattle.semantics.specs.Run.{Runs};
 ghost use Rattle.runner.specs.promises.RunPost.{strips};
 ghost use Rattle.joining.specs.Join.{Joins};
 ghost use Rattle.printing.specs.Print.{Prints};
 ghost use Rattle.frames.specs.Operations.{Encodes, RunsFrames, ContinuesFrames};
 
+use base::refusal::Refusal;
 use encoder::encode::encode;
 use joiner::join::join;
+use lookup::sizes::Sizes;
 use menu::menu::menu;
 use player::run::Record;
 use printer::print::print;
-use reader::read::read;
+use reader::read::{Counts, read};
 use runner::run::run;
 use typecheck::check::check;
 
 // Which header belongs to this library: ENGINE_VERSION there.
 const VERSION: u32 = 5;
+
+// The number of success.
+const SUCCESS: u32 = 0;
 
 // What Read answers, laid out as C lays it out.
 #[repr(C)]
@@ -33,6 +42,27 @@ pub struct ReadAnswer {
     pub nodes: usize,
 }
 
+impl From<Result<Counts, Refusal>> for ReadAnswer {
+    ghost from_gives = { λ r a. read_answer_of r ≡ record { number = a.number; position = a.position; tokens = a.tokens; nodes = a.nodes } };
+
+    fn from(answer: Result<Counts, Refusal>) -> ReadAnswer {
+        match answer {
+            Ok(counts) => ReadAnswer {
+                number: SUCCESS,
+                position: 0,
+                tokens: counts.tokens,
+                nodes: counts.nodes,
+            },
+            Err(refusal) => ReadAnswer {
+                number: refusal.number(),
+                position: refusal.position,
+                tokens: 0,
+                nodes: 0,
+            },
+        }
+    }
+}
+
 // What Check and Menu answer.
 #[repr(C)]
 #[derive(Drop)]
@@ -42,6 +72,44 @@ pub struct CheckAnswer {
     pub classes: usize,
 }
 
+impl From<Result<usize, Refusal>> for CheckAnswer {
+    ghost from_gives = { λ r a. menu_answer_of r ≡ record { number = a.number; position = a.position; classes = a.classes } };
+
+    fn from(answer: Result<usize, Refusal>) -> CheckAnswer {
+        match answer {
+            Ok(classes) => CheckAnswer {
+                number: SUCCESS,
+                position: 0,
+                classes,
+            },
+            Err(refusal) => CheckAnswer {
+                number: refusal.number(),
+                position: refusal.position,
+                classes: 0,
+            },
+        }
+    }
+}
+
+impl From<Result<Sizes, Refusal>> for CheckAnswer {
+    ghost from_gives = { λ r a. check_answer_of r ≡ record { number = a.number; position = a.position; classes = a.classes } };
+
+    fn from(answer: Result<Sizes, Refusal>) -> CheckAnswer {
+        match answer {
+            Ok(sizes) => CheckAnswer {
+                number: SUCCESS,
+                position: 0,
+                classes: sizes.classes,
+            },
+            Err(refusal) => CheckAnswer {
+                number: refusal.number(),
+                position: refusal.position,
+                classes: 0,
+            },
+        }
+    }
+}
+
 // What Join, Print and Encode answer.
 #[repr(C)]
 #[derive(Drop)]
@@ -49,6 +117,25 @@ pub struct WriteAnswer {
     pub number: u32,
     pub position: usize,
     pub count: usize,
+}
+
+impl From<Result<usize, Refusal>> for WriteAnswer {
+    ghost from_gives = { λ r a. write_answer_of r ≡ record { number = a.number; position = a.position; count = a.count } };
+
+    fn from(answer: Result<usize, Refusal>) -> WriteAnswer {
+        match answer {
+            Ok(count) => WriteAnswer {
+                number: SUCCESS,
+                position: 0,
+                count,
+            },
+            Err(refusal) => WriteAnswer {
+                number: refusal.number(),
+                position: refusal.position,
+                count: 0,
+            },
+        }
+    }
 }
 
 // The limits of a run that are not the length of a strip.
@@ -121,13 +208,7 @@ pub extern "C" fn engine_read(source: &[u8], table: &mut [u32]) -> ReadAnswer
     ensures { Reads source.now table.old
         (record { number = result.number; position = result.position; tokens = result.tokens; nodes = result.nodes }) table.new }
 {
-    let a = read(source, table);
-    ReadAnswer {
-        number: a.number,
-        position: a.position,
-        tokens: a.tokens,
-        nodes: a.nodes,
-    }
+    ReadAnswer::from(read(source, table))
 }
 
 // The operation Check.
@@ -136,12 +217,7 @@ pub extern "C" fn engine_check(source: &[u8], table: &mut [u32]) -> CheckAnswer
     ensures { Checks source.now table.old
         (record { number = result.number; position = result.position; classes = result.classes }) table.new }
 {
-    let a = check(source, table);
-    CheckAnswer {
-        number: a.number,
-        position: a.position,
-        classes: a.classes,
-    }
+    CheckAnswer::from(check(source, table))
 }
 
 // The operation Menu.
@@ -150,12 +226,7 @@ pub extern "C" fn engine_menu(source: &[u8], table: &mut [u32], strip: &mut [u32
     ensures { Menus source.now table.old strip.old
         (record { number = result.number; position = result.position; classes = result.classes }) table.new strip.new }
 {
-    let a = menu(source, table, strip);
-    CheckAnswer {
-        number: a.number,
-        position: a.position,
-        classes: a.classes,
-    }
+    CheckAnswer::from(menu(source, table, strip))
 }
 
 // The operation Run.
@@ -205,12 +276,7 @@ pub extern "C" fn engine_join(
     ensures { Joins source.now library.now table.old strip.old
         (record { number = result.number; position = result.position; count = result.count }) table.new strip.new }
 {
-    let a = join(source, table, library, strip);
-    WriteAnswer {
-        number: a.number,
-        position: a.position,
-        count: a.count,
-    }
+    WriteAnswer::from(join(source, table, library, strip))
 }
 
 // The operation Print.
@@ -219,12 +285,7 @@ pub extern "C" fn engine_print(source: &[u8], table: &mut [u32], strip: &mut [u8
     ensures { Prints source.now table.old strip.old
         (record { number = result.number; position = result.position; count = result.count }) table.new strip.new }
 {
-    let a = print(source, table, strip);
-    WriteAnswer {
-        number: a.number,
-        position: a.position,
-        count: a.count,
-    }
+    WriteAnswer::from(print(source, table, strip))
 }
 
 // The operation Encode.
@@ -233,12 +294,7 @@ pub extern "C" fn engine_encode(source: &[u8], table: &mut [u32], frames: &mut [
     ensures { Encodes source.now table.old frames.old
         (record { number = result.number; position = result.position; count = result.count }) table.new frames.new }
 {
-    let a = encode(source, table, frames);
-    WriteAnswer {
-        number: a.number,
-        position: a.position,
-        count: a.count,
-    }
+    WriteAnswer::from(encode(source, table, frames))
 }
 
 // A run of frames, or its first part.

@@ -7,8 +7,8 @@ use mathlib.Core.List.{List, [], ◌∷◌, ◌++◌, append_assoc}
 use mathlib.Core.Bool.{true, false}
 use mathlib.Core.Option.{some, some-injective}
 use mathlib.Core.Path.{◌≡◌, refl, sym, ap, ◌∙◌, subst}
-use lib.ListN.{length, get_elem?, set, length-append}
-use lib.Seq.{get_or-set_same, get_or-set_other}
+use lib.ListN.{length, get_elem?, get_or, take, replicate, length-append, length-replicate, get_or-append, get_or-replicate}
+use Rattle.std.proofs.lemmas.List.{get_or-append_right, length-take-le}
 use Rattle.base.specs.Bytes.{same}
 use Rattle.base.specs.laws.Lists.{get-below, get-append-right}
 use Rattle.base.specs.promises.Table.{col, c_kind, c_number, c_head, c_link, rows, cell}
@@ -141,19 +141,19 @@ sought-none {s} {tab} {n} {x} {t} h c = sym (first-none (tokens_of s tab n) t no
 
 -- EMPTY BUCKETS
 
-pub no-names-first : {tab : List ℕ} → NoNames tab 0
-no-names-first = record { heads = λ b h. absurd (omega arith) }
-
-pub no-names-next : {tab : List ℕ} {b : ℕ} → table_least ≤ length tab → b < rows → NoNames tab b → NoNames (set tab (cell c_head b) 0) (b + 1)
+-- the heads filled with zeros
+pub no-names-filled : (tab rest zeros : List ℕ) → table_least ≤ length tab → zeros ≡ replicate rows 0
+    → NoNames (take (cell c_head 0) tab ++ (zeros ++ rest)) rows
 unfolding col
-no-names-next {tab} {b} big l h =
+no-names-filled tab rest zeros big z =
     record {
-      heads = λ j near.
-          elim (ℕ_discrete j b) [
-            | yes e ↦ rw (e, get_or-set_same tab (cell c_head b) 0 0 (omega arith)) refl
-            | no n ↦ get_or-set_other tab (cell c_head b) (cell c_head j) 0 0 (λ z. n (omega arith)) ∙ h.heads j (omega arith)
-          ];
+      heads = λ b h.
+          let far : length (take (cell c_head 0) tab) ≡ cell c_head 0 = length-take-le (cell c_head 0) tab (omega arith) in
+          let place : cell c_head b - cell c_head 0 ≡ b = omega arith in
+          let inside : b < length zeros = omega (arith, ap (λ (l : List ℕ). length l) z ∙ length-replicate {A = ℕ} rows 0) in
+          get_or-append_right (take (cell c_head 0) tab) (zeros ++ rest) (cell c_head 0) (cell c_head b) 0 far (omega arith)
+          ∙ ap (λ (i : ℕ). get_or (zeros ++ rest) i 0) place
+          ∙ get_or-append zeros rest 0 b inside
+          ∙ ap (λ (l : List ℕ). get_or l b 0) z
+          ∙ get_or-replicate rows b 0 0 h;
     }
-
-pub no-names-last : {tab : List ℕ} {b : ℕ} → rows ≤ b → NoNames tab b → NoNames tab rows
-no-names-last l h = record { heads = λ j near. h.heads j (omega arith) }

@@ -15,7 +15,7 @@ use Rattle.lexer.specs.Tokens.{closing}
 use Rattle.lexer.specs.promises.Scan.{delimiter_of_lem, closing_of}
 use Rattle.lexer.specs.declared.scan.Delimiter.{Delimiter}
 use Rattle.lexer.specs.declared.scan.Delimiter.TheVariants.{Open, Close, Other}
-use Rattle.lexer.specs.declared.scan.Closing.TheVariants.{At, Never}
+use Rattle.std.specs.Prelude.{Some, None}
 use Rattle.lexer.proofs.Runs.{rest}
 
 pub rest-two : (s : List ℕ) (i : ℕ) → i + 1 < length s → drop i s ≡ get_or s i 0 ∷ get_or s (i + 1) 0 ∷ drop (i + 2) s
@@ -69,7 +69,7 @@ module _ {s : List ℕ} {at d i : ℕ} (h : i + 1 < length s) (c : Commented s a
       record { within = omega arith; deep = omega arith; shallow = omega arith; left = step (sym o ∙ e) ∙ rw (ne_eqb d 1 n) refl }
 
   pub commented-closed : {k : Delimiter} → k ≡ delimiter_of_lem (get_or s i 0) (get_or s (i + 1) 0) → k ≡ Close → d ≡ 1
-      → At (i + 2) ≡ closing_of (closing 1 at (drop at s))
+      → Some (i + 2) ≡ closing_of (closing 1 at (drop at s))
   commented-closed e o n =
       let l : closing 1 at (drop at s) ≡ some (i + 2) = step (sym o ∙ e) ∙ rw (eq-eqb d 1 n) refl in
       sym (ap closing_of l)
@@ -88,7 +88,7 @@ module _ {s : List ℕ} {at d i : ℕ} (h : i + 1 < length s) (c : Commented s a
             ∙ ap (closing d (i + 1)) (sym (rest s (i + 1) h));
       }
 
-pub commented-end : {s : List ℕ} {at d i : ℕ} → length s ≤ i + 1 → Commented s at d i → Never ≡ closing_of (closing 1 at (drop at s))
+pub commented-end : {s : List ℕ} {at d i : ℕ} → length s ≤ i + 1 → Commented s at d i → None ≡ closing_of (closing 1 at (drop at s))
 unfolding closing
 commented-end {s} {at} {d} {i} h c = sym (ap closing_of (c.left ∙ short (drop i s) (omega (arith, length-drop i s))))
   where

@@ -20,8 +20,7 @@ use Rattle.lexer.proofs.laws.ItemLaws.{run-front, run_short}
 use Rattle.lexer.proofs.laws.LiteralLaws.{decimal-grows}
 use Rattle.lexer.specs.promises.Chains.{bucket_from}
 use Rattle.lexer.specs.promises.Verdicts.{literal_of}
-use Rattle.lexer.specs.declared.limits.Literal.{Literal}
-use Rattle.lexer.specs.declared.limits.Literal.TheVariants.{Value, TooLarge}
+use Rattle.std.specs.Prelude.{Option as Found, Some, None}
 use Rattle.lexer.proofs.Runs.{rest, rest-none}
 
 -- ---- the value of a literal
@@ -40,13 +39,13 @@ module _ {before : ℕ} {t : List ℕ} {high i d : ℕ} (h : i < length t) (e : 
   pub summed-more : high * 10 + d ≤ literal_most → Summed before t (high * 10 + d) (i + 1)
   summed-more l = record { within = omega arith; small = l; left = step }
 
-  pub summed-past : literal_most < high * 10 + d → TooLarge ≡ literal_of (decimal before t)
+  pub summed-past : literal_most < high * 10 + d → None ≡ literal_of (decimal before t)
   summed-past l =
       let g : literal_most < decimal before t = omega (arith, step, decimal-grows (high * 10 + d) (drop (i + 1) t)) in
       rw (lt-ltb literal_most (decimal before t) g)
 
 pub summed-end : {before : ℕ} {t : List ℕ} {high i : ℕ} → length t ≤ i → Summed before t high i
-    → Value high ≡ literal_of (decimal before t)
+    → Some high ≡ literal_of (decimal before t)
 unfolding decimal
 summed-end {before} {t} {high} {i} h v =
     let e : decimal before t ≡ high = v.left ∙ ap (decimal high) (rest-none t i h) in
@@ -55,17 +54,17 @@ summed-end {before} {t} {high} {i} h v =
 
 -- ---- the thousandths of a literal of fixed
 
-value-is : (n : ℕ) {v : ℕ} → Value v ≡ literal_of n → (v ≡ n) × (n ≤ literal_most)
+value-is : (n : ℕ) {v : ℕ} → Some v ≡ literal_of n → (v ≡ n) × (n ≤ literal_most)
 value-is n q = by (ltb literal_most n) refl q
   where
-    by : {v : ℕ} (b : Bool) → ltb literal_most n ≡ b → Value v ≡ (if b then (λ _. TooLarge) otherwise λ _. Value n) → (v ≡ n) × (n ≤ literal_most)
+    by : {v : ℕ} (b : Bool) → ltb literal_most n ≡ b → Some v ≡ (if b then (λ _. None) otherwise λ _. Some n) → (v ≡ n) × (n ≤ literal_most)
     by true p z = apart (cc)
     by false p z = (cc, ltb-false literal_most n p)
 
-value-past : (n : ℕ) → TooLarge ≡ literal_of n → literal_most < n
+value-past : (n : ℕ) → None ≡ literal_of n → literal_most < n
 value-past n q = by (ltb literal_most n) refl q
   where
-    by : (b : Bool) → ltb literal_most n ≡ b → TooLarge ≡ (if b then (λ _. TooLarge) otherwise λ _. Value n) → literal_most < n
+    by : (b : Bool) → ltb literal_most n ≡ b → None ≡ (if b then (λ _. None) otherwise λ _. Some n) → literal_most < n
     by true p z = ltb-true literal_most n p
     by false p z = apart (cc)
 
@@ -92,20 +91,20 @@ module _ (t : List ℕ) {n : ℕ} (e : n ≡ length (whole_digits t)) where
   others-behind q z = q (omega (arith, fraction-length))
 
 -- w and f are the digits before its point and those behind it, and v is what is known of those before it
-module _ (t : List ℕ) {w f : List ℕ} (is : w ≡ whole_digits t) (behind : f ≡ fraction_digits t) {v : Literal} (e : v ≡ literal_of (decimal 0 w)) where
+module _ (t : List ℕ) {w f : List ℕ} (is : w ≡ whole_digits t) (behind : f ≡ fraction_digits t) {v : Found ℕ} (e : v ≡ literal_of (decimal 0 w)) where
   parts : thousandths_of_lem t ≡ decimal (decimal 0 w) f
   unfolding thousandths_of_lem
   parts = λ j. decimal (decimal 0 (sym is j)) (sym behind j)
 
-  pub whole-small : {whole : ℕ} → v ≡ Value whole → whole ≤ literal_most
+  pub whole-small : {whole : ℕ} → v ≡ Some whole → whole ≤ literal_most
   whole-small q = let k = value-is (decimal 0 w) (sym q ∙ e) in omega (arith, k.0, k.1)
 
-  pub counted-more : {whole : ℕ} {r : Literal} → v ≡ Value whole → r ≡ literal_of (decimal whole f) → r ≡ literal_of (thousandths_of_lem t)
+  pub counted-more : {whole : ℕ} {r : Found ℕ} → v ≡ Some whole → r ≡ literal_of (decimal whole f) → r ≡ literal_of (thousandths_of_lem t)
   counted-more q p =
       let k = value-is (decimal 0 w) (sym q ∙ e) in
       p ∙ ap (λ (n : ℕ). literal_of (decimal n f)) k.0 ∙ ap literal_of (sym parts)
 
-  pub counted-past : v ≡ TooLarge → TooLarge ≡ literal_of (thousandths_of_lem t)
+  pub counted-past : v ≡ None → None ≡ literal_of (thousandths_of_lem t)
   counted-past q =
       let g : literal_most < thousandths_of_lem t =
       omega (arith, parts, decimal-grows (decimal 0 w) f, value-past (decimal 0 w) (sym q ∙ e)) in

@@ -20,8 +20,7 @@ use Rattle.lexer.proofs.laws.ItemLaws.{run-front, begins-cons, chosen}
 use Rattle.lexer.specs.ByteKinds.{b_letter, b_digit, b_blank, b_mark, b_other, byte_kind}
 use Rattle.lexer.specs.promises.Scan.{member, closing_of, piece_of, Letter, Digit, Mark}
 use Rattle.lexer.specs.declared.scan.Class.TheVariants.{Line, Word, Number}
-use Rattle.lexer.specs.declared.scan.Closing.{Closing}
-use Rattle.lexer.specs.declared.scan.Closing.TheVariants.{At, Never}
+use Rattle.std.specs.Prelude.{Option as Found, Some, None}
 use Rattle.lexer.specs.declared.scan.Piece.{Piece}
 use Rattle.lexer.specs.declared.scan.Piece.TheVariants.{Gap, Unclosed, Token}
 use Rattle.lexer.proofs.Runs.{rest}
@@ -40,9 +39,9 @@ byte_inside s i v e h =
     past ge = omega arith
 
 -- a comment's end as the scanner's answer
-abbrev pub on_closing : Closing → Piece
-on_closing (At e) = Gap e
-on_closing Never = Unclosed
+abbrev pub on_closing : Found ℕ → Piece
+on_closing (Some e) = Gap e
+on_closing None = Unclosed
 
 on-comment : (i : ℕ) (o : Option ℕ) → on_closing (closing_of o) ≡ piece_of i (comment o)
 on-comment i none = refl
@@ -190,7 +189,7 @@ module _ (s : List ℕ) (i : ℕ) (h : i < length s) where
       → Gap e ≡ piece_of i (item i (drop i s))
   piece-line p n l = ap Gap l ∙ sym (ap (piece_of i) (at-line p n))
 
-  pub piece-block : {k : Closing} → first ≡ b_slash → second ≡ b_star → k ≡ closing_of (closing 1 (i + 2) (drop (i + 2) s))
+  pub piece-block : {k : Found ℕ} → first ≡ b_slash → second ≡ b_star → k ≡ closing_of (closing 1 (i + 2) (drop (i + 2) s))
       → on_closing k ≡ piece_of i (item i (drop i s))
   piece-block p n e = ap on_closing e ∙ on-comment i (closing 1 (i + 2) (drop (i + 2) s)) ∙ sym (ap (piece_of i) (at_block p n))
 

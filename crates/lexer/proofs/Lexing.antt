@@ -14,9 +14,10 @@ use Rattle.base.specs.laws.Tests.{apart}
 use Rattle.lexer.proofs.laws.ItemLaws.{Good, Shape, good}
 use Rattle.lexer.specs.promises.Chains.{NoNames, tokens_of, Chained, Added}
 use Rattle.lexer.specs.promises.Scan.{piece_of}
-use Rattle.lexer.specs.declared.Lexed.TheVariants.{Tokens, Refused}
-use Rattle.lexer.specs.declared.Stored.{Stored}
-use Rattle.lexer.specs.declared.Stored.TheVariants.{Refused as Declined, Done}
+use Rattle.std.specs.Prelude.{Result, Ok, Err}
+use Rattle.base.specs.declared.refusal.Reason.{Reason}
+use Rattle.base.specs.declared.refusal.Refusal.{Refusal}
+use Rattle.base.specs.promises.Refusals.{number_of}
 use Rattle.lexer.specs.declared.scan.Piece.TheVariants.{Gap, Unclosed, Nothing, Token as Lexeme}
 use Rattle.lexer.proofs.Chains.{tokens-length, filled-rows}
 
@@ -149,14 +150,14 @@ module _ {s tab : List ℕ} {n i : ℕ} (h : i < length s) (l : Lexing s tab n i
   unfolding turn
   nothing-refused e = turn_on nothing (of-nothing i (item i (drop i s)) e) (turning h l)
 
-  module _ {k e : ℕ} (g : TokenTo s i k e) {r : Stored} {tab' : List ℕ} (a : Added s tab n k i e r tab') where
-    pub token-refused : {m : ℕ} → r ≡ Declined m → tokens s ≡ refused m i
+  module _ {k e : ℕ} (g : TokenTo s i k e) {r : Result (Unit {0}) Refusal} {tab' : List ℕ} (a : Added s tab n k i e r tab') where
+    pub token-refused : {m : Refusal} → r ≡ Err m → tokens s ≡ refused (number_of m.reason) m.position
     token-refused {m} q =
         let w = turning h l in
         turn_on (token k (take (e - i) (drop i s))) g.is w
         ∙ ap (onto (tokens_of s tab n)) (a.refusal m q (λ c j. tokens_from w.left s c j))
 
-    pub lexing-token : r ≡ Done → Lexing s tab' (n + 1) e
+    pub lexing-token : r ≡ Ok tt → Lexing s tab' (n + 1) e
     lexing-token q =
         let w = turning h l in
         let x = a.done q in
@@ -182,12 +183,12 @@ lexing-end {s} {tab} {n} {i} h l = l.on ∙ ap (onto (tokens_of s tab n)) (go l.
 
 -- ---- the answers
 
-pub answers-refused : (s tab : List ℕ) {m i : ℕ} → tokens s ≡ refused m i → Lexes (tokens s) (Refused m i) tab
-answers-refused s tab {m} {i} e = subst (λ (o : Outcome (List Token)). Lexes o (Refused m i) tab) (sym e) refl
+pub answers-refused : (s tab : List ℕ) (q : Refusal) → tokens s ≡ refused (number_of q.reason) q.position → Lexes (tokens s) (Err q) tab
+answers-refused s tab q e = subst (λ (o : Outcome (List Token)). Lexes o (Err q) tab) (sym e) refl
 
-pub answers-tokens : {s tab : List ℕ} {n i : ℕ} → length s ≤ i → Lexing s tab n i → Lexes (tokens s) (Tokens n) tab
+pub answers-tokens : {s tab : List ℕ} {n i : ℕ} → length s ≤ i → Lexing s tab n i → Lexes (tokens s) (Ok n) tab
 answers-tokens {s} {tab} {n} {i} h l =
     let e = tokens-length s tab n in
     let f = l.chained.filled in
-    subst (λ (o : Outcome (List Token)). Lexes o (Tokens n) tab) (sym (lexing-end h l))
-    (ap Tokens (sym e), omega (arith, e, f.few), filled-rows s tab n f)
+    subst (λ (o : Outcome (List Token)). Lexes o (Ok n) tab) (sym (lexing-end h l))
+    (ap Ok (sym e), omega (arith, e, f.few), filled-rows s tab n f)

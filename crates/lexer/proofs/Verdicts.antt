@@ -17,31 +17,28 @@ use Rattle.lexer.specs.Tokens.{Token, token, decimal, starts_with_zero_lem, whol
 use Rattle.lexer.specs.Tokens.{exceeds_length, zero_first, not_three, too_large, turn}
 use Rattle.base.specs.laws.Tests.{apart}
 use Rattle.lexer.proofs.laws.ItemLaws.{kinds-apart}
-use Rattle.lexer.specs.promises.Verdicts.{literal_of, number_beside, verdict_of}
+use Rattle.lexer.specs.promises.Verdicts.{literal_of, on_literal, number_beside, verdict_of}
 use Rattle.lexer.specs.promises.Chains.{Extended, Added}
-use Rattle.lexer.specs.declared.Stored.TheVariants.{Refused as Declined, Done}
-use Rattle.lexer.specs.declared.limits.Literal.{Literal}
-use Rattle.lexer.specs.declared.limits.Literal.TheVariants.{Value, TooLarge}
-use Rattle.lexer.specs.declared.limits.Verdict.{Verdict}
-use Rattle.lexer.specs.declared.limits.Verdict.TheVariants.{Refused, Name, Plain}
+use Rattle.lexer.specs.declared.limits.Entry.{Entry}
+use Rattle.lexer.specs.declared.limits.Entry.TheVariants.{Name, Plain}
+use Rattle.std.specs.Prelude.{Option as Found, Some, None, Result, Ok, Err}
+use Rattle.base.specs.declared.refusal.Reason.{Reason}
+use Rattle.base.specs.declared.refusal.Reason.TheVariants as reason
+use Rattle.base.specs.declared.refusal.Refusal.{Refusal}
+use Rattle.base.specs.promises.Refusals.{number_of}
 
 -- ---- the verdict by the answers of the tests
 
 -- of a literal: its leading zero, and its value; of one of fixed: its leading zero, the three digits behind its point, and its thousandths
-abbrev verdict_by : (many name long literal fixed zero large zeroes three larger : Bool) → (value count : ℕ) → Verdict
+abbrev verdict_by : (many name long literal fixed zero large zeroes three larger : Bool) → (value count : ℕ) → Result Entry Reason
 verdict_by many name long literal fixed zero large zeroes three larger value count =
-    if many then (λ _. Refused too_many_tokens) otherwise λ _.
-    if name && long then (λ _. Refused name_too_long) otherwise λ _.
-    if literal && zero || fixed && zeroes then (λ _. Refused leading_zero) otherwise λ _.
-    if fixed && not three then (λ _. Refused not_three_digits) otherwise λ _.
-    if literal && large || fixed && larger then (λ _. Refused literal_too_large) otherwise λ _.
-    if name then (λ _. Name) otherwise λ _.
-    Plain (if literal then (λ _. value) otherwise λ _. if fixed then (λ _. count) otherwise λ _. 0)
-
--- the verdict on a literal without a leading zero, and on one of fixed that has three digits behind its point too
-abbrev pub on_literal : Literal → Verdict
-on_literal (Value v) = Plain v
-on_literal TooLarge = Refused literal_too_large
+    if many then (λ _. Err reason.TooManyTokens) otherwise λ _.
+    if name && long then (λ _. Err reason.NameTooLong) otherwise λ _.
+    if literal && zero || fixed && zeroes then (λ _. Err reason.LeadingZero) otherwise λ _.
+    if fixed && not three then (λ _. Err reason.NotThreeDigits) otherwise λ _.
+    if literal && large || fixed && larger then (λ _. Err reason.LiteralTooLarge) otherwise λ _.
+    if name then (λ _. Ok Name) otherwise λ _.
+    Ok (Plain (if literal then (λ _. value) otherwise λ _. if fixed then (λ _. count) otherwise λ _. 0))
 
 module _ (n k : ℕ) (t : List ℕ) where
   by_tests : {many name long literal fixed zero large zeroes three larger : Bool} → eqb n tokens_most ≡ many → is_name_lem k ≡ name
@@ -53,16 +50,16 @@ module _ (n k : ℕ) (t : List ℕ) where
   by_tests a b c d e f g h l m =
       λ j. verdict_by (a j) (b j) (c j) (d j) (e j) (f j) (g j) (h j) (l j) (m j) (decimal 0 t) (thousandths_of_lem t)
 
-  pub verdict-many : n ≡ tokens_most → Refused too_many_tokens ≡ verdict_of n k t
+  pub verdict-many : n ≡ tokens_most → Err reason.TooManyTokens ≡ verdict_of n k t
   verdict-many e = sym (by_tests (eq-eqb n tokens_most e) refl refl refl refl refl refl refl refl refl)
 
   -- b is what the test for a name answers
   module _ {b : Bool} (few : n ≢ tokens_most) (q : b ≡ is_name_lem k) where
-    pub verdict-long : b ≡ true → name_most < length t → Refused name_too_long ≡ verdict_of n k t
+    pub verdict-long : b ≡ true → name_most < length t → Err reason.NameTooLong ≡ verdict_of n k t
     verdict-long y g =
         sym (by_tests (ne_eqb n tokens_most few) (sym q ∙ y) (lt-ltb name_most (length t) g) refl refl refl refl refl refl refl)
 
-    pub verdict-name : b ≡ true → length t ≤ name_most → Name ≡ verdict_of n k t
+    pub verdict-name : b ≡ true → length t ≤ name_most → Ok Name ≡ verdict_of n k t
     unfolding is_name_lem
     verdict-name y g =
         let named = sym q ∙ y in
@@ -86,29 +83,29 @@ module _ (n k : ℕ) (t : List ℕ) where
         (eqb (length (fraction_digits t)) 3) (ltb literal_most (thousandths_of_lem t)) (decimal 0 t) (thousandths_of_lem t)
     by-literal y l f z = by_tests (ne_eqb n tokens_most few) (sym q ∙ y) refl l f z refl refl refl refl
 
-    pub verdict-zero : {z : Bool} → b ≡ false → k ≡ k_literal → z ≡ starts_with_zero_lem t → z ≡ true → Refused leading_zero ≡ verdict_of n k t
+    pub verdict-zero : {z : Bool} → b ≡ false → k ≡ k_literal → z ≡ starts_with_zero_lem t → z ≡ true → Err reason.LeadingZero ≡ verdict_of n k t
     verdict-zero y l p z = sym (by-literal y (eq-eqb k k_literal l) refl (sym p ∙ z))
 
-    pub verdict-literal : {z : Bool} {v : Literal} → b ≡ false → k ≡ k_literal → z ≡ starts_with_zero_lem t → z ≡ false → v ≡ literal_of (decimal 0 t)
+    pub verdict-literal : {z : Bool} {v : Found ℕ} → b ≡ false → k ≡ k_literal → z ≡ starts_with_zero_lem t → z ≡ false → v ≡ literal_of (decimal 0 t)
         → on_literal v ≡ verdict_of n k t
     verdict-literal y l p z r =
         ap on_literal r
         ∙ on (ltb literal_most (decimal 0 t))
         ∙ sym (by-literal y (eq-eqb k k_literal l) (ap (λ (m : ℕ). eqb m k_fixed_literal) l) (sym p ∙ z))
       where
-        on : (c : Bool) → on_literal (if c then (λ _. TooLarge) otherwise λ _. Value (decimal 0 t))
+        on : (c : Bool) → on_literal (if c then (λ _. None) otherwise λ _. Some (decimal 0 t))
             ≡ verdict_by false false (ltb name_most (length t)) true false false c (starts_with_zero_lem (whole_digits t))
             (eqb (length (fraction_digits t)) 3) (ltb literal_most (thousandths_of_lem t)) (decimal 0 t) (thousandths_of_lem t)
         on true = refl
         on false = refl
 
-    pub verdict-plain : b ≡ false → k ≢ k_literal → k ≢ k_fixed_literal → Plain 0 ≡ verdict_of n k t
+    pub verdict-plain : b ≡ false → k ≢ k_literal → k ≢ k_fixed_literal → Ok (Plain 0) ≡ verdict_of n k t
     verdict-plain y d f = sym (by-literal y (ne_eqb k k_literal d) (ne_eqb k k_fixed_literal f) refl)
 
 -- ---- the verdict on a literal of fixed
 
 -- with few tokens their number does not matter
-pub verdict-fixed : (n k : ℕ) (t : List ℕ) {b : Bool} {v : Verdict} → n ≢ tokens_most → b ≡ is_name_lem k → b ≡ false → k ≡ k_fixed_literal
+pub verdict-fixed : (n k : ℕ) (t : List ℕ) {b : Bool} {v : Result Entry Reason} → n ≢ tokens_most → b ≡ is_name_lem k → b ≡ false → k ≡ k_fixed_literal
     → v ≡ verdict_of 0 k_fixed_literal t → v ≡ verdict_of n k t
 unfolding is_name_lem
 verdict-fixed n k t few q y l e =
@@ -125,21 +122,21 @@ module _ (t : List ℕ) {w : List ℕ} (is : w ≡ whole_digits t) where
   unfolding is_name_lem
   by_parts z e = by_tests 0 k_fixed_literal t refl refl refl refl refl refl refl (ap starts_with_zero_lem (sym is) ∙ z) e refl
 
-  pub fixed_zero : {z : Bool} → z ≡ starts_with_zero_lem w → z ≡ true → Refused leading_zero ≡ verdict_of 0 k_fixed_literal t
+  pub fixed_zero : {z : Bool} → z ≡ starts_with_zero_lem w → z ≡ true → Err reason.LeadingZero ≡ verdict_of 0 k_fixed_literal t
   fixed_zero p z = sym (by_parts (sym p ∙ z) refl)
 
   pub fixed-short : {z : Bool} → z ≡ starts_with_zero_lem w → z ≡ false → length (fraction_digits t) ≢ 3
-      → Refused not_three_digits ≡ verdict_of 0 k_fixed_literal t
+      → Err reason.NotThreeDigits ≡ verdict_of 0 k_fixed_literal t
   fixed-short p z n = sym (by_parts (sym p ∙ z) (ne_eqb (length (fraction_digits t)) 3 n))
 
-  pub fixed-counted : {z : Bool} {v : Literal} → z ≡ starts_with_zero_lem w → z ≡ false → length (fraction_digits t) ≡ 3
+  pub fixed-counted : {z : Bool} {v : Found ℕ} → z ≡ starts_with_zero_lem w → z ≡ false → length (fraction_digits t) ≡ 3
       → v ≡ literal_of (thousandths_of_lem t) → on_literal v ≡ verdict_of 0 k_fixed_literal t
   fixed-counted p z e r =
       ap on_literal r
       ∙ on (ltb literal_most (thousandths_of_lem t))
       ∙ sym (by_parts (sym p ∙ z) (eq-eqb (length (fraction_digits t)) 3 e))
     where
-      on : (c : Bool) → on_literal (if c then (λ _. TooLarge) otherwise λ _. Value (thousandths_of_lem t))
+      on : (c : Bool) → on_literal (if c then (λ _. None) otherwise λ _. Some (thousandths_of_lem t))
           ≡ verdict_by false false (ltb name_most (length t)) false true (starts_with_zero_lem t) (ltb literal_most (decimal 0 t)) false true c
           (decimal 0 t) (thousandths_of_lem t)
       on true = refl
@@ -153,10 +150,10 @@ Passes n k i t =
     (next : ℕ → ℕ → Outcome (List Token))
     → turn next n i (token k t) ≡ (next (n + 1) (i + length t) >>= λ ts. accepted ((record { kind = k; start = i; text = t }) ∷ ts))
 
-abbrev Judged : (n k i : ℕ) → List ℕ → Verdict → Type 0
-Judged n k i t (Refused m) = (next : ℕ → ℕ → Outcome (List Token)) → turn next n i (token k t) ≡ refused m i
-Judged n k i t Name = (n ≢ tokens_most) × (is_name_lem k ≡ true) × Passes n k i t
-Judged n k i t (Plain v) = (n ≢ tokens_most) × (is_name_lem k ≡ false) × (v ≡ number_beside k t) × Passes n k i t
+abbrev Judged : (n k i : ℕ) → List ℕ → Result Entry Reason → Type 0
+Judged n k i t (Err m) = (next : ℕ → ℕ → Outcome (List Token)) → turn next n i (token k t) ≡ refused (number_of m) i
+Judged n k i t (Ok Name) = (n ≢ tokens_most) × (is_name_lem k ≡ true) × Passes n k i t
+Judged n k i t (Ok (Plain v)) = (n ≢ tokens_most) × (is_name_lem k ≡ false) × (v ≡ number_beside k t) × Passes n k i t
 
 module _ (n k i : ℕ) (t : List ℕ) where
   -- a turn by the answers of the tests
@@ -181,12 +178,12 @@ module _ (n k i : ℕ) (t : List ℕ) where
       → not_three k t ≡ other
       → too_large k t ≡ large
       → is_name_lem k ≡ name → Judged n k i t
-      (if many then (λ _. Refused too_many_tokens) otherwise λ _.
-      if long then (λ _. Refused name_too_long) otherwise λ _.
-      if zero then (λ _. Refused leading_zero) otherwise λ _.
-      if other then (λ _. Refused not_three_digits) otherwise λ _.
-      if large then (λ _. Refused literal_too_large) otherwise λ _.
-      if name then (λ _. Name) otherwise λ _. Plain (number_beside k t))
+      (if many then (λ _. Err reason.TooManyTokens) otherwise λ _.
+      if long then (λ _. Err reason.NameTooLong) otherwise λ _.
+      if zero then (λ _. Err reason.LeadingZero) otherwise λ _.
+      if other then (λ _. Err reason.NotThreeDigits) otherwise λ _.
+      if large then (λ _. Err reason.LiteralTooLarge) otherwise λ _.
+      if name then (λ _. Ok Name) otherwise λ _. Ok (Plain (number_beside k t)))
   judged-by true long zero other large name a b c d e f = turn_by a b c d e
   judged-by false true zero other large name a b c d e f = turn_by a b c d e
   judged-by false false true other large name a b c d e f = turn_by a b c d e
@@ -200,7 +197,7 @@ module _ (n k i : ℕ) (t : List ℕ) where
   judged =
       judged-by (eqb n tokens_most) (exceeds_length k t) (zero_first k t) (not_three k t) (too_large k t) (is_name_lem k) refl refl refl refl refl refl
 
-  pub judged-as : {v w : Verdict} → v ≡ verdict_of n k t → v ≡ w → Judged n k i t w
+  pub judged-as : {v w : Result Entry Reason} → v ≡ verdict_of n k t → v ≡ w → Judged n k i t w
   judged-as {w = w} e q = subst (Judged n k i t) (sym e ∙ q) judged
 
 -- ---- what becomes of a token
@@ -208,37 +205,39 @@ module _ (n k i : ℕ) (t : List ℕ) where
 part_end : (s : List ℕ) (i e : ℕ) → i ≤ e → e ≤ length s → i + length (take (e - i) (drop i s)) ≡ e
 part_end s i e h l = omega (arith, length-take-le (e - i) (drop i s) (omega (arith, length-drop i s)))
 
+-- what tells a result of no value from the refusal
+not_refused : {q : Refusal} → ◌≡◌ {A = Result (Unit {0}) Refusal} (Ok tt) (Err q) → ⊥
+not_refused z = apart (cc)
+
+not_done : {q : Refusal} → ◌≡◌ {A = Result (Unit {0}) Refusal} (Err q) (Ok tt) → ⊥
+not_done z = apart (cc)
+
+same_refusal : {q r : Refusal} → ◌≡◌ {A = Result (Unit {0}) Refusal} (Err q) (Err r) → q ≡ r
+same_refusal z = cc
+
 module _ {s tab tab' : List ℕ} {n k i e : ℕ} where
-  pub added-refused : {v : Verdict} {m : ℕ} → v ≡ verdict_of n k (take (e - i) (drop i s)) → v ≡ Refused m
-      → Added s tab n k i e (Declined m) tab'
-  added-refused {v} {m} p q = record {
-    refusal = λ m' z next. judged-as n k i (take (e - i) (drop i s)) p q next ∙ ap (λ (x : ℕ). refused x i) (same_number z);
-    done = λ z. absurd (never z);
-    passed = λ z. absurd (never z);
+  pub added-refused : {v : Result Entry Reason} {m : Reason} → v ≡ verdict_of n k (take (e - i) (drop i s)) → v ≡ Err m
+      → Added s tab n k i e (Err (record { reason = m; position = i })) tab'
+  added-refused {v} {m} p w = record {
+    refusal = λ q z next.
+        judged-as n k i (take (e - i) (drop i s)) p w next ∙ ap (λ (x : Refusal). refused (number_of x.reason) x.position) (same_refusal z);
+    done = λ z. absurd (not_done z);
+    passed = λ z. absurd (not_done z);
   }
-    where
-      same_number : {m' : ℕ} → Declined m ≡ Declined m' → m ≡ m'
-      same_number z = cc
 
-      never : Declined m ≡ Done → ⊥
-      never z = apart (cc)
-
-  added-done : Passes n k i (take (e - i) (drop i s)) → i ≤ e → e ≤ length s → Extended s tab n k i e tab' → Added s tab n k i e Done tab'
+  added-done : Passes n k i (take (e - i) (drop i s)) → i ≤ e → e ≤ length s → Extended s tab n k i e tab' → Added s tab n k i e (Ok tt) tab'
   added-done p h l x = record {
-    refusal = λ m z. absurd (never z);
+    refusal = λ q z. absurd (not_refused z);
     done = λ _. x;
     passed = λ _ next.
         p next
         ∙ ap (λ (j : ℕ). next (n + 1) j >>= λ ts. accepted ((record { kind = k; start = i; text = take (e - i) (drop i s) }) ∷ ts)) (part_end s i e h l);
   }
-    where
-      never : {m : ℕ} → Done ≡ Declined m → ⊥
-      never z = apart (cc)
 
-  pub added-name : {v : Verdict} → v ≡ verdict_of n k (take (e - i) (drop i s)) → v ≡ Name → i ≤ e → e ≤ length s
-      → Extended s tab n k i e tab' → Added s tab n k i e Done tab'
+  pub added-name : {v : Result Entry Reason} → v ≡ verdict_of n k (take (e - i) (drop i s)) → v ≡ Ok Name → i ≤ e → e ≤ length s
+      → Extended s tab n k i e tab' → Added s tab n k i e (Ok tt) tab'
   added-name p q h l x = added-done (judged-as n k i (take (e - i) (drop i s)) p q).2 h l x
 
-  pub added-plain : {v : Verdict} {m : ℕ} → v ≡ verdict_of n k (take (e - i) (drop i s)) → v ≡ Plain m → i ≤ e → e ≤ length s
-      → Extended s tab n k i e tab' → Added s tab n k i e Done tab'
+  pub added-plain : {v : Result Entry Reason} {m : ℕ} → v ≡ verdict_of n k (take (e - i) (drop i s)) → v ≡ Ok (Plain m) → i ≤ e → e ≤ length s
+      → Extended s tab n k i e tab' → Added s tab n k i e (Ok tt) tab'
   added-plain p q h l x = added-done (judged-as n k i (take (e - i) (drop i s)) p q).3 h l x

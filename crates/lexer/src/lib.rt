@@ -7,9 +7,9 @@ ghost use Rattle.lexer.specs.Tokens.{tokens};
 ghost use Rattle.lexer.specs.promises.Rows.{Lexes};
 ghost use Rattle.lexer.specs.promises.Chains.{Adding, Added};
 
-use base::codes;
+use base::refusal::{Reason, Refusal};
 use bytes::byte_kinds;
-use limits::{Verdict, judge};
+use limits::{Entry, judge};
 use names::{Lexeme, clear_buckets, store, store_name};
 use scan::{Piece, piece_at};
 
@@ -20,42 +20,24 @@ mod names;
 pub mod scan;
 mod words;
 
-// The number of tokens; or a refusal and its position.
-#[derive(Drop)]
-pub enum Lexed {
-    Tokens(usize),
-    Refused(u32, usize),
-}
-
-// What became of a token.
-#[derive(Drop)]
-enum Stored {
-    Refused(u32),
-    Done,
-}
-
 // A token becomes row `count`, unless it is refused.
-fn add(source: &[u8], table: &mut [u32], count: usize, token: Lexeme) -> Stored
+fn add(source: &[u8], table: &mut [u32], count: usize, token: Lexeme) -> Result<(), Refusal>
     requires { Adding source.now table.old count token.start token.end × (0 < token.kind) }
     ensures { Added source.now table.old count token.kind token.start token.end result table.new }
 {
     let start = token.start;
     let end = token.end;
     match judge(&source[start..end], count, token.kind) {
-        Verdict::Refused(number) => Stored::Refused(number),
-        Verdict::Name => {
-            store_name(source, table, count, token);
-            Stored::Done
-        }
-        Verdict::Plain(number) => {
-            store(table, count, token, number, 0);
-            Stored::Done
-        }
+        Ok(Entry::Name) => store_name(source, table, count, token),
+        Ok(Entry::Plain(number)) => store(table, count, token, number, 0),
+        Err(reason) => return Err(Refusal { reason, position: start }),
     }
+    Ok(())
 }
 
-// Each turn reads one blank, comment or token. Of the table only the buckets are cleared first: rows are written before they are read.
-pub fn lex(source: &[u8], table: &mut [u32]) -> Lexed
+// The number of tokens. Each turn reads one blank, comment or token. Of the table only the buckets are cleared first: rows are written before
+// they are read.
+pub fn lex(source: &[u8], table: &mut [u32]) -> Result<usize, Refusal>
     requires { (table_least ≤ length table.old) × (length source.now ≤ source_most) }
     ensures { (length table.new ≡ length table.old) × Lexes (tokens source.now) result table.new }
 {
@@ -69,30 +51,18 @@ pub fn lex(source: &[u8], table: &mut [u32]) -> Lexed
                 at = next;
             }
             Piece::Unclosed => {
-                return Lexed::Refused(codes::COMMENT_NOT_CLOSED, at);
+                return Err(Refusal { reason: Reason::CommentNotClosed, position: at });
             }
             Piece::Nothing => {
-                return Lexed::Refused(codes::NO_TOKEN, at);
+                return Err(Refusal { reason: Reason::NoToken, position: at });
             }
-            Piece::Token(kind, end) => match add(
-                source,
-                table,
-                count,
-                Lexeme {
-                    kind,
-                    start: at,
-                    end,
-                },
-            ) {
-                Stored::Done => {
-                    count += 1;
-                    at = end;
-                }
-                Stored::Refused(number) => {
-                    return Lexed::Refused(number, at);
-                }
-            },
+            Piece::Token(kind, end) => {
+                let start = at;
+                add(source, table, count, Lexeme { kind, start, end })?;
+                count += 1;
+                at = end;
+            }
         }
     }
-    Lexed::Tokens(count)
+    Ok(count)
 }

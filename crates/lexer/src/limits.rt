@@ -5,10 +5,10 @@ ghost use Rattle.base.specs.Codes.{literal_most};
 ghost use Rattle.lexer.specs.Bytes.{b_zero, is_digit_lem};
 ghost use Rattle.lexer.specs.Kinds.{k_fixed_literal};
 ghost use Rattle.lexer.specs.Tokens.{decimal, starts_with_zero_lem, whole_digits, thousandths_of_lem};
-ghost use Rattle.lexer.specs.promises.Verdicts.{literal_of, verdict_of};
+ghost use Rattle.lexer.specs.promises.Verdicts.{literal_of, on_literal, verdict_of};
 
 use super::kinds;
-use base::codes;
+use base::refusal::Reason;
 
 const TOKENS_MOST: usize = 2048;
 
@@ -19,17 +19,9 @@ const LITERAL_MOST: u64 = 2147483647;
 // The point of a literal of fixed and the three digits behind it.
 const FRACTION: usize = 4;
 
-// A literal's value, of one of fixed its thousandths, where it is at most 2147483647.
-#[derive(Drop)]
-pub enum Literal {
-    Value(u32),
-    TooLarge,
-}
-
-// What becomes of a token: it is refused; it is a name; it is another token, with a number beside it.
-#[derive(Drop)]
-pub enum Verdict {
-    Refused(u32),
+// What stands beside a token in its row: the number of a name, which is looked up, or another number.
+#[derive(Clone, Copy)]
+pub enum Entry {
     Name,
     Plain(u32),
 }
@@ -41,21 +33,20 @@ fn digit(b: u8) -> u64
     if b < b'0' { 0 } else { (b - b'0') as u64 }
 }
 
-// The value of a run of digits, after those that make `before`. The sum stops as soon as it is too large, since more digits only add to it.
-fn value_of(before: u32, text: &[u8]) -> Literal
+// The value of a run of digits, after those that make `before`, where it is at most 2147483647. The sum stops as soon as it is larger, since
+// more digits only add to it.
+fn value_of(before: u32, text: &[u8]) -> Option<u32>
     requires { before ≤ literal_most }
     ensures { result ≡ literal_of (decimal before text.now) }
 {
     let mut high: u64 = before as u64;
-    let mut i: usize = 0;
-    while i < text.len() {
-        high = high * 10 + digit(text[i]);
+    for &b in text {
+        high = high * 10 + digit(b);
         if LITERAL_MOST < high {
-            return Literal::TooLarge;
+            return None;
         }
-        i += 1;
     }
-    Literal::Value(high as u32)
+    Some(high as u32)
 }
 
 // Whether a run of digits has a leading zero: a lone 0 has none.
@@ -79,71 +70,69 @@ fn is_digit(b: u8) -> bool
 fn whole_end(text: &[u8]) -> usize
     ensures { result ≡ length (whole_digits text.now) }
 {
-    let mut i: usize = 0;
-    while i < text.len() {
+    for i in 0..text.len() {
         if !is_digit(text[i]) {
             return i;
         }
-        i += 1;
     }
-    i
+    text.len()
 }
 
 // The thousandths that a literal of fixed counts: its digits, but for the point.
-fn thousandths_of(text: &[u8], point: usize) -> Literal
+fn thousandths_of(text: &[u8], point: usize) -> Option<u32>
     requires { (point ≡ length (whole_digits text.now)) × (point + 1 ≤ length text.now) }
     ensures { result ≡ literal_of (thousandths_of_lem text.now) }
 {
-    match value_of(0, &text[0..point]) {
-        Literal::Value(whole) => {
-            let behind = point + 1;
-            value_of(whole, &text[behind..])
-        }
-        Literal::TooLarge => Literal::TooLarge,
+    let whole = value_of(0, &text[0..point])?;
+    let behind = point + 1;
+    value_of(whole, &text[behind..])
+}
+
+// The entry of a literal by its value, or of one of fixed by its thousandths.
+fn literal(value: Option<u32>) -> Result<Entry, Reason>
+    ensures { result ≡ on_literal value }
+{
+    match value {
+        Some(number) => Ok(Entry::Plain(number)),
+        None => Err(Reason::LiteralTooLarge),
     }
 }
 
-// The verdict on a literal of fixed, where there are not too many tokens.
-fn judge_fixed(text: &[u8]) -> Verdict
+// The entry of a literal of fixed, where there are not too many tokens.
+fn judge_fixed(text: &[u8]) -> Result<Entry, Reason>
     ensures { result ≡ verdict_of 0 k_fixed_literal text.now }
 {
     let point = whole_end(text);
     if starts_with_zero(&text[0..point]) {
-        return Verdict::Refused(codes::LEADING_ZERO);
+        return Err(Reason::LeadingZero);
     }
     if text.len() - point != FRACTION {
-        return Verdict::Refused(codes::NOT_THREE_DIGITS);
+        return Err(Reason::NotThreeDigits);
     }
-    match thousandths_of(text, point) {
-        Literal::Value(v) => Verdict::Plain(v),
-        Literal::TooLarge => Verdict::Refused(codes::LITERAL_TOO_LARGE),
-    }
+    literal(thousandths_of(text, point))
 }
 
-// The verdict on a token, where `count` tokens stand before it.
-pub fn judge(text: &[u8], count: usize, kind: u32) -> Verdict
+// The entry of a token, where `count` tokens stand before it.
+pub fn judge(text: &[u8], count: usize, kind: u32) -> Result<Entry, Reason>
     ensures { result ≡ verdict_of count kind text.now }
 {
     if count == TOKENS_MOST {
-        return Verdict::Refused(codes::TOO_MANY_TOKENS);
+        return Err(Reason::TooManyTokens);
     }
     if kinds::is_name(kind) {
         if NAME_MOST < text.len() {
-            return Verdict::Refused(codes::NAME_TOO_LONG);
+            return Err(Reason::NameTooLong);
         }
-        return Verdict::Name;
+        return Ok(Entry::Name);
     }
     if kind == kinds::LITERAL {
         if starts_with_zero(text) {
-            return Verdict::Refused(codes::LEADING_ZERO);
+            return Err(Reason::LeadingZero);
         }
-        return match value_of(0, text) {
-            Literal::Value(v) => Verdict::Plain(v),
-            Literal::TooLarge => Verdict::Refused(codes::LITERAL_TOO_LARGE),
-        };
+        return literal(value_of(0, text));
     }
     if kind == kinds::FIXED_LITERAL {
         return judge_fixed(text);
     }
-    Verdict::Plain(0)
+    Ok(Entry::Plain(0))
 }

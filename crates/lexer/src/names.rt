@@ -11,8 +11,6 @@ ghost use Rattle.lexer.specs.Kinds.{is_name_lem};
 ghost use Rattle.lexer.specs.promises.Rows.{first_named};
 ghost use Rattle.lexer.specs.promises.Chains.{bucket_from, NoNames, text_from, tokens_of, token_row, stored_row, Sought, Adding, Extended};
 
-use super::bytes::equal;
-
 // Where the columns of the table begin: the token's position, its name's number or literal's value, the head of a bucket, the link of a
 // chain, the token's length. Its kind stands in column 0.
 const STARTS: usize = 2048;
@@ -40,10 +38,8 @@ fn bucket(text: &[u8]) -> usize
     ensures { (result ≡ bucket_from 0 text.now) × (result < rows) }
 {
     let mut h: usize = 0;
-    let mut i: usize = 0;
-    while i < text.len() {
-        h = (h * 31 + text[i] as usize) % BUCKETS;
-        i += 1;
+    for &b in text {
+        h = (h * 31 + b as usize) % BUCKETS;
     }
     h
 }
@@ -53,11 +49,7 @@ pub fn clear_buckets(table: &mut [u32])
     requires { table_least ≤ length table.old }
     ensures { NoNames table.new rows }
 {
-    let mut b: usize = 0;
-    while b < BUCKETS {
-        table[HEADS + b] = 0;
-        b += 1;
-    }
+    table[HEADS..HEADS + BUCKETS].fill(0);
 }
 
 // Whether the token of a row has these bytes.
@@ -67,7 +59,7 @@ fn has_text(source: &[u8], table: &[u32], row: usize, text: &[u8]) -> bool
 {
     let start = table[STARTS + row] as usize;
     let end = start + table[LENGTHS + row] as usize;
-    equal(&source[start..end], text)
+    &source[start..end] == text
 }
 
 // The number of the name with these bytes, where `count` rows are filled: `count` where no row has them.

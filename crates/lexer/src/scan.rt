@@ -25,13 +25,6 @@ pub enum Delimiter {
     Other,
 }
 
-// Where a block comment ends.
-#[derive(Drop)]
-pub enum Closing {
-    At(usize),
-    Never,
-}
-
 // What begins at a position. A gap is a blank or a comment, and has the position after it; a token has its kind and the position after it.
 #[derive(Drop)]
 pub enum Piece {
@@ -58,14 +51,12 @@ fn run_end(source: &[u8], table: &[u8; 256], at: usize, class: Class) -> usize
     requires { RightTable table.now × (at ≤ length source.now) }
     ensures { result ≡ at + length (longest_run (member class) (drop at source.now)) }
 {
-    let mut i = at;
-    while i < source.len() {
+    for i in at..source.len() {
         if !belongs(table, class, source[i]) {
             return i;
         }
-        i += 1;
     }
-    i
+    source.len()
 }
 
 // What two bytes in a block comment do.
@@ -86,8 +77,8 @@ fn delimiter_of(a: u8, b: u8) -> Delimiter
     Delimiter::Other
 }
 
-// The position after the `*/` that closes the block comment whose `/*` ends at `at`. Comments nest.
-fn comment_end(source: &[u8], at: usize) -> Closing
+// The position after the `*/` that closes the block comment whose `/*` ends at `at`, if one does. Comments nest.
+fn comment_end(source: &[u8], at: usize) -> Option<usize>
     requires { at ≤ length source.now }
     ensures { result ≡ closing_of (closing 1 at (drop at source.now)) }
 {
@@ -101,7 +92,7 @@ fn comment_end(source: &[u8], at: usize) -> Closing
             }
             Delimiter::Close => {
                 if depth == 1 {
-                    return Closing::At(i + 2);
+                    return Some(i + 2);
                 }
                 depth -= 1;
                 i += 2;
@@ -111,7 +102,7 @@ fn comment_end(source: &[u8], at: usize) -> Closing
             }
         }
     }
-    Closing::Never
+    None
 }
 
 // At a `/`: a comment or nothing.
@@ -125,8 +116,8 @@ fn slash(source: &[u8], table: &[u8; 256], at: usize) -> Piece
     }
     if next == b'*' {
         return match comment_end(source, at + 2) {
-            Closing::At(end) => Piece::Gap(end),
-            Closing::Never => Piece::Unclosed,
+            Some(end) => Piece::Gap(end),
+            None => Piece::Unclosed,
         };
     }
     Piece::Nothing

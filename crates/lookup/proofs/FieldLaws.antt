@@ -64,37 +64,6 @@ module _ {tab : List ℕ} {n left c : ℕ} where
             let l₃ = length-append (layout (chain_from (left - 1) G (parent_name k.parent))) k.fields in
             rw (chain-some left G name more e) (omega (arith, l₁, l₂, l₃))
 
--- CLEARING
-
--- the first i names have no field
-pub record ClearedTo (n : ℕ) (before now : List ℕ) (i : ℕ) : Type 0 where
-  pub within : i ≤ n
-  pub long : length now ≡ length before
-  pub stays : KeptBehind before now
-  pub empty : NoFields i now
-
-pub cleared-none : {n : ℕ} {before : List ℕ} → ClearedTo n before before 0
-cleared-none = record { within = omega arith; long = refl; stays = λ j h. refl; empty = λ x h. absurd (omega arith) }
-
-pub cleared_more : {n : ℕ} {before now : List ℕ} {i : ℕ} → n ≤ tokens_most → fields_least ≤ length before → i < n → ClearedTo n before now i
-    → ClearedTo n before (set now i no_type) (i + 1)
-cleared_more {n} {before} {now} {i} few large low h =
-    record {
-      within = omega arith;
-      long = length-set now i no_type ∙ h.long;
-      stays = λ j le. get_or-set_other now i j no_type 0 (λ e. omega arith) ∙ h.stays j le;
-      empty = go;
-    }
-  where
-    go : (x : ℕ) → x < i + 1 → get_or (set now i no_type) x 0 ≡ no_type
-    go x lt = elim (ℕ_discrete x i) [
-      | yes is ↦ ap (λ (k : ℕ). get_or (set now i no_type) k 0) is ∙ get_or-set_same now i no_type 0 (omega (arith, h.long))
-      | no other ↦ get_or-set_other now i x no_type 0 other ∙ h.empty x (omega arith)
-    ]
-
-pub cleared-all : {n : ℕ} {before now : List ℕ} {i : ℕ} → n ≤ i → ClearedTo n before now i → Cleared n before now
-cleared-all ge h = record { stays = h.stays; empty = λ x low. h.empty x (omega arith) }
-
 -- THE FIELDS OF A LIST
 
 -- a place counted on from the next one

@@ -36,11 +36,7 @@ fn clear(fields: &mut [u32], n: usize)
     requires { (fields_least ≤ length fields.old) × (n ≤ rows) }
     ensures { Cleared n fields.old fields.new }
 {
-    let mut i: usize = 0;
-    while i < n {
-        fields[i] = NOTHING as u32;
-        i += 1;
-    }
+    fields[..n].fill(NOTHING as u32);
 }
 
 // A field of the name x has this type and this slot.

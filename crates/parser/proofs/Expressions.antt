@@ -13,8 +13,7 @@ use Rattle.base.specs.promises.Table.{col, c_start}
 use Rattle.base.specs.Codes.{tokens_most}
 use Rattle.lexer.specs.Kinds.{is_name_lem, k_fixed, k_new, k_not}
 use Rattle.lexer.specs.Tokens.{Token}
-use Rattle.parser.specs.declared.answer.Answer.{Answer}
-use Rattle.parser.specs.declared.answer.Answer.TheVariants.{At, Bad}
+use Rattle.parser.specs.promises.Answers.{Answer, At, Bad}
 use Rattle.parser.specs.Tree.{Place, Operator, Sort.expression, Expression}
 use Rattle.parser.specs.Tree.{Part.negation, Part.binary}
 use Rattle.parser.specs.Stream.{kind_at, start_at, place_at, Level, Level.conjunction, Level.comparison, Level.sum, Level.product, operator_of}
@@ -22,11 +21,11 @@ use Rattle.parser.specs.Parse.{bind, begins_type_lem, element_type_lem, Mode, op
 use Rattle.parser.specs.promises.Layout.{row_of, node, given, store}
 use Rattle.parser.specs.promises.Post.{kind_in_table, TokensIn, met-ok, ModePost, RestPost, LevelsPost, Rest, rest_mode, more_operations}
 use Rattle.parser.specs.promises.Post.{more_suffixes, level_at, is_operator_lem, starts_array_lem, rank, fuel}
-use Rattle.parser.specs.promises.Parts.{OnePart}
 use Rattle.parser.proofs.Laws.{there, there-by, tokens-kept, given-node, kind-of, is, is-not, at-result, bind_ok, bind-bad, stepped}
 use Rattle.parser.proofs.Laws.{within-ok, within_more}
 use Rattle.parser.proofs.Types.{makes-array}
 use Rattle.parser.proofs.Pieces.{then-node, of-mode, as-mode}
+use Rattle.parser.proofs.Wholes.{OnePart}
 
 -- a node as the code writes it
 pub made : {T : List ℕ} {n : ℕ} {ts : List Token} (T₂ : List ℕ) (i first l r : ℕ) → TokensIn T n ts → first < n

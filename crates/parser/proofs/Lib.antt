@@ -3,6 +3,8 @@ pub mod Operators
 pub mod Laws
 pub mod Types
 pub mod Cycles
+pub mod Wholes
+pub mod Stages
 pub mod Pieces
 pub mod Lists
 pub mod Expressions

@@ -7,15 +7,15 @@ use native.Mathlib.Omega.{arith}
 use Rattle.base.specs.promises.Table.{put, c_next}
 use Rattle.base.specs.Codes.{tokens_most}
 use Rattle.lexer.specs.Tokens.{Token}
-use Rattle.parser.specs.declared.answer.Answer.{Answer}
-use Rattle.parser.specs.declared.answer.Answer.TheVariants.{At, Bad}
+use Rattle.parser.specs.promises.Answers.{Answer, At, Bad}
 use Rattle.parser.specs.Parse.{Parsed, ok, bind}
 use Rattle.parser.specs.promises.Post.{TokensIn, Stored, met-ok}
-use Rattle.parser.specs.promises.Parts.{ListOf, PiecePost}
+use Rattle.parser.specs.promises.Parts.{PiecePost}
 use Rattle.parser.specs.promises.DeclarationPost.{Declaration, Of, item_from, declaration_stored, rank_of, low_of, top_of, DeclPost}
 use Rattle.parser.proofs.Laws.{at-result, at_suc, within-ok}
 use Rattle.parser.proofs.Pieces.{then-bad, then-list, of-declaration, as-declarations}
 use Rattle.parser.specs.promises.Layout.{absent}
+use Rattle.parser.proofs.Wholes.{ListOf}
 
 pub list-end : (l : Declaration) (nil : Of l) {n i : ℕ} {T : List ℕ} → low_of l i ≤ i → i ≤ n → absent < top_of l n
     → absent ≡ (declaration_stored l).row nil

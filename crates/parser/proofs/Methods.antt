@@ -10,10 +10,9 @@ use lib.Dec.{eqb, lit<}
 use Rattle.base.specs.Choice.{if◌then◌otherwise◌}
 use Rattle.base.specs.promises.Table.{put, c_next, c_parent, c_parameters, c_locals, c_fields, c_methods, c_body, c_value}
 use Rattle.base.specs.Codes.{tokens_most}
-use Rattle.lexer.specs.Kinds.{is_name_lem, k_class, k_extends, k_open_brace, k_public, k_end, k_return, k_semicolon, k_open, k_close_brace}
+use Rattle.lexer.specs.Kinds.{is_name_lem, k_name, k_class, k_extends, k_open_brace, k_public, k_end, k_return, k_semicolon, k_open, k_close_brace}
 use Rattle.lexer.specs.Tokens.{Token}
-use Rattle.parser.specs.declared.answer.Answer.{Answer}
-use Rattle.parser.specs.declared.answer.Answer.TheVariants.{At, Bad}
+use Rattle.parser.specs.promises.Answers.{Answer, At, Bad}
 use Rattle.parser.specs.Tree.{Sort.statement, Sort.statements, Part, Expression, Variable, Method, Class, Program}
 use Rattle.parser.specs.Stream.{kind_at, name_at}
 use Rattle.parser.specs.Parse.{Parsed, ok, bad, bind, expect, expect_all, operation, an_expression, a_statement, statement_list, parse_as}
@@ -25,9 +24,9 @@ use Rattle.parser.specs.promises.Layout.{store_classes, store_program, absent, l
 use Rattle.parser.specs.promises.Post.{kind_in_table, TokensIn, Stored, part, Met, met-ok, met-bad, Within, ModePost, ListPost, level_at}
 use Rattle.parser.specs.promises.Post.{matched_in}
 use Rattle.parser.specs.promises.DeclarationPost.{a_variable, formals, a_method, method_list, a_parent, a_class, class_list}
-use Rattle.parser.specs.promises.DeclarationPost.{declaration_stored, DeclPost, OpenedPost, LocalsPost, BodyPost, ReturnedPost}
-use Rattle.parser.specs.promises.DeclarationPost.{MembersPost, ClassMethodsPost, ProgramPost, EndsThere}
-use Rattle.parser.specs.promises.Parts.{Follows, present, missing, nothing, ListOf, PiecePost}
+use Rattle.parser.specs.promises.DeclarationPost.{declaration_stored, DeclPost}
+use Rattle.parser.specs.promises.DeclarationPost.{ProgramPost, EndsThere}
+use Rattle.parser.specs.promises.Parts.{PiecePost}
 use Rattle.parser.proofs.Pieces.{and_token, regroup, regroup-two, follows-ok, then-token, then-bad, then-on, of-mode}
 use Rattle.parser.proofs.Pieces.{of-list, of-declaration, as-declaration}
 use Rattle.parser.proofs.Laws.{there, tokens-kept, given-put, is, is-not, passes, at-result, bind_ok, bind-bad, within-ok}
@@ -35,6 +34,11 @@ use Rattle.parser.proofs.Laws.{within_more, plus-two}
 use Rattle.parser.proofs.Lists.{list-end, list-bad, list-more}
 use Rattle.parser.proofs.Postfix.{name-there}
 use Rattle.parser.proofs.Matched.{all-matched, not-matched}
+use Rattle.std.specs.Prelude.{Ok, Err}
+use Rattle.parser.specs.declared.answer.Misfit.{Misfit}
+use Rattle.parser.specs.promises.Parts.{Expected, ExpectedAll}
+use Rattle.parser.proofs.Wholes.{Follows, ListOf, found-by, missed-by, found-kind, missed-kind, all-found, one-missed}
+use Rattle.parser.proofs.Stages.{OpenedPost, LocalsPost, BodyPost, ReturnedPost, MembersPost, ClassMethodsPost}
 
 -- THE ROWS ARE WRITTEN
 pub given-method-row : (t : List ℕ) (row a b c d : ℕ) → given (method_row_lem t row a b c d) ≡ given t
@@ -167,19 +171,6 @@ module _ {n name first j : ℕ} {T T₁ : List ℕ} {r₁ : Answer} (few : n ≤
 
 -- METHODS
 
--- a head's name is followed by the token where the head ends
-pub ends_there : {T : List ℕ} {n q : ℕ} {x j : ℕ} {r r' : Answer} → r' ≡ At x j → Follows T n q r r' → EndsThere r → x + 2 ≡ j
-ends_there e s h = subst EndsNext e (next s h)
-  where
-    EndsNext : Answer → Type 0
-    EndsNext (At x j) = x + 2 ≡ j
-    EndsNext (Bad k) = Unit {0}
-
-    next : {T : List ℕ} {n q : ℕ} {r r' : Answer} → Follows T n q r r' → EndsThere r → EndsNext r'
-    next (present e) h = omega arith
-    next (missing e) h = tt
-    next nothing h = tt
-
 module _ {n i : ℕ} {T T₁ : List ℕ} {r₁ r₂ : Answer} (few : n ≤ tokens_most) (z : kind_in_table T n i ≡ k_public) (p : DeclPost a_variable n (i + 1) T r₁ T₁)
     (s : Follows T₁ n k_open r₁ r₂) where
   pub method-bad : {y : ℕ} → r₂ ≡ Bad y → DeclPost a_method n i T (Bad y) T₁
@@ -252,21 +243,23 @@ module _ {n i k : ℕ} {T : List ℕ} (ek : k ≡ kind_in_table T n i) where
   parent-none le z =
       record { kept = refl; within = (omega arith, le, omega arith); says = λ ts h f enough. rw (is-not h i ek z) (met-ok refl refl) }
 
-  module _ {k₁ : ℕ} {b : Bool} (z : k ≡ k_extends) (ek₁ : k₁ ≡ kind_in_table T n (i + 1)) (eb : b ≡ is_name_lem k₁) where
-    pub parent-some : n ≤ tokens_most → b ≡ true → DeclPost a_parent n i T (At (i + 1) (i + 2)) T
+  module _ (z : k ≡ k_extends) where
+    pub parent-some : {j : ℕ} → n ≤ tokens_most → Expected T n k_name (i + 1) (Ok j) → DeclPost a_parent n i T (At (i + 1) j) T
     unfolding parent_from
-    parent-some few t =
-        let l = name-there T n (i + 1) k₁ ek₁ eb t in
+    parent-some few s =
+        let g = found-by s in
+        let l = name-there T n (i + 1) _ refl refl g.0 in
         record {
           kept = refl;
-          within = (omega arith, omega arith, omega arith);
-          says = λ ts h f enough. rw (is h i ek z, passes h is_name_lem (i + 1) ek₁ (sym eb ∙ t), plus-two i) (met-ok refl refl);
+          within = (omega (arith, g.1), omega (arith, g.1), omega arith);
+          says = λ ts h f enough. rw (is h i ek z, passes h is_name_lem (i + 1) refl g.0, g.1) (met-ok refl refl);
         }
 
-    pub parent-name : b ≡ false → DeclPost a_parent n i T (Bad (i + 1)) T
+    pub parent-name : {m : Misfit} → Expected T n k_name (i + 1) (Err m) → DeclPost a_parent n i T (Err m) T
     unfolding parent_from
-    parent-name t =
-        record { kept = refl; within = tt; says = λ ts h f enough. rw (is h i ek z, passes h is_name_lem (i + 1) ek₁ (sym eb ∙ t)) met-bad }
+    parent-name s =
+        let g = missed-by s in
+        record { kept = refl; within = tt; says = λ ts h f enough. rw (is h i ek z, passes h is_name_lem (i + 1) refl g.0, g.1) met-bad }
 
 module _ {n name above first j : ℕ} {T T₁ : List ℕ} {r₁ r₂ : Answer} (few : n ≤ tokens_most) (p : DeclPost method_list n j T r₁ T₁) (s : Follows T₁ n k_close_brace r₁ r₂) where
   pub class-methods-bad : {y : ℕ} → r₂ ≡ Bad y → ClassMethodsPost n name above first j T (Bad y) T₁
@@ -313,38 +306,52 @@ module _ {n name above j : ℕ} {T T₁ : List ℕ} {r₁ : Answer} (few : n ≤
             (λ a ea ta h' l. s.says q a T eq ea ta ts h' f l);
       }
 
-module _ {n i k : ℕ} {T : List ℕ} (ek : k ≡ kind_in_table T n i) where
-  pub class-missing : k ≢ k_class → DeclPost a_class n i T (Bad i) T
+module _ {n i : ℕ} {T : List ℕ} where
+  pub class-missing : {m : Misfit} → Expected T n k_class i (Err m) → DeclPost a_class n i T (Err m) T
   unfolding class_from
-  class-missing z = record { kept = refl; within = tt; says = λ ts h f enough. rw (is-not h i ek z) met-bad }
+  class-missing s =
+      let g = missed-kind refl s in
+      record { kept = refl; within = tt; says = λ ts h f enough. rw (is-not h i refl g.0, g.1) met-bad }
 
-  module _ {k₁ : ℕ} {b : Bool} (z : k ≡ k_class) (ek₁ : k₁ ≡ kind_in_table T n (i + 1)) (eb : b ≡ is_name_lem k₁) where
-    pub class-name : b ≡ false → DeclPost a_class n i T (Bad (i + 1)) T
+  module _ {name : ℕ} (s₀ : Expected T n k_class i (Ok name)) where
+    pub class-name : {m : Misfit} → Expected T n k_name name (Err m) → DeclPost a_class n i T (Err m) T
     unfolding class_from
-    class-name t =
-        record { kept = refl; within = tt; says = λ ts h f enough. rw (is h i ek z, passes h is_name_lem (i + 1) ek₁ (sym eb ∙ t)) met-bad }
+    class-name s =
+        let g₀ = found-kind refl s₀ in
+        let g = missed-by s in
+        record {
+          kept = refl;
+          within = tt;
+          says = λ ts h f enough. rw (is h i refl g₀.0, g₀.1, passes h is_name_lem name refl g.0, g.1) met-bad;
+        }
 
-    module _ {r₁ : Answer} (t : b ≡ true) (p : DeclPost a_parent n (i + 2) T r₁ T) where
+    module _ {behind : ℕ} {r₁ : Answer} (s₁ : Expected T n k_name name (Ok behind)) (p : DeclPost a_parent n behind T r₁ T) where
       pub class-parent : {y : ℕ} → r₁ ≡ Bad y → DeclPost a_class n i T (Bad y) T
       unfolding class_from
       class-parent e =
-          let l = name-there T n (i + 1) k₁ ek₁ eb t in
+          let g₀ = found-kind refl s₀ in
+          let g = found-by s₁ in
+          let l = name-there T n name _ refl refl g.0 in
           record {
             kept = refl;
             within = tt;
-            says = λ ts h f enough. rw (is h i ek z, passes h is_name_lem (i + 1) ek₁ (sym eb ∙ t), plus-two i) (bind-bad _ e (p.says ts h f (omega arith)));
+            says = λ ts h f enough. rw (is h i refl g₀.0, g₀.1, passes h is_name_lem name refl g.0, g.1)
+                (bind-bad _ e (p.says ts h f (omega (arith, g₀.1, g.1))));
           }
 
-      pub class-ok : {x j : ℕ} {T₁ : List ℕ} {r : Answer} → r₁ ≡ At x j → MembersPost n (i + 1) x j T r T₁ → DeclPost a_class n i T r T₁
+      pub class-ok : {x j : ℕ} {T₁ : List ℕ} {r : Answer} → r₁ ≡ At x j → MembersPost n name x j T r T₁ → DeclPost a_class n i T r T₁
       unfolding class_from
       class-ok {x} {j} {T₁} {r} e s =
-          let l = name-there T n (i + 1) k₁ ek₁ eb t in
+          let g₀ = found-kind refl s₀ in
+          let g = found-by s₁ in
+          let l = name-there T n name _ refl refl g.0 in
           let w = within-ok e p.within in
           record {
             kept = s.kept;
-            within = within_more (j + 1) (i + 1) n n n r (omega arith) (omega arith) s.within;
-            says = λ ts h f enough. rw (is h i ek z, passes h is_name_lem (i + 1) ek₁ (sym eb ∙ t), plus-two i) (bind_ok _ e (p.says ts h f (omega arith))
-                (λ a ea ta. s.says a ea ts h f (omega arith)));
+            within = within_more (j + 1) (i + 1) n n n r (omega (arith, g₀.1, g.1)) (omega arith) s.within;
+            says = λ ts h f enough. rw (is h i refl g₀.0, g₀.1, passes h is_name_lem name refl g.0, g.1)
+                (bind_ok _ e (p.says ts h f (omega (arith, g₀.1, g.1)))
+                (λ a ea ta. s.says a ea ts h f (omega (arith, g₀.1, g.1))));
           }
 
 is-more-classes : (k : Class) (ks : List Class) (t : List ℕ)
@@ -389,17 +396,23 @@ module _ (f : ℕ) (ts : List Token) where
   abbrev mains : ℕ → Parsed Program
   mains j = bind (parse_as f ts a_statement j) λ s j. expect_all ts main_end j (others s)
 
-module _ {n k : ℕ} {T : List ℕ} (em : k ≡ matched_in T n 0 main_head_lem) where
-  pub program-head : k < main_row → ProgramPost n T (Bad k) T
+module _ {n : ℕ} {T : List ℕ} where
+  pub program-head : {m : Misfit} → ExpectedAll T n main_head_lem 0 (Err m) → ProgramPost n T (Err m) T
   unfolding program_from
-  program-head lt =
+  program-head s =
+      let g = one-missed s in
       record {
         kept = refl;
         within = tt;
-        says = λ ts h f enough. at-result (not-matched h 0 main_head_lem (mains f ts) (omega arith) ∙ ap bad (omega arith)) met-bad;
+        says = λ ts h f enough. at-result (not-matched h 0 main_head_lem (mains f ts) g.0 ∙ ap bad g.1) met-bad;
       }
 
-  module _ {T₁ : List ℕ} {r₁ r₂ r₃ : Answer} (few : n ≤ tokens_most) (l : main_row ≤ k) (p : ModePost a_statement n n main_row T r₁ T₁) (s : Follows T₁ n k_close_brace r₁ r₂)
+  -- main's statement, where the code reads it
+  pub at-start : {j : ℕ} {T₁ : List ℕ} {r : Answer} → ExpectedAll T n main_head_lem 0 (Ok j) → ModePost a_statement n n j T r T₁
+      → ModePost a_statement n n main_row T r T₁
+  at-start {T₁ = T₁} {r} s p = let g = all-found s in subst (λ (j : ℕ). ModePost a_statement n n j T r T₁) (omega (arith, g.1)) p
+
+  module _ {T₁ : List ℕ} {r₁ r₂ r₃ : Answer} {j₀ : ℕ} (few : n ≤ tokens_most) (s₀ : ExpectedAll T n main_head_lem 0 (Ok j₀)) (p : ModePost a_statement n n main_row T r₁ T₁) (s : Follows T₁ n k_close_brace r₁ r₂)
       (s₂ : Follows T₁ n k_close_brace r₂ r₃) where
     main-part : PiecePost (part statement) (λ f ts. and_token ts k_close_brace (and_token ts k_close_brace (parse_as f ts a_statement main_row))) (16 * n) (main_row + 3) n n T r₃ T₁
     main-part = then-token few (then-token few (of-mode (16 * n) (omega arith) p) (omega arith) s) (omega arith) s₂
@@ -407,7 +420,7 @@ module _ {n k : ℕ} {T : List ℕ} (em : k ≡ matched_in T n 0 main_head_lem) 
     main-is : (f : ℕ) (ts : List Token) → TokensIn T n ts
         → program_from f ts ≡ bind (and_token ts k_close_brace (and_token ts k_close_brace (parse_as f ts a_statement main_row))) (others f ts)
     unfolding program_from
-    main-is f ts h = all-matched h 0 main_head_lem (mains f ts) (omega arith) ∙ regroup-two ts k_close_brace k_close_brace (others f ts) (parse_as f ts a_statement main_row)
+    main-is f ts h = all-matched h 0 main_head_lem (mains f ts) (all-found s₀).0 ∙ regroup-two ts k_close_brace k_close_brace (others f ts) (parse_as f ts a_statement main_row)
 
     pub program-bad : {y : ℕ} → r₃ ≡ Bad y → ProgramPost n T (Bad y) T₁
     program-bad e =

@@ -13,57 +13,17 @@ use Rattle.base.specs.promises.Table.{col, put, c_start, c_next}
 use Rattle.base.specs.Codes.{tokens_most}
 use Rattle.lexer.specs.Tokens.{Token}
 use Rattle.lexer.specs.Kinds.{k_close, k_comma}
-use Rattle.parser.specs.declared.answer.Answer.{Answer}
-use Rattle.parser.specs.declared.answer.Answer.TheVariants.{At, Bad}
+use Rattle.parser.specs.promises.Answers.{Answer, At, Bad}
 use Rattle.parser.specs.Tree.{Sort, Sort.arguments, Sort.statements, Part}
 use Rattle.parser.specs.Stream.{kind_at, start_at}
 use Rattle.parser.specs.Parse.{Parsed, ok, bad, out, bind, expect, Mode, statement_list, step, parse_as}
 use Rattle.parser.specs.promises.Layout.{absent, row_of, node, given, store, list_top}
 use Rattle.parser.specs.promises.Post.{kind_in_table, TokensIn, Stored, part, Met, met-ok, met-bad, Within, ModePost, ListPost, fuel}
-use Rattle.parser.specs.promises.Parts.{Follows, present, missing, nothing, RowFits, WholeOf, done, refused, ListOf, OnePart}
-use Rattle.parser.specs.promises.Parts.{TwoParts, PiecePost}
+use Rattle.parser.specs.promises.Parts.{PiecePost}
 use Rattle.parser.specs.promises.DeclarationPost.{Declaration, Of, item_from, declaration_stored, rank_of, low_of, top_of, DeclPost}
 use Rattle.parser.proofs.Laws.{there, tokens-kept, given-put, given-node, is, is-not, at-result, bind_ok, bind-bad, stepped, at_suc}
 use Rattle.parser.proofs.Laws.{within-ok, within_more}
-
--- AS THE CODE HAS THEM
-
--- a token after what was read
-module _ {T : List ℕ} {n q : ℕ} {a : Answer} where
-  pub follows : {x j k : ℕ} → a ≡ At x j → k ≡ kind_in_table T n j → k ≡ q → Follows T n q a (At x (j + 1))
-  follows e ek z = rw e (present (sym ek ∙ z))
-
-  pub follows-not : {x j k : ℕ} → a ≡ At x j → k ≡ kind_in_table T n j → k ≢ q → Follows T n q a (Bad j)
-  follows-not e ek z = rw e (missing (λ w. z (ek ∙ w)))
-
-  pub follows_nothing : {k : ℕ} → a ≡ Bad k → Follows T n q a (Bad k)
-  follows_nothing e = rw e nothing
-
--- a whole of what was read
-module _ (row : ℕ) (write : ℕ → List ℕ) {T : List ℕ} {a : Answer} where
-  pub whole-done : {x j : ℕ} {T₁ : List ℕ} → a ≡ At x j → T₁ ≡ write x → WholeOf row write T a (At row j) T₁
-  whole-done e eT = rw (e, eT) done
-
-  pub whole-refused : {k : ℕ} → a ≡ Bad k → WholeOf row write T a (Bad k) T
-  whole-refused e = rw e refused
-
--- a list, and nodes of one and two parts
-module _ {row : ℕ} {T T₁ : List ℕ} {a : Answer} {x j : ℕ} (e : a ≡ At x j) where
-  pub list_done : T₁ ≡ put T c_next row x → ListOf row T a (At row j) T₁
-  list_done eT = whole-done row (λ x. put T c_next row x) e eT
-
-  pub one-part-done : T₁ ≡ node T row (col T c_start row) x absent → OnePart row T a (At row j) T₁
-  one-part-done eT = whole-done row (λ x. node T row (col T c_start row) x absent) e eT
-
-  pub two-parts-done : (first left : ℕ) → T₁ ≡ node T row (col T c_start first) left x → TwoParts row first left T a (At row j) T₁
-  two-parts-done first left eT = whole-done row (λ x. node T row (col T c_start first) left x) e eT
-
-pub fits-at : {a : Answer} {x j : ℕ} → a ≡ At x j → RowFits a → x ≤ absent
-fits-at e h = subst RowFits e h
-
-pub row_fits : (low n top : ℕ) (r : Answer) → Within low n top r → top ≤ list_top → RowFits r
-row_fits low n top (At x j) w h = omega (arith, w)
-row_fits low n top (Bad k) w h = tt
+use Rattle.parser.proofs.Wholes.{Follows, present, missing, nothing, WholeOf, done, refused, ListOf, OnePart, TwoParts}
 
 -- what was read, with a token of this kind after it, by the definition
 abbrev pub and_token : {A : Type 0} → List Token → (kind : ℕ) → Parsed A → Parsed A
@@ -112,11 +72,6 @@ pub two-follow : {low n top x j : ℕ} {T : List ℕ} {q q' : ℕ} {r r' r'' : A
     → Within low n top r → (suc low < j) × (j ≤ n) × (x < top)
 two-follow {low} {n} {top} e s s₂ pos pos' w =
     let v = follows-ok e s₂ pos' (follows-within low n top s pos w) in (omega (arith, v.0), v.1, v.2)
-
-pub follows-fits : {T : List ℕ} {n q : ℕ} {r r' : Answer} → Follows T n q r r' → RowFits r → RowFits r'
-follows-fits (present e) f = f
-follows-fits (missing e) f = tt
-follows-fits nothing f = f
 
 -- WHAT A PIECE IS PART OF
 
@@ -277,16 +232,6 @@ module _ {n i : ℕ} {T T₁ : List ℕ} {r : Answer} where
     says = λ ts h. stepped statement_list ts i (fuel statement_list n i) (λ f en. at-result (steps f ts h) (p.says ts h f (omega arith)));
   }
 
--- the row of what was read, or none
-pub mode-fits : {s : Sort} {m : Mode s} {n i : ℕ} {T T₁ : List ℕ} {r : Answer} → n ≤ tokens_most → ModePost m n n i T r T₁ → RowFits r
-mode-fits {n = n} {i} {r = r} few p = row_fits (i + 1) n n r p.within (omega arith)
-
-pub arguments-fit : {m : Mode arguments} {n i : ℕ} {T T₁ : List ℕ} {r : Answer} → ModePost m n list_top i T r T₁ → RowFits r
-arguments-fit {n = n} {i} {r = r} p = row_fits (i + 1) n list_top r p.within (omega arith)
-
-pub list-fits : {n i : ℕ} {T T₁ : List ℕ} {r : Answer} → ListPost n i T r T₁ → RowFits r
-list-fits {n} {i} {r = r} p = row_fits i n list_top r p.within (omega arith)
-
 -- declarations as pieces, and pieces as declarations; a list's parser takes one of the fuel
 module _ {d : Declaration} {n i : ℕ} {T T₁ : List ℕ} {r : Answer} where
   pub of-declaration : (enough : ℕ) → 16 * (n - i) + rank_of d ≤ enough → DeclPost d n i T r T₁
@@ -309,9 +254,6 @@ module _ {d : Declaration} {n i : ℕ} {T T₁ : List ℕ} {r : Answer} where
       within = within_more low (low_of d i) n (top_of d n) (top_of d n) r le (omega arith) p.within;
       says = λ ts h. at_suc (λ f. item_from d f ts i) (λ f en. at-result (steps f ts h) (p.says ts h f (omega arith)));
     }
-
-pub declared-fits : {d : Declaration} {n i : ℕ} {T T₁ : List ℕ} {r : Answer} → DeclPost d n i T r T₁ → top_of d n ≤ list_top → RowFits r
-declared-fits {d} {n} {i} {r = r} p h = row_fits (low_of d i) n (top_of d n) r p.within h
 
 -- a piece by another definition of it
 pub as-piece : {A : Type 0} {S : Stored A} {P P' : ℕ → List Token → Parsed A} {enough enough' low low' n top : ℕ} {T T₁ : List ℕ} {r : Answer}

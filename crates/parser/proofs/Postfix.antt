@@ -12,12 +12,11 @@ use Rattle.base.specs.Choice.{option}
 use Rattle.base.specs.promises.Table.{col, put, c_start, c_next}
 use Rattle.base.specs.laws.Tests.{and-true, or-neither}
 use Rattle.base.specs.Codes.{tokens_most}
-use Rattle.lexer.specs.Kinds.{is_name_lem}
+use Rattle.lexer.specs.Kinds.{is_name_lem, k_name}
 use Rattle.lexer.specs.Kinds.{k_close, k_close_bracket, k_comma, k_dot, k_false, k_fixed, k_fixed_literal, k_length, k_literal, k_new, k_open, k_open_bracket, k_port, k_this, k_true}
 use Rattle.lexer.specs.Tokens.{Token, decimal, thousandths_of_lem}
 use Rattle.lexer.proofs.laws.ItemLaws.{kinds-apart}
-use Rattle.parser.specs.declared.answer.Answer.{Answer}
-use Rattle.parser.specs.declared.answer.Answer.TheVariants.{At, Bad}
+use Rattle.parser.specs.promises.Answers.{Answer, At, Bad}
 use Rattle.parser.specs.Tree.{Place, Name, ElementUse, Sort, Sort.arguments, Part, Expression}
 use Rattle.parser.specs.Tree.{Numeral.int_literal, Numeral.fixed_literal}
 use Rattle.parser.specs.Tree.{Part.literal, Part.truth, Part.variable, Part.this, Part.new_array_lem, Part.new_object_lem, Part.element}
@@ -28,7 +27,6 @@ use Rattle.parser.specs.Parse.{some_arguments_lem, get_head, expect_all, step, p
 use Rattle.parser.specs.promises.Layout.{absent, row_of, node, given, store, list_top}
 use Rattle.parser.specs.promises.Post.{kind_in_table, TokensIn, met-ok, met-bad, ModePost, RestPost, more_suffixes, level_at, is_atom_lem}
 use Rattle.parser.specs.promises.Post.{begins_element_lem, starts_array_lem, matched_in, fuel}
-use Rattle.parser.specs.promises.Parts.{Follows, ListOf, OnePart}
 use Rattle.parser.proofs.Pieces.{and_token, regroup, member, then-token, then-bad, then-on, then-node, last-member, no_member, more-members}
 use Rattle.parser.proofs.Pieces.{of-mode, as-mode}
 use Rattle.parser.proofs.Laws.{plus-two, plus-three, plus-four, there, there-by, tokens-kept, given-node, kind-of, is, is-not}
@@ -36,6 +34,10 @@ use Rattle.parser.proofs.Laws.{passes, at-result, bind_ok, bind-bad, stepped, wi
 use Rattle.parser.proofs.Expressions.{made}
 use Rattle.parser.proofs.Heads.{head-there, head-bad, head_passed}
 use Rattle.parser.proofs.Types.{ElementRead, element-read, array_told, makes-array}
+use Rattle.std.specs.Prelude.{Ok, Err}
+use Rattle.parser.specs.declared.answer.Misfit.{Misfit}
+use Rattle.parser.specs.promises.Parts.{Expected, ExpectedAll}
+use Rattle.parser.proofs.Wholes.{Follows, ListOf, OnePart, found-by, missed-by, found-kind, missed-kind}
 
 or-true : (a : Bool) → (a || true) ≡ true
 or-true true = refl
@@ -78,46 +80,50 @@ module _ (T : List ℕ) (n i : ℕ) (pre : starts_array_lem T n i ≡ true) wher
       option (element_type_lem ts (i + 1)) (bad (i + 1)) λ t.
       parse_as f ts (suffixes false i (new_array_lem (place_at ts i i) (element_at ts (i + 1) t) a)) j
 
-  array_steps : {k : ℕ} → k ≡ kind_in_table T n (i + 2) → k ≡ k_open_bracket → (f : ℕ) (ts : List Token) → TokensIn T n ts
-      → step ts (λ s m j. parse_as f ts m j) postfix i ≡ bind (and_token ts k_close_bracket (parse_as f ts an_expression (i + 3))) (sized f ts)
+  module _ {start : ℕ} (s₀ : Expected T n k_open_bracket (i + 2) (Ok start)) where
+    array_steps : (f : ℕ) (ts : List Token) → TokensIn T n ts
+        → step ts (λ s m j. parse_as f ts m j) postfix i ≡ bind (and_token ts k_close_bracket (parse_as f ts an_expression start)) (sized f ts)
+    unfolding step
+    array_steps f ts h =
+        let g = found-kind refl s₀ in
+        let opened : step ts (λ s m j. parse_as f ts m j) postfix i ≡ bind (parse_as f ts an_expression start) (λ a j. expect ts k_close_bracket j λ j. sized f ts a j) =
+        rw (an-array h, (element-after h).read, is h (i + 2) refl g.0, g.1) refl in
+        opened ∙ regroup ts k_close_bracket (sized f ts) (parse_as f ts an_expression start)
+
+    module _ {T₁ : List ℕ} {r₁ r₂ : Answer} (few : n ≤ tokens_most) (p : ModePost (operation (level_at 0)) n n start T r₁ T₁) (s : Follows T₁ n k_close_bracket r₁ r₂) where
+      pub array-bad : {y : ℕ} → r₂ ≡ Bad y → ModePost postfix n n i T (Bad y) T₁
+      unfolding level_at
+      array-bad e =
+          let g = found-kind refl s₀ in
+          let il = there T n (i + 2) _ k_open_bracket refl g.0 (omega arith) in
+          as-mode (omega arith) (omega (arith, g.1)) array_steps
+          (then-bad few (then-token few (of-mode (16 * (n - i)) (omega (arith, g.1)) p) (omega arith) s) (i + 1) n sized e)
+
+      pub array_ok : {x j : ℕ} {T₂ T₃ : List ℕ} {r : Answer} → r₂ ≡ At x j → T₂ ≡ node T₁ i (col T₁ c_start i) x absent
+          → RestPost (more_suffixes false i) n i j T₂ r T₃ → ModePost postfix n n i T r T₃
+      unfolding level_at
+      array_ok {x} {j} {T₂} {r = r} e eT q =
+          let g = found-kind refl s₀ in
+          let il = there T n (i + 2) _ k_open_bracket refl g.0 (omega arith) in
+          let o = then-token few (of-mode (16 * (n - i)) (omega (arith, g.1)) p) (omega arith) s in
+          let w = within-ok e o.within in
+          let same : given T₂ ≡ given T₁ = ap given eT ∙ given-node T₁ i (col T₁ c_start i) x absent in
+          as-mode (omega arith) (omega arith) array_steps
+          (then-on few o sized e (q.kept ∙ same) (within_more j (i + 1) n n n r (omega (arith, g.1)) (omega arith) q.within)
+          (λ ts h f en a ea ta.
+          let u = element_at ts (i + 1) (element-after (tokens-kept few (sym p.kept) h)).element in
+          rw (element-after (tokens-kept few (sym p.kept) h)).read
+          (q.says (new_array_lem (place_at ts i i) u a) T refl
+          (made T₂ i i x absent h (omega arith) eT ∙ cc (is-new-array (place_at ts i i) u a T)) ts (tokens-kept few same h) f (omega (arith, g.1)))))
+
+  pub array-open : {m : Misfit} → Expected T n k_open_bracket (i + 2) (Err m) → ModePost postfix n n i T (Err m) T
   unfolding step
-  array_steps ek z f ts h =
-      let opened : step ts (λ s m j. parse_as f ts m j) postfix i ≡ bind (parse_as f ts an_expression (i + 3)) (λ a j. expect ts k_close_bracket j λ j. sized f ts a j) =
-      rw (an-array h, (element-after h).read, is h (i + 2) ek z, plus-three i) refl in
-      opened ∙ regroup ts k_close_bracket (sized f ts) (parse_as f ts an_expression (i + 3))
-
-  module _ {k : ℕ} {T₁ : List ℕ} {r₁ r₂ : Answer} (few : n ≤ tokens_most) (ek : k ≡ kind_in_table T n (i + 2)) (z : k ≡ k_open_bracket)
-      (p : ModePost (operation (level_at 0)) n n (i + 3) T r₁ T₁) (s : Follows T₁ n k_close_bracket r₁ r₂) where
-    pub array-bad : {y : ℕ} → r₂ ≡ Bad y → ModePost postfix n n i T (Bad y) T₁
-    unfolding level_at
-    array-bad e =
-        let il = there T n (i + 2) k k_open_bracket ek z (omega arith) in
-        as-mode (omega arith) (omega arith) (array_steps ek z)
-        (then-bad few (then-token few (of-mode (16 * (n - i)) (omega arith) p) (omega arith) s) (i + 1) n sized e)
-
-    pub array_ok : {x j : ℕ} {T₂ T₃ : List ℕ} {r : Answer} → r₂ ≡ At x j → T₂ ≡ node T₁ i (col T₁ c_start i) x absent
-        → RestPost (more_suffixes false i) n i j T₂ r T₃ → ModePost postfix n n i T r T₃
-    unfolding level_at
-    array_ok {x} {j} {T₂} {r = r} e eT q =
-        let il = there T n (i + 2) k k_open_bracket ek z (omega arith) in
-        let o = then-token few (of-mode (16 * (n - i)) (omega arith) p) (omega arith) s in
-        let w = within-ok e o.within in
-        let same : given T₂ ≡ given T₁ = ap given eT ∙ given-node T₁ i (col T₁ c_start i) x absent in
-        as-mode (omega arith) (omega arith) (array_steps ek z)
-        (then-on few o sized e (q.kept ∙ same) (within_more j (i + 1) n n n r (omega arith) (omega arith) q.within)
-        (λ ts h f en a ea ta.
-        let u = element_at ts (i + 1) (element-after (tokens-kept few (sym p.kept) h)).element in
-        rw (element-after (tokens-kept few (sym p.kept) h)).read
-        (q.says (new_array_lem (place_at ts i i) u a) T refl
-        (made T₂ i i x absent h (omega arith) eT ∙ cc (is-new-array (place_at ts i i) u a T)) ts (tokens-kept few same h) f (omega arith))))
-
-  pub array-open : {k : ℕ} → k ≡ kind_in_table T n (i + 2) → k ≢ k_open_bracket → ModePost postfix n n i T (Bad (i + 2)) T
-  unfolding step
-  array-open ek q =
+  array-open s =
+      let g = missed-kind refl s in
       record {
         kept = refl;
         within = tt;
-        says = λ ts h. stepped postfix ts i (fuel postfix n i) (λ f enough. rw (an-array h, (element-after h).read, is-not h (i + 2) ek q) met-bad);
+        says = λ ts h. stepped postfix ts i (fuel postfix n i) (λ f enough. rw (an-array h, (element-after h).read, is-not h (i + 2) refl g.0, g.1) met-bad);
       }
 
 -- SUFFIXES
@@ -211,60 +217,64 @@ module _ {n first left i : ℕ} {T : List ℕ} where
 
   -- `.m(e, ..)`
   module _ {b : Bool} (z : kind_in_table T n i ≡ k_dot) (z₁ : kind_in_table T n (i + 1) ≡ k_length → ⊥) where
-    pub call_ok : {k k₂ x j : ℕ} {c : Bool} {T₁ T₂ T₃ : List ℕ} {r₁ r : Answer} → n ≤ tokens_most → first < n → k ≡ kind_in_table T n (i + 1)
-        → c ≡ is_name_lem k → c ≡ true
-        → k₂ ≡ kind_in_table T n (i + 2) → k₂ ≡ k_open → ModePost argument_list n list_top (i + 3) T r₁ T₁ → r₁ ≡ At x j
-        → T₂ ≡ node T₁ i (col T₁ c_start first) left x
-        → RestPost (more_suffixes true first) n i j T₂ r T₃ → RestPost (more_suffixes b first) n left i T r T₃
+    pub call-name : {m : Misfit} → Expected T n k_name (i + 1) (Err m) → RestPost (more_suffixes b first) n left i T (Err m) T
     unfolding step
-    call_ok {k} {k₂} {x} {j} {c} {T₁} {T₂} {T₃} {r₁} {r} few lt ek ec t ek₂ z₂ p e eT q =
-        let il = there T n (i + 2) k₂ k_open ek₂ z₂ (omega arith) in
-        let w = within-ok e p.within in
-        let same : given T₂ ≡ given T = ap given eT ∙ given-node T₁ i (col T₁ c_start first) left x ∙ p.kept in
-        record {
-          kept = q.kept ∙ same;
-          within = within_more j i n n n r (omega arith) (omega arith) q.within;
-          says = λ l base el et ts h. stepped (suffixes b first l) ts i (16 * (n - i)) (λ f enough.
-              rw (is h i refl z, is-not h (i + 1) refl z₁, passes h is_name_lem (i + 1) ek (sym ec ∙ t), plus-two i, is h (i + 2) ek₂ z₂, plus-three i)
-              (bind_ok _ e (p.says ts h f (omega arith)) (λ a ea ta. q.says (call (place_at ts first i) l (name_at ts (i + 1)) a) base refl
-              (made T₂ i first left x (tokens-kept few p.kept h) lt eT ∙ cc (is_call (place_at ts first i) l (name_at ts (i + 1)) a base))
-              ts (tokens-kept few same h) f (omega arith))));
-        }
-
-    pub call-bad : {k k₂ y : ℕ} {c : Bool} {T₁ : List ℕ} {r₁ : Answer} → k ≡ kind_in_table T n (i + 1) → c ≡ is_name_lem k → c ≡ true
-        → k₂ ≡ kind_in_table T n (i + 2) → k₂ ≡ k_open → ModePost argument_list n list_top (i + 3) T r₁ T₁ → r₁ ≡ Bad y
-        → RestPost (more_suffixes b first) n left i T (Bad y) T₁
-    unfolding step
-    call-bad {k} {k₂} {y} {c} {T₁} {r₁} ek ec t ek₂ z₂ p e =
-        let il = there T n (i + 2) k₂ k_open ek₂ z₂ (omega arith) in
-        record {
-          kept = p.kept;
-          within = tt;
-          says = λ l base el et ts h. stepped (suffixes b first l) ts i (16 * (n - i)) (λ f enough.
-              rw (is h i refl z, is-not h (i + 1) refl z₁, passes h is_name_lem (i + 1) ek (sym ec ∙ t), plus-two i, is h (i + 2) ek₂ z₂, plus-three i) (bind-bad _ e (p.says ts h f (omega arith))));
-        }
-
-    pub call-open : {k k₂ : ℕ} {c : Bool} → k ≡ kind_in_table T n (i + 1) → c ≡ is_name_lem k → c ≡ true → k₂ ≡ kind_in_table T n (i + 2) → k₂ ≢ k_open
-        → RestPost (more_suffixes b first) n left i T (Bad (i + 2)) T
-    unfolding step
-    call-open {k} {k₂} {c} ek ec t ek₂ z₂ =
+    call-name s =
+        let g = missed-by s in
         record {
           kept = refl;
           within = tt;
           says = λ l base el et ts h. stepped (suffixes b first l) ts i (16 * (n - i)) (λ f enough.
-              rw (is h i refl z, is-not h (i + 1) refl z₁, passes h is_name_lem (i + 1) ek (sym ec ∙ t), plus-two i, is-not h (i + 2) ek₂ z₂) met-bad);
+              rw (is h i refl z, is-not h (i + 1) refl z₁, passes h is_name_lem (i + 1) refl g.0, g.1) met-bad);
         }
 
-    pub call-name : {k : ℕ} {c : Bool} → k ≡ kind_in_table T n (i + 1) → c ≡ is_name_lem k → c ≡ false
-        → RestPost (more_suffixes b first) n left i T (Bad (i + 1)) T
-    unfolding step
-    call-name {k} {c} ek ec t =
-        record {
-          kept = refl;
-          within = tt;
-          says = λ l base el et ts h. stepped (suffixes b first l) ts i (16 * (n - i)) (λ f enough.
-              rw (is h i refl z, is-not h (i + 1) refl z₁, passes h is_name_lem (i + 1) ek (sym ec ∙ t)) met-bad);
-        }
+    module _ {paren : ℕ} (s₁ : Expected T n k_name (i + 1) (Ok paren)) where
+      pub call-open : {m : Misfit} → Expected T n k_open paren (Err m) → RestPost (more_suffixes b first) n left i T (Err m) T
+      unfolding step
+      call-open s =
+          let g₁ = found-by s₁ in
+          let g = missed-kind refl s in
+          record {
+            kept = refl;
+            within = tt;
+            says = λ l base el et ts h. stepped (suffixes b first l) ts i (16 * (n - i)) (λ f enough.
+                rw (is h i refl z, is-not h (i + 1) refl z₁, passes h is_name_lem (i + 1) refl g₁.0, g₁.1, is-not h paren refl g.0, g.1) met-bad);
+          }
+
+      module _ {start : ℕ} {T₁ : List ℕ} {r₁ : Answer} (s₂ : Expected T n k_open paren (Ok start)) (p : ModePost argument_list n list_top start T r₁ T₁) where
+        pub call-bad : {y : ℕ} → r₁ ≡ Bad y → RestPost (more_suffixes b first) n left i T (Bad y) T₁
+        unfolding step
+        call-bad e =
+            let g₁ = found-by s₁ in
+            let g₂ = found-kind refl s₂ in
+            let il = there T n paren _ k_open refl g₂.0 (omega arith) in
+            record {
+              kept = p.kept;
+              within = tt;
+              says = λ l base el et ts h. stepped (suffixes b first l) ts i (16 * (n - i)) (λ f enough.
+                  rw (is h i refl z, is-not h (i + 1) refl z₁, passes h is_name_lem (i + 1) refl g₁.0, g₁.1, is h paren refl g₂.0, g₂.1)
+                  (bind-bad _ e (p.says ts h f (omega (arith, g₁.1, g₂.1)))));
+            }
+
+        pub call_ok : {x j : ℕ} {T₂ T₃ : List ℕ} {r : Answer} → n ≤ tokens_most → first < n → r₁ ≡ At x j
+            → T₂ ≡ node T₁ i (col T₁ c_start first) left x
+            → RestPost (more_suffixes true first) n i j T₂ r T₃ → RestPost (more_suffixes b first) n left i T r T₃
+        unfolding step
+        call_ok {x} {j} {T₂} {T₃} {r} few lt e eT q =
+            let g₁ = found-by s₁ in
+            let g₂ = found-kind refl s₂ in
+            let il = there T n paren _ k_open refl g₂.0 (omega arith) in
+            let w = within-ok e p.within in
+            let same : given T₂ ≡ given T = ap given eT ∙ given-node T₁ i (col T₁ c_start first) left x ∙ p.kept in
+            record {
+              kept = q.kept ∙ same;
+              within = within_more j i n n n r (omega (arith, g₁.1, g₂.1)) (omega arith) q.within;
+              says = λ l base el et ts h. stepped (suffixes b first l) ts i (16 * (n - i)) (λ f enough.
+                  rw (is h i refl z, is-not h (i + 1) refl z₁, passes h is_name_lem (i + 1) refl g₁.0, g₁.1, is h paren refl g₂.0, g₂.1)
+                  (bind_ok _ e (p.says ts h f (omega (arith, g₁.1, g₂.1))) (λ a ea ta. q.says (call (place_at ts first i) l (name_at ts (i + 1)) a) base refl
+                  (made T₂ i first left x (tokens-kept few p.kept h) lt eT ∙ cc (is_call (place_at ts first i) l (name_at ts (i + 1)) a base))
+                  ts (tokens-kept few same h) f (omega (arith, g₁.1, g₂.1)))));
+            }
 
 -- PRIMARIES
 
@@ -364,90 +374,97 @@ module _ {n i : ℕ} {T : List ℕ} where
       }
 
   -- `new C()`
-  module _ (z : kind_in_table T n i ≡ k_new) {k₁ : ℕ} {c : Bool} (ek : k₁ ≡ kind_in_table T n (i + 1)) (ec : c ≡ is_name_lem k₁) where
-    pub object-ok : {k₂ k₃ : ℕ} {T₁ : List ℕ} → c ≡ true → k₂ ≡ kind_in_table T n (i + 2) → k₂ ≡ k_open → k₃ ≡ kind_in_table T n (i + 3) → k₃ ≡ k_close
-        → T₁ ≡ node T i (col T c_start i) absent absent → ModePost primary n n i T (At i (i + 4)) T₁
+  module _ (z : kind_in_table T n i ≡ k_new) where
+    pub object-name : {m : Misfit} → Expected T n k_name (i + 1) (Err m) → ModePost primary n n i T (Err m) T
     unfolding step is_name_lem
-    object-ok {k₂} {k₃} {T₁} t ek₂ z₂ ek₃ z₃ eT =
-        let il = there T n (i + 3) k₃ k_close ek₃ z₃ (omega arith) in
-        record {
-          kept = ap given eT ∙ given-node T i (col T c_start i) absent absent;
-          within = (omega arith, omega arith, omega arith);
-          says = λ ts h. stepped primary ts i (fuel primary n i) (λ f enough.
-              rw (is h i refl z, passes h is_name_lem (i + 1) ek (sym ec ∙ t), plus-two i, is h (i + 2) ek₂ z₂, plus-three i, is h (i + 3) ek₃ z₃, plus-four i)
-              (met-ok refl (made T₁ i i absent absent h (omega arith) eT ∙ sym (is-new-object (place_at ts i i) (name_at ts (i + 1)) T))));
-        }
-
-    pub object-close : {k₂ k₃ : ℕ} → c ≡ true → k₂ ≡ kind_in_table T n (i + 2) → k₂ ≡ k_open → k₃ ≡ kind_in_table T n (i + 3) → k₃ ≢ k_close
-        → ModePost primary n n i T (Bad (i + 3)) T
-    unfolding step is_name_lem
-    object-close t ek₂ z₂ ek₃ z₃ =
+    object-name s =
+        let g = missed-by s in
         record {
           kept = refl;
           within = tt;
-          says = λ ts h. stepped primary ts i (fuel primary n i) (λ f enough.
-              rw (is h i refl z, passes h is_name_lem (i + 1) ek (sym ec ∙ t), plus-two i, is h (i + 2) ek₂ z₂, plus-three i, is-not h (i + 3) ek₃ z₃) met-bad);
+          says = λ ts h. stepped primary ts i (fuel primary n i) (λ f enough. rw (is h i refl z, passes h is_name_lem (i + 1) refl g.0, g.1) met-bad);
         }
 
-    pub object-open : {k₂ : ℕ} → c ≡ true → k₂ ≡ kind_in_table T n (i + 2) → k₂ ≢ k_open → ModePost primary n n i T (Bad (i + 2)) T
-    unfolding step is_name_lem
-    object-open t ek₂ z₂ =
-        record {
-          kept = refl;
-          within = tt;
-          says = λ ts h. stepped primary ts i (fuel primary n i) (λ f enough.
-              rw (is h i refl z, passes h is_name_lem (i + 1) ek (sym ec ∙ t), plus-two i, is-not h (i + 2) ek₂ z₂) met-bad);
-        }
+    module _ {paren : ℕ} (s₁ : Expected T n k_name (i + 1) (Ok paren)) where
+      pub object-open : {m : Misfit} → Expected T n k_open paren (Err m) → ModePost primary n n i T (Err m) T
+      unfolding step is_name_lem
+      object-open s =
+          let g₁ = found-by s₁ in
+          let g = missed-kind refl s in
+          record {
+            kept = refl;
+            within = tt;
+            says = λ ts h. stepped primary ts i (fuel primary n i) (λ f enough.
+                rw (is h i refl z, passes h is_name_lem (i + 1) refl g₁.0, g₁.1, is-not h paren refl g.0, g.1) met-bad);
+          }
 
-    pub object-name : c ≡ false → ModePost primary n n i T (Bad (i + 1)) T
-    unfolding step is_name_lem
-    object-name t =
-        record {
-          kept = refl;
-          within = tt;
-          says = λ ts h. stepped primary ts i (fuel primary n i) (λ f enough. rw (is h i refl z, passes h is_name_lem (i + 1) ek (sym ec ∙ t)) met-bad);
-        }
+      module _ {close : ℕ} (s₂ : Expected T n k_open paren (Ok close)) where
+        pub object-close : {m : Misfit} → Expected T n k_close close (Err m) → ModePost primary n n i T (Err m) T
+        unfolding step is_name_lem
+        object-close s =
+            let g₁ = found-by s₁ in
+            let g₂ = found-kind refl s₂ in
+            let g = missed-kind refl s in
+            record {
+              kept = refl;
+              within = tt;
+              says = λ ts h. stepped primary ts i (fuel primary n i) (λ f enough.
+                  rw (is h i refl z, passes h is_name_lem (i + 1) refl g₁.0, g₁.1, is h paren refl g₂.0, g₂.1, is-not h close refl g.0, g.1) met-bad);
+            }
+
+        pub object-ok : {next : ℕ} {T₁ : List ℕ} → Expected T n k_close close (Ok next) → T₁ ≡ node T i (col T c_start i) absent absent
+            → ModePost primary n n i T (At i next) T₁
+        unfolding step is_name_lem
+        object-ok {next} {T₁} s₃ eT =
+            let g₁ = found-by s₁ in
+            let g₂ = found-kind refl s₂ in
+            let g₃ = found-kind refl s₃ in
+            let il = there T n close _ k_close refl g₃.0 (omega arith) in
+            record {
+              kept = ap given eT ∙ given-node T i (col T c_start i) absent absent;
+              within = omega (arith, g₁.1, g₂.1, g₃.1);
+              says = λ ts h. stepped primary ts i (fuel primary n i) (λ f enough.
+                  rw (is h i refl z, passes h is_name_lem (i + 1) refl g₁.0, g₁.1, is h paren refl g₂.0, g₂.1, is h close refl g₃.0, g₃.1)
+                  (met-ok refl (made T₁ i i absent absent h (omega (arith, g₁.1, g₂.1)) eT ∙ sym (is-new-object (place_at ts i i) (name_at ts (i + 1)) T))));
+            }
 
   -- `(e)`
   module _ (z : kind_in_table T n i ≡ k_open) where
-    pub parentheses-ok : {x j k : ℕ} {T₁ : List ℕ} {r₁ : Answer} → n ≤ tokens_most → ModePost (operation (level_at 0)) n n (i + 1) T r₁ T₁
-        → r₁ ≡ At x j
-        → k ≡ kind_in_table T₁ n j → k ≡ k_close → ModePost primary n n i T (At x (j + 1)) T₁
+    pub parentheses-bad : {k : ℕ} {T₁ : List ℕ} → ModePost (operation (level_at 0)) n n (i + 1) T (Bad k) T₁ → ModePost primary n n i T (Bad k) T₁
     unfolding step level_at is_name_lem
-    parentheses-ok {x} {j} {k} {T₁} {r₁} few p e ek z' =
-        let il = there T n i _ k_open refl z (omega arith) in
-        let jl = there T₁ n j k k_close ek z' (omega arith) in
-        let w = within-ok e p.within in
-        record {
-          kept = p.kept;
-          within = (omega arith, omega arith, w.2);
-          says = λ ts h. stepped primary ts i (fuel primary n i) (λ f enough. rw (is h i refl z)
-              (bind_ok _ e (p.says ts h f (omega arith)) (λ a ea ta. rw (is (tokens-kept few p.kept h) j ek z') (met-ok ea ta))));
-        }
-
-    pub parentheses-close : {x j k : ℕ} {T₁ : List ℕ} {r₁ : Answer} → n ≤ tokens_most → ModePost (operation (level_at 0)) n n (i + 1) T r₁ T₁
-        → r₁ ≡ At x j
-        → k ≡ kind_in_table T₁ n j → k ≢ k_close → ModePost primary n n i T (Bad j) T₁
-    unfolding step level_at is_name_lem
-    parentheses-close {x} {j} {k} {T₁} {r₁} few p e ek z' =
+    parentheses-bad p =
         let il = there T n i _ k_open refl z (omega arith) in
         record {
           kept = p.kept;
           within = tt;
-          says = λ ts h. stepped primary ts i (fuel primary n i) (λ f enough. rw (is h i refl z)
-              (bind_ok _ e (p.says ts h f (omega arith)) (λ a ea ta. rw (is-not (tokens-kept few p.kept h) j ek z') met-bad)));
+          says = λ ts h. stepped primary ts i (fuel primary n i) (λ f enough. rw (is h i refl z) (bind-bad _ refl (p.says ts h f (omega arith))));
         }
 
-    pub parentheses-bad : {k : ℕ} {T₁ : List ℕ} {r₁ : Answer} → ModePost (operation (level_at 0)) n n (i + 1) T r₁ T₁ → r₁ ≡ Bad k
-        → ModePost primary n n i T (Bad k) T₁
-    unfolding step level_at is_name_lem
-    parentheses-bad p e =
-        let il = there T n i _ k_open refl z (omega arith) in
-        record {
-          kept = p.kept;
-          within = tt;
-          says = λ ts h. stepped primary ts i (fuel primary n i) (λ f enough. rw (is h i refl z) (bind-bad _ e (p.says ts h f (omega arith))));
-        }
+    module _ {x j : ℕ} {T₁ : List ℕ} (few : n ≤ tokens_most) (p : ModePost (operation (level_at 0)) n n (i + 1) T (At x j) T₁) where
+      pub parentheses-close : {m : Misfit} → Expected T₁ n k_close j (Err m) → ModePost primary n n i T (Err m) T₁
+      unfolding step level_at is_name_lem
+      parentheses-close s =
+          let g = missed-kind refl s in
+          let il = there T n i _ k_open refl z (omega arith) in
+          record {
+            kept = p.kept;
+            within = tt;
+            says = λ ts h. stepped primary ts i (fuel primary n i) (λ f enough. rw (is h i refl z)
+                (bind_ok _ refl (p.says ts h f (omega arith)) (λ a ea ta. rw (is-not (tokens-kept few p.kept h) j refl g.0, g.1) met-bad)));
+          }
+
+      pub parentheses-ok : {next : ℕ} → Expected T₁ n k_close j (Ok next) → ModePost primary n n i T (At x next) T₁
+      unfolding step level_at is_name_lem
+      parentheses-ok s =
+          let g = found-kind refl s in
+          let il = there T n i _ k_open refl z (omega arith) in
+          let jl = there T₁ n j _ k_close refl g.0 (omega arith) in
+          record {
+            kept = p.kept;
+            within = (omega (arith, g.1, p.within), omega (arith, g.1), p.within.2);
+            says = λ ts h. stepped primary ts i (fuel primary n i) (λ f enough. rw (is h i refl z)
+                (bind_ok _ refl (p.says ts h f (omega arith)) (λ a ea ta. rw (is (tokens-kept few p.kept h) j refl g.0, g.1) (met-ok ea ta))));
+          }
 
 -- `Port.get(e)`
 module _ (i f : ℕ) (ts : List Token) where
@@ -462,20 +479,21 @@ module _ (i f : ℕ) (ts : List Token) where
   unfolding step is_name_lem
   is-getting e = rw e refl
 
-module _ {n i m : ℕ} {T : List ℕ} (z : kind_in_table T n i ≡ k_port) (em : m ≡ matched_in T n (i + 1) get_head) where
-  pub get-head : m < 3 → ModePost primary n n i T (Bad (i + 1 + m)) T
-  get-head lt = head-bad primary get_head z em (getting i) (is-getting i) lt
+module _ {n i : ℕ} {T : List ℕ} (z : kind_in_table T n i ≡ k_port) where
+  pub get-head : {m : Misfit} → ExpectedAll T n get_head (i + 1) (Err m) → ModePost primary n n i T (Err m) T
+  get-head s = head-bad primary get_head z (getting i) (is-getting i) s
 
-  pub get-ok : {T₁ T₂ : List ℕ} {r₁ r₂ r : Answer} → n ≤ tokens_most → 3 ≤ m → ModePost (operation (level_at 0)) n n (i + 4) T r₁ T₁
+  pub get-ok : {start : ℕ} {T₁ T₂ : List ℕ} {r₁ r₂ r : Answer} → n ≤ tokens_most → ExpectedAll T n get_head (i + 1) (Ok start)
+      → ModePost (operation (level_at 0)) n n start T r₁ T₁
       → Follows T₁ n k_close r₁ r₂ → OnePart i T₁ r₂ r T₂ → ModePost primary n n i T r T₂
   unfolding level_at store
-  get-ok few l p s w =
-      let le = head-there T n i k_port m get_head (omega arith) (omega arith) z em in
-      as-mode (omega arith) (omega arith)
-      (λ f ts h. head_passed primary get_head z em (getting i) (is-getting i) l f ts h
-      ∙ ap (getting i f ts) (omega arith) ∙ regroup ts k_close (got i f ts) (parse_as f ts an_expression (i + 4)))
-      (then-node (λ ts a. port_get_lem (place_at ts i i) a) (λ ts a t. (refl, refl)) few (omega arith)
-      (then-token few (of-mode (16 * (n - (i + 1)) + 15) (omega arith) p) (omega arith) s) w)
+  get-ok {start} few s₀ p s w =
+      let le = head-there {i = i} get_head (omega arith) (omega arith) z s₀ in
+      as-mode (omega arith) (omega (arith, le))
+      (λ f ts h. head_passed primary get_head z (getting i) (is-getting i) s₀ f ts h
+      ∙ regroup ts k_close (got i f ts) (parse_as f ts an_expression start))
+      (then-node (λ ts a. port_get_lem (place_at ts i i) a) (λ ts a t. (refl, refl)) few (omega (arith, le))
+      (then-token few (of-mode (16 * (n - (i + 1)) + 15) (omega (arith, le)) p) (omega arith) s) w)
 
 -- ARGUMENTS
 is-argument : (e : Expression) (es : Part arguments) (t : List ℕ)
@@ -526,17 +544,22 @@ module _ {n i : ℕ} {T T₁ : List ℕ} {r₁ : Answer} (few : n ≤ tokens_mos
         as-mode (omega arith) (omega arith) (λ f ts h. some-arguments i f ts)
         (last-member few (of-mode (16 * (n - i) + 6) (omega arith) p) argument no_arguments is-argument is-no-argument (rest i) (omega arith) e ek z eT)
 
-    pub argument-other : k ≢ k_close → k ≢ k_comma → ModePost some_arguments_lem n list_top i T (Bad j) T₁
+    pub argument-other : {m : Misfit} → k ≢ k_close → Expected T₁ n k_comma j (Err m) → ModePost some_arguments_lem n list_top i T (Err m) T₁
     unfolding level_at
-    argument-other z z' =
-        as-mode (omega arith) (omega arith) (λ f ts h. some-arguments i f ts)
-        (no_member few (of-mode (16 * (n - i) + 6) (omega arith) p) argument no_arguments is-argument is-no-argument (rest i) (omega arith) e ek z z')
+    argument-other z s =
+        let g = missed-kind refl s in
+        subst (λ (y : ℕ). ModePost some_arguments_lem n list_top i T (Bad y) T₁) g.1
+        (as-mode (omega arith) (omega arith) (λ f ts h. some-arguments i f ts)
+        (no_member few (of-mode (16 * (n - i) + 6) (omega arith) p) argument no_arguments is-argument is-no-argument (rest i) (omega arith) e ek z
+        (λ w. g.0 (sym ek ∙ w))))
 
-    pub arguments-more : {T₂ T₃ : List ℕ} {r₂ r : Answer} → k ≡ k_comma → ModePost some_arguments_lem n list_top (j + 1) T₁ r₂ T₂ → ListOf x T₂ r₂ r T₃
+    pub arguments-more : {m : ℕ} {T₂ T₃ : List ℕ} {r₂ r : Answer} → Expected T₁ n k_comma j (Ok m) → ModePost some_arguments_lem n list_top m T₁ r₂ T₂
+        → ListOf x T₂ r₂ r T₃
         → ModePost some_arguments_lem n list_top i T r T₃
     unfolding level_at
-    arguments-more z q l =
+    arguments-more {T₂ = T₂} {r₂ = r₂} s q l =
+        let g = found-kind refl s in
         let w = within-ok e p.within in
         as-mode (omega arith) (omega arith) (λ f ts h. some-arguments i f ts)
-        (more-members few (of-mode (16 * (n - i) + 6) (omega arith) p) argument no_arguments is-argument is-no-argument (rest i) (omega arith) e ek z (omega arith)
-        (of-mode (16 * (n - i) + 6) (omega arith) q) l)
+        (more-members few (of-mode (16 * (n - i) + 6) (omega arith) p) argument no_arguments is-argument is-no-argument (rest i) (omega arith) e ek (ek ∙ g.0) (omega arith)
+        (of-mode (16 * (n - i) + 6) (omega arith) (subst (λ (m : ℕ). ModePost some_arguments_lem n list_top m T₁ r₂ T₂) (sym g.1) q)) l)

@@ -12,8 +12,7 @@ use Rattle.base.specs.Codes.{tokens_most}
 use Rattle.lexer.specs.Kinds.{is_name_lem, k_assign, k_close, k_comma, k_if, k_open, k_open_brace, k_open_bracket, k_port, k_semicolon, k_system, k_while, k_else, k_close_bracket, k_close_brace}
 use Rattle.lexer.specs.Tokens.{Token}
 use Rattle.lexer.proofs.laws.ItemLaws.{kinds-apart}
-use Rattle.parser.specs.declared.answer.Answer.{Answer}
-use Rattle.parser.specs.declared.answer.Answer.TheVariants.{At, Bad}
+use Rattle.parser.specs.promises.Answers.{Answer, At, Bad}
 use Rattle.parser.specs.Tree.{Place, Sort, Sort.expression, Sort.statement, Part, Expression, Statement}
 use Rattle.parser.specs.Tree.{Part.block, Part.conditional, Part.loop, Part.print, Part.assign, Part.assign_element_lem, Part.port_put_lem}
 use Rattle.parser.specs.Tree.{Part.sequence}
@@ -22,15 +21,20 @@ use Rattle.parser.specs.Parse.{Parsed, ok, bad, bind, expect, Mode, operation, a
 use Rattle.parser.specs.Parse.{begins_statement_lem, print_head, call_end, put_head, expect_all, assign_from, assign_element_from, branches_from}
 use Rattle.parser.specs.Parse.{repeated_from, step, parse_as}
 use Rattle.parser.specs.promises.Layout.{row_of, node, given, store, absent, list_top}
-use Rattle.parser.specs.promises.Post.{kind_in_table, TokensIn, part, met-ok, met-bad, ModePost, ListPost, BranchesPost, level_at}
+use Rattle.parser.specs.promises.Post.{kind_in_table, TokensIn, part, met-ok, met-bad, ModePost, ListPost, level_at}
 use Rattle.parser.specs.promises.Post.{matched_in, fuel}
-use Rattle.parser.specs.promises.Parts.{Follows, ListOf, OnePart, TwoParts, PiecePost, test_from, TestPost}
+use Rattle.parser.specs.promises.Parts.{PiecePost, test_from, TestPost}
 use Rattle.parser.proofs.Laws.{plus-two, there, tokens-kept, given-put, given-node, is, is-not, passes, at-result, bind_ok, bind-bad}
 use Rattle.parser.proofs.Laws.{stepped, within-ok, within_more}
 use Rattle.parser.proofs.Pieces.{and_token, regroup, regroup-two, bind-same, then-token, then-bad, then-on, then-list, then-node}
 use Rattle.parser.proofs.Pieces.{then-second, of-mode, as-mode, of-list, as-list, as-piece}
 use Rattle.parser.proofs.Expressions.{made}
 use Rattle.parser.proofs.Heads.{head-there, head-bad, head_passed}
+use Rattle.std.specs.Prelude.{Ok, Err}
+use Rattle.parser.specs.declared.answer.Misfit.{Misfit}
+use Rattle.parser.specs.promises.Parts.{Expected, ExpectedAll}
+use Rattle.parser.proofs.Wholes.{Follows, ListOf, OnePart, TwoParts, found-kind, missed-kind}
+use Rattle.parser.proofs.Stages.{BranchesPost}
 
 -- enough fuel for what is read after token i
 abbrev after : (n i : ℕ) → ℕ
@@ -74,18 +78,22 @@ block-is {n} {i} {T} few z p s w =
     (then-node (λ ts a. block (place_at ts i i) a) (λ ts a t. (refl, refl)) few il (then-token few (of-list (after n i) (omega arith) p) (omega arith) s) w)
 
 -- `if` AND `while`: the test
-module _ {n i k : ℕ} {T : List ℕ} (ek : k ≡ kind_in_table T n (i + 1)) where
-  pub test-open : k ≢ k_open → TestPost n i T (Bad (i + 1)) T
-  test-open z = record { piece = record { kept = refl; within = tt; says = λ ts h f enough. rw (is-not h (i + 1) ek z) met-bad } }
+module _ {n i : ℕ} {T : List ℕ} where
+  pub test-open : {m : Misfit} → Expected T n k_open (i + 1) (Err m) → TestPost n i T (Err m) T
+  test-open s =
+      let g = missed-kind refl s in
+      record { piece = record { kept = refl; within = tt; says = λ ts h f enough. rw (is-not h (i + 1) refl g.0, g.1) met-bad } }
 
-  pub test-ok : {T₁ : List ℕ} {r₁ r : Answer} → n ≤ tokens_most → k ≡ k_open → ModePost (operation (level_at 0)) n n (i + 2) T r₁ T₁
+  pub test-ok : {start : ℕ} {T₁ : List ℕ} {r₁ r : Answer} → n ≤ tokens_most → Expected T n k_open (i + 1) (Ok start)
+      → ModePost (operation (level_at 0)) n n start T r₁ T₁
       → Follows T₁ n k_close r₁ r → TestPost n i T r T₁
   unfolding level_at
-  test-ok few z p s =
+  test-ok few s₀ p s =
+      let g = found-kind refl s₀ in
       record {
         piece =
-            as-piece (omega arith) (omega arith) (λ f ts h. rw (is h (i + 1) ek z, plus-two i) refl)
-            (then-token few (of-mode (after n i) (omega arith) p) (omega arith) s);
+            as-piece (omega arith) (omega (arith, g.1)) (λ f ts h. rw (is h (i + 1) refl g.0, g.1) refl)
+            (then-token few (of-mode (after n i) (omega (arith, g.1)) p) (omega arith) s);
       }
 
 -- what goes on after a test
@@ -207,21 +215,22 @@ module _ (i f : ℕ) (ts : List Token) where
   unfolding step
   is-printing e = rw e refl
 
-module _ {n i m : ℕ} {T : List ℕ} (z : kind_in_table T n i ≡ k_system) (em : m ≡ matched_in T n (i + 1) print_head) where
-  pub print-head : m < 5 → ModePost a_statement n n i T (Bad (i + 1 + m)) T
-  print-head lt = head-bad a_statement print_head z em (printing i) (is-printing i) lt
+module _ {n i : ℕ} {T : List ℕ} (z : kind_in_table T n i ≡ k_system) where
+  pub print-head : {m : Misfit} → ExpectedAll T n print_head (i + 1) (Err m) → ModePost a_statement n n i T (Err m) T
+  print-head s = head-bad a_statement print_head z (printing i) (is-printing i) s
 
-  pub print-ok : {T₁ T₂ : List ℕ} {r₁ r₂ r₃ r : Answer} → n ≤ tokens_most → 5 ≤ m → ModePost (operation (level_at 0)) n n (i + 6) T r₁ T₁
+  pub print-ok : {start : ℕ} {T₁ T₂ : List ℕ} {r₁ r₂ r₃ r : Answer} → n ≤ tokens_most → ExpectedAll T n print_head (i + 1) (Ok start)
+      → ModePost (operation (level_at 0)) n n start T r₁ T₁
       → Follows T₁ n k_close r₁ r₂
       → Follows T₁ n k_semicolon r₂ r₃ → OnePart i T₁ r₃ r T₂ → ModePost a_statement n n i T r T₂
   unfolding level_at store
-  print-ok few l p s s₂ w =
-      let le = head-there T n i k_system m print_head (omega arith) (omega arith) z em in
-      as-mode (omega arith) (omega arith)
-      (λ f ts h. head_passed a_statement print_head z em (printing i) (is-printing i) l f ts h
-      ∙ ap (printing i f ts) (omega arith) ∙ regroup-two ts k_close k_semicolon (printed i f ts) (parse_as f ts an_expression (i + 6)))
-      (then-node (λ ts a. print (place_at ts i i) a) (λ ts a t. (refl, refl)) few (omega arith)
-      (then-token few (then-token few (of-mode (after n i) (omega arith) p) (omega arith) s) (omega arith) s₂) w)
+  print-ok {start} few s₀ p s s₂ w =
+      let le = head-there {i = i} print_head (omega arith) (omega arith) z s₀ in
+      as-mode (omega arith) (omega (arith, le))
+      (λ f ts h. head_passed a_statement print_head z (printing i) (is-printing i) s₀ f ts h
+      ∙ regroup-two ts k_close k_semicolon (printed i f ts) (parse_as f ts an_expression start))
+      (then-node (λ ts a. print (place_at ts i i) a) (λ ts a t. (refl, refl)) few (omega (arith, le))
+      (then-token few (then-token few (of-mode (after n i) (omega (arith, le)) p) (omega arith) s) (omega arith) s₂) w)
 
 -- ASSIGNMENTS
 
@@ -245,26 +254,29 @@ of-name : {T : List ℕ} {n : ℕ} {ts : List Token} (h : TokensIn T n ts) (i : 
     → is_name_lem (kind_at ts i) ≡ true
 of-name h i t = ap is_name_lem (sym (h.kinds i)) ∙ t
 
-module _ {n i k : ℕ} {T : List ℕ} (t : is_name_lem (kind_in_table T n i) ≡ true) (ek : k ≡ kind_in_table T n (i + 1)) where
-  pub assign-missing : k ≢ k_open_bracket → k ≢ k_assign → ModePost a_statement n n i T (Bad (i + 1)) T
-  assign-missing z z' =
+module _ {n i k : ℕ} {T : List ℕ} (t : is_name_lem (kind_in_table T n i) ≡ true) (ek : k ≡ kind_in_table T n (i + 1)) (other : k ≢ k_open_bracket) where
+  pub assign-missing : {m : Misfit} → Expected T n k_assign (i + 1) (Err m) → ModePost a_statement n n i T (Err m) T
+  assign-missing s =
+      let g = missed-kind refl s in
       record {
         kept = refl;
         within = tt;
         says = λ ts h. stepped a_statement ts i (fuel a_statement n i) (λ f enough.
-            at-result (is-assignment ts _ i (of-name h i t) (is-not h (i + 1) ek z)) (rw (is-not h (i + 1) ek z') met-bad));
+            at-result (is-assignment ts _ i (of-name h i t) (is-not h (i + 1) ek other)) (rw (is-not h (i + 1) refl g.0, g.1) met-bad));
       }
 
-  pub assign-ok : {T₁ T₂ : List ℕ} {r₁ r₂ r : Answer} → n ≤ tokens_most → k ≡ k_assign → ModePost (operation (level_at 0)) n n (i + 2) T r₁ T₁
+  pub assign-ok : {start : ℕ} {T₁ T₂ : List ℕ} {r₁ r₂ r : Answer} → n ≤ tokens_most → Expected T n k_assign (i + 1) (Ok start)
+      → ModePost (operation (level_at 0)) n n start T r₁ T₁
       → Follows T₁ n k_semicolon r₁ r₂
       → OnePart i T₁ r₂ r T₂ → ModePost a_statement n n i T r T₂
   unfolding level_at store
-  assign-ok few z p s w =
-      let il = there T n (i + 1) k k_assign ek z (omega arith) in
-      as-mode (omega arith) (omega arith)
-      (λ f ts h. is-assignment ts _ i (of-name h i t) (rw (is h (i + 1) ek z) refl) ∙ rw (is h (i + 1) ek z, plus-two i) (regroup ts k_semicolon (λ a j. ok (assign (place_at ts i i) (token_at ts i).text a) j) (parse_as f ts an_expression (i + 2))))
+  assign-ok {start} few s₀ p s w =
+      let g = found-kind refl s₀ in
+      let il = there T n (i + 1) _ k_assign refl g.0 (omega arith) in
+      as-mode (omega arith) (omega (arith, g.1))
+      (λ f ts h. is-assignment ts _ i (of-name h i t) (is-not h (i + 1) ek other) ∙ rw (is h (i + 1) refl g.0, g.1) (regroup ts k_semicolon (λ a j. ok (assign (place_at ts i i) (token_at ts i).text a) j) (parse_as f ts an_expression start)))
       (then-node (λ ts a. assign (place_at ts i i) (token_at ts i).text a) (λ ts a t. (refl, refl)) few (omega arith)
-      (then-token few (of-mode (after n i) (omega arith) p) (omega arith) s) w)
+      (then-token few (of-mode (after n i) (omega (arith, g.1)) p) (omega arith) s) w)
 
 -- `x[e] = e;`
 abbrev assigning : (i f : ℕ) → List Token → Expression → ℕ → Parsed Statement
@@ -316,8 +328,8 @@ module _ (i f : ℕ) (ts : List Token) where
   abbrev putting : Expression → ℕ → Parsed Statement
   putting a j = bind (parse_as f ts an_expression j) λ e j. expect_all ts call_end j (both_put a e)
 
-  abbrev register_part : Parsed Expression
-  register_part = and_token ts k_comma (parse_as f ts an_expression (i + 4))
+  abbrev register_part : (start : ℕ) → Parsed Expression
+  register_part start = and_token ts k_comma (parse_as f ts an_expression start)
 
   abbrev putting_to : ℕ → Parsed Statement
   putting_to j = bind (parse_as f ts an_expression j) λ a j. expect ts k_comma j (putting a)
@@ -326,43 +338,44 @@ module _ (i f : ℕ) (ts : List Token) where
   unfolding step
   is-putting e = rw e refl
 
-module _ {n i m : ℕ} {T : List ℕ} (z : kind_in_table T n i ≡ k_port) (em : m ≡ matched_in T n (i + 1) put_head) where
-  pub put-head : m < 3 → ModePost a_statement n n i T (Bad (i + 1 + m)) T
-  put-head lt = head-bad a_statement put_head z em (putting_to i) (is-putting i) lt
+module _ {n i : ℕ} {T : List ℕ} (z : kind_in_table T n i ≡ k_port) where
+  pub put-head : {m : Misfit} → ExpectedAll T n put_head (i + 1) (Err m) → ModePost a_statement n n i T (Err m) T
+  put-head s = head-bad a_statement put_head z (putting_to i) (is-putting i) s
 
-module _ (n i : ℕ) {T T₁ : List ℕ} {r₁ r₂ : Answer} (few : n ≤ tokens_most) where
-  register-part : ModePost (operation (level_at 0)) n n (i + 4) T r₁ T₁ → Follows T₁ n k_comma r₁ r₂
-      → PiecePost (part expression) (register_part i) (after n i) (i + 4 + 1 + 1) n n T r₂ T₁
+module _ (n i start : ℕ) {T : List ℕ} (z : kind_in_table T n i ≡ k_port) (s₀ : ExpectedAll T n put_head (i + 1) (Ok start)) where
+  register-part : {T₁ : List ℕ} {r₁ r₂ : Answer} → n ≤ tokens_most → ModePost (operation (level_at 0)) n n start T r₁ T₁ → Follows T₁ n k_comma r₁ r₂
+      → PiecePost (part expression) (λ f ts. register_part i f ts start) (after n i) (start + 1 + 1) n n T r₂ T₁
   unfolding level_at
-  register-part p s = then-token few (of-mode (after n i) (omega arith) p) (omega arith) s
+  register-part few p s =
+      let le = head-there {i = i} put_head (omega arith) (omega arith) z s₀ in
+      then-token few (of-mode (after n i) (omega (arith, le)) p) (omega arith) s
 
-module _ (n i : ℕ) {m : ℕ} {T : List ℕ} where
-  as-put : kind_in_table T n i ≡ k_port → m ≡ matched_in T n (i + 1) put_head → 3 ≤ m → (f : ℕ) (ts : List Token) → TokensIn T n ts
-      → step ts (λ s m j. parse_as f ts m j) a_statement i ≡ bind (register_part i f ts) (putting i f ts)
-  as-put z em l f ts h =
-      head_passed a_statement put_head z em (putting_to i) (is-putting i) l f ts h
-      ∙ ap (putting_to i f ts) (omega arith) ∙ regroup ts k_comma (putting i f ts) (parse_as f ts an_expression (i + 4))
+  as-put : (f : ℕ) (ts : List Token) → TokensIn T n ts
+      → step ts (λ s m j. parse_as f ts m j) a_statement i ≡ bind (register_part i f ts start) (putting i f ts)
+  as-put f ts h =
+      head_passed a_statement put_head z (putting_to i) (is-putting i) s₀ f ts h
+      ∙ regroup ts k_comma (putting i f ts) (parse_as f ts an_expression start)
 
-module _ {n i m : ℕ} {T T₁ : List ℕ} {r₁ r₂ : Answer} (few : n ≤ tokens_most) (z : kind_in_table T n i ≡ k_port) (em : m ≡ matched_in T n (i + 1) put_head)
-    (l : 3 ≤ m) (p : ModePost (operation (level_at 0)) n n (i + 4) T r₁ T₁) (s : Follows T₁ n k_comma r₁ r₂) where
+module _ {n i start : ℕ} {T T₁ : List ℕ} {r₁ r₂ : Answer} (few : n ≤ tokens_most) (z : kind_in_table T n i ≡ k_port)
+    (s₀ : ExpectedAll T n put_head (i + 1) (Ok start)) (p : ModePost (operation (level_at 0)) n n start T r₁ T₁) (s : Follows T₁ n k_comma r₁ r₂) where
   pub register-bad : {y : ℕ} → r₂ ≡ Bad y → ModePost a_statement n n i T (Bad y) T₁
   register-bad e =
-      let le = head-there T n i k_port m put_head (omega arith) (omega arith) z em in
-      as-mode (omega arith) (omega arith) (as-put n i z em l) (then-bad few (register-part n i few p s) (i + 1) n (putting i) e)
+      let le = head-there {i = i} put_head (omega arith) (omega arith) z s₀ in
+      as-mode (omega arith) (omega (arith, le)) (as-put n i start z s₀) (then-bad few (register-part n i start z s₀ few p s) (i + 1) n (putting i) e)
 
   pub put-ok : {x j : ℕ} {T₂ T₃ : List ℕ} {r₃ r₄ r₅ r : Answer} → r₂ ≡ At x j → ModePost (operation (level_at 0)) n n j T₁ r₃ T₂
       → Follows T₂ n k_close r₃ r₄
       → Follows T₂ n k_semicolon r₄ r₅ → TwoParts i i x T₂ r₅ r T₃ → ModePost a_statement n n i T r T₃
   unfolding level_at store
   put-ok e q s₂ s₃ w₃ =
-      let le = head-there T n i k_port m put_head (omega arith) (omega arith) z em in
-      let w = within-ok e (register-part n i few p s).within in
-      as-mode (omega arith) (omega arith)
-      (λ f ts h. as-put n i z em l f ts h
-      ∙ bind-same (λ a j. regroup-two ts k_close k_semicolon (both_put i f ts a) (parse_as f ts an_expression j)) (register_part i f ts))
-      (then-second few (register-part n i few p s) e (λ ts a c. port_put_lem (place_at ts i i) a c) (λ ts a c t. (refl, refl))
-      (λ f ts j. and_token ts k_semicolon (and_token ts k_close (parse_as f ts an_expression j))) (omega arith) (omega arith) (omega arith)
-      (then-token few (then-token few (of-mode (after n i) (omega arith) q) (omega arith) s₂) (omega arith) s₃) w₃)
+      let le = head-there {i = i} put_head (omega arith) (omega arith) z s₀ in
+      let w = within-ok e (register-part n i start z s₀ few p s).within in
+      as-mode (omega arith) (omega (arith, le))
+      (λ f ts h. as-put n i start z s₀ f ts h
+      ∙ bind-same (λ a j. regroup-two ts k_close k_semicolon (both_put i f ts a) (parse_as f ts an_expression j)) (register_part i f ts start))
+      (then-second few (register-part n i start z s₀ few p s) e (λ ts a c. port_put_lem (place_at ts i i) a c) (λ ts a c t. (refl, refl))
+      (λ f ts j. and_token ts k_semicolon (and_token ts k_close (parse_as f ts an_expression j))) (omega (arith, le)) (omega (arith, le)) (omega (arith, le))
+      (then-token few (then-token few (of-mode (after n i) (omega (arith, le)) q) (omega arith) s₂) (omega arith) s₃) w₃)
 
 -- NO STATEMENT
 pub no-statement : {n i k : ℕ} {T : List ℕ} {b : Bool} → k ≡ kind_in_table T n i → k ≢ k_open_brace → k ≢ k_if → k ≢ k_while → k ≢ k_system → k ≢ k_port

@@ -1,19 +1,21 @@
 -- Where a type begins: the test of a token's kind and the element type that the definition reads there, and the tests for `new T[e]`.
 use Prim.Native.Nat.{ℕ, ◌+◌, ◌<◌}
 use mathlib.Core.Path.{◌≡◌, refl, sym, ◌∙◌}
-use mathlib.Core.List.{List}
+use mathlib.Core.List.{List, [], ◌∷◌}
 use mathlib.Core.Logic.{◌≢◌}
 use mathlib.Core.Bool.{Bool, true, false, ◌&&◌, ◌||◌}
 use mathlib.Core.Option.{none, some}
 use native.Mathlib.Omega.{arith}
 use lib.Dec.{eqb}
-use borrow.Author.Tests.{ne_eqb}
+use borrow.Author.Tests.{eq-eqb, ne_eqb, eqb-true, eqb-false}
+use Rattle.std.specs.List.{list_any}
 use Rattle.lexer.specs.Kinds.{is_name_lem, k_boolean, k_fixed, k_int, k_new, k_open_bracket}
+use Rattle.lexer.specs.Kinds.{k_false, k_fixed_literal, k_if, k_literal, k_open_brace, k_port, k_system, k_this, k_true, k_while}
 use Rattle.lexer.specs.Tokens.{Token}
 use Rattle.parser.specs.Tree.{Element, Element.int, Element.boolean, Element.class}
 use Rattle.parser.specs.Stream.{token_at, kind_at}
-use Rattle.parser.specs.Parse.{begins_type_lem, element_type_lem}
-use Rattle.parser.specs.promises.Post.{kind_in_table, TokensIn, begins_element_lem, starts_array_lem}
+use Rattle.parser.specs.Parse.{begins_type_lem, begins_statement_lem, element_type_lem}
+use Rattle.parser.specs.promises.Post.{kind_in_table, TokensIn, begins_element_lem, starts_array_lem, name_or, is_atom_lem}
 use Rattle.parser.proofs.Laws.{there-by}
 
 -- an element type that token i is
@@ -81,3 +83,39 @@ module _ (T : List ℕ) (n i : ℕ) {ts : List Token} (h : TokensIn T n ts) wher
       go : (a b c : Bool) → (a && (b || c)) ≡ (a && b || a && c)
       go true b c = refl
       go false b c = refl
+
+-- A NAME, OR A TOKEN OF ONE OF THESE KINDS
+
+pub one-of : (k : ℕ) (qs : List ℕ) → list_any (λ q. eqb q k) qs ≡ true → true ≡ name_or qs k
+one-of k [] t = absurd (let z : ◌≡◌ {A = ℕ} 0 1 = cc in omega arith)
+one-of k (q ∷ qs) t = go (eqb q k) refl t (one-of k qs)
+  where
+    go : (b : Bool) → eqb q k ≡ b → (b || list_any (λ q. eqb q k) qs) ≡ true → (list_any (λ q. eqb q k) qs ≡ true → true ≡ name_or qs k)
+        → true ≡ (eqb k q || name_or qs k)
+    go true e t ih = rw (eq-eqb k q (sym (eqb-true q k e))) refl
+    go false e t ih = rw (ne_eqb k q (λ z. eqb-false q k e (sym z))) (ih t)
+
+pub none-of : (k : ℕ) (qs : List ℕ) → list_any (λ q. eqb q k) qs ≡ false → is_name_lem k ≡ name_or qs k
+none-of k [] t = refl
+none-of k (q ∷ qs) t = go (eqb q k) refl t (none-of k qs)
+  where
+    go : (b : Bool) → eqb q k ≡ b → (b || list_any (λ q. eqb q k) qs) ≡ false → (list_any (λ q. eqb q k) qs ≡ false → is_name_lem k ≡ name_or qs k)
+        → is_name_lem k ≡ (eqb k q || name_or qs k)
+    go true e t ih = absurd (let z : ◌≡◌ {A = ℕ} 0 1 = cc in omega arith)
+    go false e t ih = rw (ne_eqb k q (λ z. eqb-false q k e (sym z))) (ih t)
+
+from-left : (a b c d e f : Bool) → (a || (b || (c || (d || (e || f))))) ≡ (a || b || c || d || e || f)
+from-left true b c d e f = refl
+from-left false true c d e f = refl
+from-left false false true d e f = refl
+from-left false false false true e f = refl
+from-left false false false false true f = refl
+from-left false false false false false f = refl
+
+pub atom-told : (k : ℕ) → name_or (k_fixed_literal ∷ k_literal ∷ k_true ∷ k_false ∷ k_this ∷ []) k ≡ is_atom_lem k
+unfolding is_atom_lem
+atom-told k = from-left (eqb k k_fixed_literal) (eqb k k_literal) (eqb k k_true) (eqb k k_false) (eqb k k_this) (is_name_lem k)
+
+pub statement-told : (k : ℕ) → name_or (k_open_brace ∷ k_if ∷ k_while ∷ k_system ∷ k_port ∷ []) k ≡ begins_statement_lem k
+unfolding begins_statement_lem
+statement-told k = from-left (eqb k k_open_brace) (eqb k k_if) (eqb k k_while) (eqb k k_system) (eqb k k_port) (is_name_lem k)

@@ -1,7 +1,7 @@
 -- What each return of the functions on types, variables and lists of variables shows: from what the callees ensure and the kinds of the tokens read, what
 -- the function ensures.
 use Prim.Native.Nat.{ℕ, ◌*◌, suc, ◌+◌, ◌-◌, ◌≤◌}
-use mathlib.Core.Path.{◌≡◌, refl, sym, ap, ◌∙◌}
+use mathlib.Core.Path.{◌≡◌, refl, sym, ap, ◌∙◌, subst}
 use mathlib.Core.List.{List, [], ◌∷◌}
 use mathlib.Core.Logic.{◌≢◌}
 use mathlib.Core.Bool.{Bool, true, false}
@@ -11,24 +11,28 @@ use borrow.Author.Tests.{ne_eqb}
 use Rattle.base.specs.promises.Table.{put, c_next, c_type}
 use Rattle.base.specs.laws.Tests.{or-neither}
 use Rattle.base.specs.Codes.{tokens_most}
-use Rattle.lexer.specs.Kinds.{is_name_lem, k_close, k_close_bracket, k_comma, k_fixed, k_open_brace, k_open_bracket, k_semicolon}
+use Rattle.lexer.specs.Kinds.{is_name_lem, k_name, k_close, k_close_bracket, k_comma, k_fixed, k_open_brace, k_open_bracket, k_semicolon}
 use Rattle.lexer.specs.Tokens.{Token}
-use Rattle.parser.specs.declared.answer.Answer.{Answer}
-use Rattle.parser.specs.declared.answer.Answer.TheVariants.{At, Bad}
+use Rattle.parser.specs.promises.Answers.{Answer, At, Bad}
 use Rattle.parser.specs.Tree.{Variable}
 use Rattle.parser.specs.Stream.{name_at}
 use Rattle.parser.specs.Parse.{ok, bind, begins_type_lem, type_from, variable_from, begins_variable, variables_from, some_parameters_lem, parameters_from}
 use Rattle.parser.specs.promises.Layout.{given, row_variables, store_variable, store_variables, absent, list_top}
 use Rattle.parser.specs.promises.Post.{kind_in_table, TokensIn, begins_element_lem, met-ok, met-bad}
-use Rattle.parser.specs.promises.DeclarationPost.{declaration_stored, OpenedPost, a_type, a_variable, variable_list, parameter_list}
-use Rattle.parser.specs.promises.DeclarationPost.{formals, DeclPost, follows_type_lem, starts_variable_lem}
-use Rattle.parser.specs.promises.Parts.{Follows, ListOf, PiecePost}
+use Rattle.parser.specs.promises.DeclarationPost.{declaration_stored, a_type, a_variable, variable_list, parameter_list}
+use Rattle.parser.specs.promises.DeclarationPost.{formals, DeclPost, EndsThere, follows_type_lem, starts_variable_lem}
+use Rattle.parser.specs.promises.Parts.{PiecePost}
 use Rattle.parser.proofs.Pieces.{and_token, regroup, member, then-token, then-bad, last-member, no_member, more-members}
 use Rattle.parser.proofs.Pieces.{of-declaration, as-declarations, as-piece}
 use Rattle.parser.proofs.Laws.{there, given-put, is, is-not, passes, bind_ok, bind-bad, within-ok, plus-three}
 use Rattle.parser.proofs.Lists.{list-end, list-bad, list-more}
 use Rattle.parser.proofs.Postfix.{name-there}
 use Rattle.parser.proofs.Types.{ElementRead, element-read, element-not, element-there, type-or-fixed, not-fixed}
+use Rattle.std.specs.Prelude.{Ok, Err}
+use Rattle.parser.specs.declared.answer.Misfit.{Misfit}
+use Rattle.parser.specs.promises.Parts.{Expected}
+use Rattle.parser.proofs.Wholes.{found-by, missed-by, found-kind, missed-kind, Follows, ListOf}
+use Rattle.parser.proofs.Stages.{OpenedPost}
 
 -- TYPES
 module _ {n i k : ℕ} {T : List ℕ} (ek : k ≡ kind_in_table T n i) where
@@ -43,23 +47,25 @@ module _ {n i k : ℕ} {T : List ℕ} (ek : k ≡ kind_in_table T n i) where
     element-at : {ts : List Token} → TokensIn T n ts → ElementRead ts i
     element-at {ts} h = element-read ts i true (passes h (λ (k : ℕ). begins_element_lem k true) i ek (sym (not-fixed z eb) ∙ t))
 
-    pub type-array : {k₂ : ℕ} → k₁ ≡ k_open_bracket → k₂ ≡ kind_in_table T n (i + 2) → k₂ ≡ k_close_bracket → DeclPost a_type n i T (At i (i + 3)) T
+    pub type-array : {j : ℕ} → k₁ ≡ k_open_bracket → Expected T n k_close_bracket (i + 2) (Ok j) → DeclPost a_type n i T (At i j) T
     unfolding type_from
-    type-array z₁ ek₂ z₂ =
-        let l = there T n (i + 2) _ k_close_bracket ek₂ z₂ (omega arith) in
+    type-array z₁ s =
+        let f = found-kind refl s in
+        let l = there T n (i + 2) _ k_close_bracket refl f.0 (omega arith) in
         record {
           kept = refl;
-          within = (omega arith, omega arith, omega arith);
-          says = λ ts h f enough. rw (is-not h i ek z, (element-at h).read, is h (i + 1) ek₁ z₁, is h (i + 2) ek₂ z₂, plus-three i) (met-ok refl refl);
+          within = (omega (arith, f.1), omega (arith, f.1), omega arith);
+          says = λ ts h en enough. rw (is-not h i ek z, (element-at h).read, is h (i + 1) ek₁ z₁, is h (i + 2) refl f.0, f.1) (met-ok refl refl);
         }
 
-    pub type-open : {k₂ : ℕ} → k₁ ≡ k_open_bracket → k₂ ≡ kind_in_table T n (i + 2) → k₂ ≢ k_close_bracket → DeclPost a_type n i T (Bad (i + 2)) T
+    pub type-open : {m : Misfit} → k₁ ≡ k_open_bracket → Expected T n k_close_bracket (i + 2) (Err m) → DeclPost a_type n i T (Err m) T
     unfolding type_from
-    type-open z₁ ek₂ z₂ =
+    type-open z₁ s =
+        let f = missed-kind refl s in
         record {
           kept = refl;
           within = tt;
-          says = λ ts h f enough. rw (is-not h i ek z, (element-at h).read, is h (i + 1) ek₁ z₁, is-not h (i + 2) ek₂ z₂) met-bad;
+          says = λ ts h en enough. rw (is-not h i ek z, (element-at h).read, is h (i + 1) ek₁ z₁, is-not h (i + 2) refl f.0, f.1) met-bad;
         }
 
     pub type-plain : k₁ ≢ k_open_bracket → DeclPost a_type n i T (At i (i + 1)) T
@@ -88,28 +94,32 @@ is-variable : (v : Variable) (t : List ℕ) → store_variable v t ≡ put t c_t
 unfolding store_variable
 is-variable v t = refl
 
-module _ {n i : ℕ} {T : List ℕ} {r₁ : Answer} (p : DeclPost a_type n i T r₁ T) where
-  pub variable-bad : {y : ℕ} → r₁ ≡ Bad y → DeclPost a_variable n i T (Bad y) T
+module _ {n i : ℕ} {T : List ℕ} where
+  pub variable-bad : {y : ℕ} → DeclPost a_type n i T (Bad y) T → DeclPost a_variable n i T (Bad y) T
   unfolding variable_from
-  variable-bad e = record { kept = refl; within = tt; says = λ ts h f enough. bind-bad _ e (p.says ts h f enough) }
+  variable-bad p = record { kept = refl; within = tt; says = λ ts h f enough. bind-bad _ refl (p.says ts h f enough) }
 
-  module _ {x j k : ℕ} {b : Bool} (e : r₁ ≡ At x j) (ek : k ≡ kind_in_table T n j) (eb : b ≡ is_name_lem k) where
-    pub variable-ok : {T₁ : List ℕ} → b ≡ true → T₁ ≡ put T c_type j x → DeclPost a_variable n i T (At j (j + 1)) T₁
+  module _ {x j : ℕ} (p : DeclPost a_type n i T (At x j) T) where
+    pub variable-ok : {m : ℕ} {T₁ : List ℕ} → Expected T n k_name j (Ok m) → T₁ ≡ put T c_type j x
+        → DeclPost a_variable n i T (At j m) T₁ × EndsThere (At j m)
     unfolding variable_from
-    variable-ok {T₁} t eT =
-        let l = name-there T n j k ek eb t in
-        let w = within-ok e p.within in
-        record {
-          kept = ap given eT ∙ given-put T c_type j x (omega arith);
-          within = (omega arith, omega arith, omega arith);
-          says = λ ts h f enough. bind_ok _ e (p.says ts h f enough) (λ u eu tu. rw (passes h is_name_lem j ek (sym eb ∙ t))
-              (met-ok {a = record { type = u; name = name_at ts j }} refl (eT ∙ cc (is-variable (record { type = u; name = name_at ts j }) T))));
-        }
+    variable-ok {m} {T₁} s eT =
+        let g = found-by s in
+        let l = name-there T n j _ refl refl g.0 in (
+          record {
+            kept = ap given eT ∙ given-put T c_type j x (omega arith);
+            within = (omega (arith, g.1, p.within), omega (arith, g.1), l);
+            says = λ ts h f enough. bind_ok _ refl (p.says ts h f enough) (λ u eu tu. rw (passes h is_name_lem j refl g.0, g.1)
+                (met-ok {a = record { type = u; name = name_at ts j }} refl (eT ∙ cc (is-variable (record { type = u; name = name_at ts j }) T))));
+          },
+          g.1,
+        )
 
-    pub variable-name : b ≡ false → DeclPost a_variable n i T (Bad j) T
+    pub variable-name : {m : Misfit} → Expected T n k_name j (Err m) → DeclPost a_variable n i T (Err m) T
     unfolding variable_from
-    variable-name t =
-        record { kept = refl; within = tt; says = λ ts h f enough. bind_ok _ e (p.says ts h f enough) (λ u eu tu. rw (passes h is_name_lem j ek (sym eb ∙ t)) met-bad) }
+    variable-name s =
+        let g = missed-by s in
+        record { kept = refl; within = tt; says = λ ts h f enough. bind_ok _ refl (p.says ts h f enough) (λ u eu tu. rw (passes h is_name_lem j refl g.0, g.1) met-bad) }
 
 -- WHERE A VARIABLE BEGINS
 module _ (T : List ℕ) (c : Bool) (n i : ℕ) where
@@ -180,14 +190,22 @@ module _ {n i : ℕ} {T : List ℕ} {c : Bool} where
         (omega arith) (omega arith) (omega arith) (omega arith) e q l
 
 -- `{` and variables
-module _ {c : Bool} {n j k : ℕ} {T : List ℕ} (ek : k ≡ kind_in_table T n j) where
-  pub opened-not : k ≢ k_open_brace → OpenedPost c n j T (Bad j) T
-  opened-not z = record { piece = record { kept = refl; within = tt; says = λ ts h f enough. rw (is-not h j ek z) met-bad } }
+module _ {c : Bool} {n j : ℕ} {T : List ℕ} where
+  pub opened-not : {m : Misfit} → Expected T n k_open_brace j (Err m) → OpenedPost c n j T (Err m) T
+  opened-not s =
+      let f = missed-kind refl s in
+      record { piece = record { kept = refl; within = tt; says = λ ts h en enough. rw (is-not h j refl f.0, f.1) met-bad } }
 
-  pub opened-ok : {T₁ : List ℕ} {r : Answer} → k ≡ k_open_brace → DeclPost (variable_list c) n (j + 1) T r T₁ → OpenedPost c n j T r T₁
-  opened-ok z p =
-      let l = there T n j k k_open_brace ek z (omega arith) in
-      record { piece = as-piece (omega arith) (omega arith) (λ f ts h. rw (is h j ek z) refl) (of-declaration (16 * (n - j)) (omega arith) p) }
+  pub opened-ok : {m : ℕ} {T₁ : List ℕ} {r : Answer} → Expected T n k_open_brace j (Ok m) → DeclPost (variable_list c) n m T r T₁
+      → OpenedPost c n j T r T₁
+  opened-ok s p =
+      let f = found-kind refl s in
+      let l = there T n j _ k_open_brace refl f.0 (omega arith) in
+      record {
+        piece =
+            as-piece (omega arith) (omega (arith, f.1)) (λ en ts h. rw (is h j refl f.0, f.1) refl)
+            (of-declaration (16 * (n - j)) (omega (arith, f.1)) p);
+      }
 
 -- PARAMETERS
 some-parameters : (f : ℕ) (ts : List Token) (i : ℕ)
@@ -208,19 +226,23 @@ module _ {n i : ℕ} {T T₁ : List ℕ} {r₁ : Answer} (few : n ≤ tokens_mos
         (last-member few (of-declaration (16 * (n - i)) (omega arith) p) ◌∷◌ [] is-more is_none (λ f ts j. some_parameters_lem f ts j) (omega arith) e ek z eT)
         (omega arith) (λ f ts h. some-parameters f ts i)
 
-    pub parameter-other : k ≢ k_close → k ≢ k_comma → DeclPost parameter_list n i T (Bad j) T₁
-    parameter-other z z' =
-        as-declarations (omega arith)
-        (no_member few (of-declaration (16 * (n - i)) (omega arith) p) ◌∷◌ [] is-more is_none (λ f ts j. some_parameters_lem f ts j) (omega arith) e ek z z')
-        (omega arith) (λ f ts h. some-parameters f ts i)
+    pub parameter-other : {m : Misfit} → k ≢ k_close → Expected T₁ n k_comma j (Err m) → DeclPost parameter_list n i T (Err m) T₁
+    parameter-other z s =
+        let f = missed-kind refl s in
+        subst (λ (y : ℕ). DeclPost parameter_list n i T (Bad y) T₁) f.1
+        (as-declarations (omega arith)
+        (no_member few (of-declaration (16 * (n - i)) (omega arith) p) ◌∷◌ [] is-more is_none (λ f ts j. some_parameters_lem f ts j) (omega arith) e ek z
+        (λ w. f.0 (sym ek ∙ w)))
+        (omega arith) (λ f ts h. some-parameters f ts i))
 
-    pub parameters-more : {T₂ T₃ : List ℕ} {r₂ r : Answer} → k ≡ k_comma → DeclPost parameter_list n (j + 1) T₁ r₂ T₂ → ListOf x T₂ r₂ r T₃
-        → DeclPost parameter_list n i T r T₃
-    parameters-more z q l =
+    pub parameters-more : {m : ℕ} {T₂ T₃ : List ℕ} {r₂ r : Answer} → Expected T₁ n k_comma j (Ok m) → DeclPost parameter_list n m T₁ r₂ T₂
+        → ListOf x T₂ r₂ r T₃ → DeclPost parameter_list n i T r T₃
+    parameters-more {T₂ = T₂} {r₂ = r₂} s q l =
+        let f = found-kind refl s in
         let w = within-ok e p.within in
         as-declarations (omega arith)
-        (more-members few (of-declaration (16 * (n - i)) (omega arith) p) ◌∷◌ [] is-more is_none (λ f ts j. some_parameters_lem f ts j) (omega arith) e ek z (omega arith)
-        (of-declaration (16 * (n - i)) (omega arith) q) l) (omega arith) (λ f ts h. some-parameters f ts i)
+        (more-members few (of-declaration (16 * (n - i)) (omega arith) p) ◌∷◌ [] is-more is_none (λ f ts j. some_parameters_lem f ts j) (omega arith) e ek (ek ∙ f.0) (omega arith)
+        (of-declaration (16 * (n - i)) (omega arith) (subst (λ (m : ℕ). DeclPost parameter_list n m T₁ r₂ T₂) (sym f.1) q)) l) (omega arith) (λ f ts h. some-parameters f ts i)
 
 module _ {n i k : ℕ} {T : List ℕ} (ek : k ≡ kind_in_table T n i) where
   pub formals-none : k ≡ k_close → DeclPost formals n i T (At absent (i + 1)) T

@@ -7,27 +7,24 @@ ghost use Rattle.parser.specs.Parse as Parse;
 ghost use Rattle.parser.specs.promises.Post.{Parsable, ModePost, RestPost, LevelsPost, more_operations, more_suffixes, level_at, kind_in_table, starts_array_lem};
 ghost use Rattle.parser.specs.promises.Layout as Layout;
 
-use crate::answer::Answer;
+use crate::answer::{Misfit, Part};
 use crate::columns;
 use crate::kinds::{begins_element, is_atom, is_operator};
-use crate::parts::{followed, linked, one_part};
-use crate::table::{kind, link, member_head, node};
+use crate::parts::{expect, expect_member};
+use crate::table::{kind, link, node};
 use lexer::kinds::{
-    CLOSE, CLOSE_BRACKET, COMMA, DOT, GET, LENGTH, NEW, NOT, OPEN, OPEN_BRACKET, PORT, is_name,
+    CLOSE, CLOSE_BRACKET, COMMA, DOT, GET, LENGTH, NAME, NEW, NOT, OPEN, OPEN_BRACKET, PORT,
 };
 
 // Operands of a level, joined by its operators. At every level a unary expression comes first. It is read here, and the levels are gone through after it, so
 // that an open parenthesis holds one frame of the stack and not one for each level.
 #[cycle(arguments_call_element_levels_new_array_operand_operation_operations_parentheses_port_get_postfix_primary_some_arguments_suffixes_unary)]
-pub fn operation(table: &mut [u32], n: usize, level: u32, i: usize) -> Answer
+pub fn operation(table: &mut [u32], n: usize, level: u32, i: usize) -> Result<Part, Misfit>
     requires { Parsable table.old n i × (level ≤ 3) }
     ensures { ModePost (Parse.operation (level_at level)) n n i table.old result table.new }
 {
-    let a = unary(table, n, i);
-    match a {
-        Answer::At(row, next) => levels(table, n, level, 3, i, row, next),
-        Answer::Bad(at) => Answer::Bad(at),
-    }
+    let first = unary(table, n, i)?;
+    levels(table, n, level, 3, i, first.row, first.next)
 }
 
 // What follows the first operand of level `top`, and then of each looser level down to `level`.
@@ -40,20 +37,15 @@ fn levels(
     first: usize,
     left: usize,
     i: usize,
-) -> Answer
+) -> Result<Part, Misfit>
     requires { Parsable table.old n i × (level ≤ top) × (top ≤ 3) × (first < n) × (left < n) }
     ensures { LevelsPost level top n first left i table.old result table.new }
 {
-    let a = operations(table, n, top, first, left, i);
-    match a {
-        Answer::At(row, next) => {
-            if level < top {
-                return levels(table, n, level, top - 1, first, row, next);
-            }
-            Answer::At(row, next)
-        }
-        Answer::Bad(at) => Answer::Bad(at),
+    let whole = operations(table, n, top, first, left, i)?;
+    if level < top {
+        return levels(table, n, level, top - 1, first, whole.row, whole.next);
     }
+    Ok(whole)
 }
 
 // What follows the first operand of a level.
@@ -65,28 +57,22 @@ fn operations(
     first: usize,
     left: usize,
     i: usize,
-) -> Answer
+) -> Result<Part, Misfit>
     requires { Parsable table.old n i × (level ≤ 3) × (first < n) × (left < n) }
     ensures { RestPost (more_operations (level_at level) first) n left i table.old result table.new }
 {
     let k = kind(table, n, i);
     if is_operator(level, k) {
-        let a = operand(table, n, level, i + 1);
-        match a {
-            Answer::At(right, next) => {
-                node(table, i, first, left, right);
-                operations(table, n, level, first, i, next)
-            }
-            Answer::Bad(at) => Answer::Bad(at),
-        }
-    } else {
-        Answer::At(left, i)
+        let right = operand(table, n, level, i + 1)?;
+        node(table, i, first, left, right.row);
+        return operations(table, n, level, first, i, right.next);
     }
+    Ok(Part { row: left, next: i })
 }
 
 // An operand of a level: of the next one, or a unary expression.
 #[cycle(arguments_call_element_levels_new_array_operand_operation_operations_parentheses_port_get_postfix_primary_some_arguments_suffixes_unary)]
-fn operand(table: &mut [u32], n: usize, level: u32, i: usize) -> Answer
+fn operand(table: &mut [u32], n: usize, level: u32, i: usize) -> Result<Part, Misfit>
     requires { Parsable table.old n i × (level ≤ 3) }
     ensures { ModePost (Parse.operand (level_at level)) n n i table.old result table.new }
 {
@@ -99,16 +85,19 @@ fn operand(table: &mut [u32], n: usize, level: u32, i: usize) -> Answer
 
 // Any number of `!`, and a postfix expression.
 #[cycle(arguments_call_element_levels_new_array_operand_operation_operations_parentheses_port_get_postfix_primary_some_arguments_suffixes_unary)]
-fn unary(table: &mut [u32], n: usize, i: usize) -> Answer
+fn unary(table: &mut [u32], n: usize, i: usize) -> Result<Part, Misfit>
     requires { Parsable table.old n i }
     ensures { ModePost Parse.unary n n i table.old result table.new }
 {
     if kind(table, n, i) == NOT {
-        let a = unary(table, n, i + 1);
-        one_part(table, i, a)
-    } else {
-        postfix(table, n, i)
+        let part = unary(table, n, i + 1)?;
+        node(table, i, i, part.row, columns::ABSENT);
+        return Ok(Part {
+            row: i,
+            next: part.next,
+        });
     }
+    postfix(table, n, i)
 }
 
 // Whether `new T[e]` begins here: after `new` a class makes an array where a `[` follows it.
@@ -125,40 +114,28 @@ fn starts_array(table: &[u32], n: usize, i: usize) -> bool
 
 // A primary, or `new T[e]`, and what follows it.
 #[cycle(arguments_call_element_levels_new_array_operand_operation_operations_parentheses_port_get_postfix_primary_some_arguments_suffixes_unary)]
-fn postfix(table: &mut [u32], n: usize, i: usize) -> Answer
+fn postfix(table: &mut [u32], n: usize, i: usize) -> Result<Part, Misfit>
     requires { Parsable table.old n i }
     ensures { ModePost Parse.postfix n n i table.old result table.new }
 {
     if starts_array(table, n, i) {
         return new_array(table, n, i);
     }
-    let a = primary(table, n, i);
-    match a {
-        Answer::At(row, next) => suffixes(table, n, true, i, row, next),
-        Answer::Bad(at) => Answer::Bad(at),
-    }
+    let first = primary(table, n, i)?;
+    suffixes(table, n, true, i, first.row, first.next)
 }
 
 // `new T[e]`, which a `[` does not directly follow.
 #[cycle(arguments_call_element_levels_new_array_operand_operation_operations_parentheses_port_get_postfix_primary_some_arguments_suffixes_unary)]
-fn new_array(table: &mut [u32], n: usize, i: usize) -> Answer
+fn new_array(table: &mut [u32], n: usize, i: usize) -> Result<Part, Misfit>
     requires { Parsable table.old n i × (starts_array_lem table.old n i ≡ true) }
     ensures { ModePost Parse.postfix n n i table.old result table.new }
 {
-    if kind(table, n, i + 2) == OPEN_BRACKET {
-        let a = operation(table, n, 0, i + 3);
-        let b = followed(table, n, a, CLOSE_BRACKET);
-        match b {
-            Answer::At(row, next) => {
-                node(table, i, i, row, columns::ABSENT);
-                return suffixes(table, n, false, i, i, next);
-            }
-            Answer::Bad(at) => {
-                return Answer::Bad(at);
-            }
-        }
-    }
-    Answer::Bad(i + 2)
+    let start = expect(table, n, i + 2, OPEN_BRACKET)?;
+    let size = operation(table, n, 0, start)?;
+    let next = expect(table, n, size.next, CLOSE_BRACKET)?;
+    node(table, i, i, size.row, columns::ABSENT);
+    suffixes(table, n, false, i, i, next)
 }
 
 // Indexes, `.length` and calls; the first is no index where it is not indexable.
@@ -170,7 +147,7 @@ fn suffixes(
     first: usize,
     left: usize,
     i: usize,
-) -> Answer
+) -> Result<Part, Misfit>
     requires { Parsable table.old n i × (first < n) × (left < n) }
     ensures { RestPost (more_suffixes indexable first) n left i table.old result table.new }
 {
@@ -179,7 +156,7 @@ fn suffixes(
         if indexable {
             return element(table, n, first, left, i);
         }
-        return Answer::Bad(i);
+        return Err(Misfit { token: i });
     }
     if k == DOT {
         if kind(table, n, i + 1) == LENGTH {
@@ -188,158 +165,137 @@ fn suffixes(
         }
         return call(table, n, indexable, first, left, i);
     }
-    Answer::At(left, i)
+    Ok(Part { row: left, next: i })
 }
 
 // `[e]` and what follows it.
 #[cycle(arguments_call_element_levels_new_array_operand_operation_operations_parentheses_port_get_postfix_primary_some_arguments_suffixes_unary)]
-fn element(table: &mut [u32], n: usize, first: usize, left: usize, i: usize) -> Answer
+fn element(table: &mut [u32], n: usize, first: usize, left: usize, i: usize) -> Result<Part, Misfit>
     requires { Parsable table.old n i × (first < n) × (left < n) × (kind_in_table table.old n i ≡ Kinds.k_open_bracket) }
     ensures { RestPost (more_suffixes true first) n left i table.old result table.new }
 {
-    let a = operation(table, n, 0, i + 1);
-    let b = followed(table, n, a, CLOSE_BRACKET);
-    match b {
-        Answer::At(row, next) => {
-            node(table, i, first, left, row);
-            suffixes(table, n, true, first, i, next)
-        }
-        Answer::Bad(at) => Answer::Bad(at),
-    }
+    let index = operation(table, n, 0, i + 1)?;
+    let next = expect(table, n, index.next, CLOSE_BRACKET)?;
+    node(table, i, first, left, index.row);
+    suffixes(table, n, true, first, i, next)
 }
 
 // `.m(e, ..)` and what follows it.
 #[cycle(arguments_call_element_levels_new_array_operand_operation_operations_parentheses_port_get_postfix_primary_some_arguments_suffixes_unary)]
-fn call(table: &mut [u32], n: usize, indexable: bool, first: usize, left: usize, i: usize) -> Answer
+fn call(
+    table: &mut [u32],
+    n: usize,
+    indexable: bool,
+    first: usize,
+    left: usize,
+    i: usize,
+) -> Result<Part, Misfit>
     requires { Parsable table.old n i × (first < n) × (left < n) × (kind_in_table table.old n i ≡ Kinds.k_dot)
         × (kind_in_table table.old n (i + 1) ≡ Kinds.k_length → ⊥) }
     ensures { RestPost (more_suffixes indexable first) n left i table.old result table.new }
 {
-    if is_name(kind(table, n, i + 1)) {
-        if kind(table, n, i + 2) == OPEN {
-            let a = arguments(table, n, i + 3);
-            match a {
-                Answer::At(row, next) => {
-                    node(table, i, first, left, row);
-                    return suffixes(table, n, true, first, i, next);
-                }
-                Answer::Bad(at) => {
-                    return Answer::Bad(at);
-                }
-            }
-        }
-        return Answer::Bad(i + 2);
-    }
-    Answer::Bad(i + 1)
+    let paren = expect(table, n, i + 1, NAME)?;
+    let start = expect(table, n, paren, OPEN)?;
+    let given = arguments(table, n, start)?;
+    node(table, i, first, left, given.row);
+    suffixes(table, n, true, first, i, given.next)
 }
 
 // A literal, a truth value, a name, `this`, `new C()`, an expression in parentheses or `Port.get(e)`.
 #[cycle(arguments_call_element_levels_new_array_operand_operation_operations_parentheses_port_get_postfix_primary_some_arguments_suffixes_unary)]
-fn primary(table: &mut [u32], n: usize, i: usize) -> Answer
+fn primary(table: &mut [u32], n: usize, i: usize) -> Result<Part, Misfit>
     requires { Parsable table.old n i }
     ensures { ModePost Parse.primary n n i table.old result table.new }
 {
     let k = kind(table, n, i);
     if is_atom(k) {
         node(table, i, i, columns::ABSENT, columns::ABSENT);
-        return Answer::At(i, i + 1);
+        return Ok(Part {
+            row: i,
+            next: i + 1,
+        });
     }
-    if k == NEW {
-        return new_object(table, n, i);
+    match k {
+        NEW => new_object(table, n, i),
+        OPEN => parentheses(table, n, i),
+        PORT => port_get(table, n, i),
+        _ => Err(Misfit { token: i }),
     }
-    if k == OPEN {
-        return parentheses(table, n, i);
-    }
-    if k == PORT {
-        return port_get(table, n, i);
-    }
-    Answer::Bad(i)
 }
 
 // `new C()`.
-fn new_object(table: &mut [u32], n: usize, i: usize) -> Answer
+fn new_object(table: &mut [u32], n: usize, i: usize) -> Result<Part, Misfit>
     requires { Parsable table.old n i × (kind_in_table table.old n i ≡ Kinds.k_new) }
     ensures { ModePost Parse.primary n n i table.old result table.new }
 {
-    if is_name(kind(table, n, i + 1)) {
-        if kind(table, n, i + 2) == OPEN {
-            if kind(table, n, i + 3) == CLOSE {
-                node(table, i, i, columns::ABSENT, columns::ABSENT);
-                return Answer::At(i, i + 4);
-            }
-            return Answer::Bad(i + 3);
-        }
-        return Answer::Bad(i + 2);
-    }
-    Answer::Bad(i + 1)
+    let paren = expect(table, n, i + 1, NAME)?;
+    let close = expect(table, n, paren, OPEN)?;
+    let next = expect(table, n, close, CLOSE)?;
+    node(table, i, i, columns::ABSENT, columns::ABSENT);
+    Ok(Part { row: i, next })
 }
 
 // `(e)`, which makes no node. Its `)` is looked for here and not by `followed`: an open parenthesis then holds 16 bytes less of the stack.
 #[cycle(arguments_call_element_levels_new_array_operand_operation_operations_parentheses_port_get_postfix_primary_some_arguments_suffixes_unary)]
-fn parentheses(table: &mut [u32], n: usize, i: usize) -> Answer
+fn parentheses(table: &mut [u32], n: usize, i: usize) -> Result<Part, Misfit>
     requires { Parsable table.old n i × (kind_in_table table.old n i ≡ Kinds.k_open) }
     ensures { ModePost Parse.primary n n i table.old result table.new }
 {
-    let a = operation(table, n, 0, i + 1);
-    match a {
-        Answer::At(row, next) => {
-            if kind(table, n, next) == CLOSE {
-                return Answer::At(row, next + 1);
-            }
-            Answer::Bad(next)
-        }
-        Answer::Bad(at) => Answer::Bad(at),
-    }
+    let inner = operation(table, n, 0, i + 1)?;
+    let next = expect(table, n, inner.next, CLOSE)?;
+    Ok(Part {
+        row: inner.row,
+        next,
+    })
 }
 
 // `Port.get(e)`
 #[cycle(arguments_call_element_levels_new_array_operand_operation_operations_parentheses_port_get_postfix_primary_some_arguments_suffixes_unary)]
-fn port_get(table: &mut [u32], n: usize, i: usize) -> Answer
+fn port_get(table: &mut [u32], n: usize, i: usize) -> Result<Part, Misfit>
     requires { Parsable table.old n i × (kind_in_table table.old n i ≡ Kinds.k_port) }
     ensures { ModePost Parse.primary n n i table.old result table.new }
 {
-    let m = member_head(table, n, i, GET);
-    if m < 3 {
-        return Answer::Bad(i + 1 + m);
-    }
-    let a = operation(table, n, 0, i + 4);
-    let b = followed(table, n, a, CLOSE);
-    one_part(table, i, b)
+    let start = expect_member(table, n, i + 1, GET)?;
+    let register = operation(table, n, 0, start)?;
+    let next = expect(table, n, register.next, CLOSE)?;
+    node(table, i, i, register.row, columns::ABSENT);
+    Ok(Part { row: i, next })
 }
 
 // The arguments of a call, with the `)` that ends them.
 #[cycle(arguments_call_element_levels_new_array_operand_operation_operations_parentheses_port_get_postfix_primary_some_arguments_suffixes_unary)]
-fn arguments(table: &mut [u32], n: usize, i: usize) -> Answer
+fn arguments(table: &mut [u32], n: usize, i: usize) -> Result<Part, Misfit>
     requires { Parsable table.old n i }
     ensures { ModePost Parse.argument_list n Layout.list_top i table.old result table.new }
 {
     if kind(table, n, i) == CLOSE {
-        Answer::At(columns::ABSENT, i + 1)
-    } else {
-        some_arguments(table, n, i)
+        return Ok(Part {
+            row: columns::ABSENT,
+            next: i + 1,
+        });
     }
+    some_arguments(table, n, i)
 }
 
 // One or more arguments.
 #[cycle(arguments_call_element_levels_new_array_operand_operation_operations_parentheses_port_get_postfix_primary_some_arguments_suffixes_unary)]
-fn some_arguments(table: &mut [u32], n: usize, i: usize) -> Answer
+fn some_arguments(table: &mut [u32], n: usize, i: usize) -> Result<Part, Misfit>
     requires { Parsable table.old n i }
     ensures { ModePost Parse.some_arguments_lem n Layout.list_top i table.old result table.new }
 {
-    let a = operation(table, n, 0, i);
-    match a {
-        Answer::At(row, next) => {
-            let k = kind(table, n, next);
-            if k == CLOSE {
-                link(table, row, columns::ABSENT);
-                return Answer::At(row, next + 1);
-            }
-            if k == COMMA {
-                let b = some_arguments(table, n, next + 1);
-                return linked(table, row, b);
-            }
-            Answer::Bad(next)
-        }
-        Answer::Bad(at) => Answer::Bad(at),
+    let first = operation(table, n, 0, i)?;
+    if kind(table, n, first.next) == CLOSE {
+        link(table, first.row, columns::ABSENT);
+        return Ok(Part {
+            row: first.row,
+            next: first.next + 1,
+        });
     }
+    let next = expect(table, n, first.next, COMMA)?;
+    let rest = some_arguments(table, n, next)?;
+    link(table, first.row, rest.row);
+    Ok(Part {
+        row: first.row,
+        next: rest.next,
+    })
 }

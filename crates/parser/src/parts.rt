@@ -1,68 +1,42 @@
-// What the parser's functions make of one another's answers.
-ghost use Rattle.std.specs.Prelude.{◌<◌, ◌≤◌, length};
-ghost use Rattle.base.specs.Codes.{tokens_most, table_least};
-ghost use Rattle.base.specs.promises.Table.{rows};
-ghost use Rattle.parser.specs.promises.Parts.{Follows, RowFits, ListOf, OnePart, TwoParts};
-ghost use Rattle.parser.specs.promises.Layout.{absent};
+// Tokens that have to stand where they are looked for.
+ghost use Rattle.std.specs.Prelude.{[], ◌∷◌, ◌+◌, ◌<◌, ◌≤◌, length};
+ghost use Rattle.base.specs.Codes.{tokens_most};
+ghost use Rattle.lexer.specs.Kinds.{k_dot, k_open};
+ghost use Rattle.parser.specs.promises.Parts.{Kinds, Expected, ExpectedAll};
 
-use crate::answer::Answer;
-use crate::columns;
-use crate::table::{kind, link, node};
+use crate::answer::Misfit;
+use crate::kinds::accepts;
+use crate::table::kind;
+use lexer::kinds::{DOT, OPEN};
 
-// What was read, with a token of this kind after it.
-pub fn followed(table: &[u32], n: usize, a: Answer, wanted: u32) -> Answer
+// The number of the token behind one of this kind; NAME stands for any name.
+pub fn expect(table: &[u32], n: usize, i: usize, wanted: u32) -> Result<usize, Misfit>
     requires { (n ≤ tokens_most) × (n ≤ length table.now) × (0 < wanted) }
-    ensures { Follows table.now n wanted a result }
+    ensures { Expected table.now n wanted i result }
 {
-    match a {
-        Answer::At(row, next) => {
-            if kind(table, n, next) == wanted {
-                return Answer::At(row, next + 1);
-            }
-            Answer::Bad(next)
-        }
-        Answer::Bad(at) => Answer::Bad(at),
+    if accepts(wanted, kind(table, n, i)) {
+        Ok(i + 1)
+    } else {
+        Err(Misfit { token: i })
     }
 }
 
-// A list: its first member, which has this row, and the rest of it.
-pub fn linked(table: &mut [u32], row: usize, rest: Answer) -> Answer
-    requires { (table_least ≤ length table.old) × (row < rows) × RowFits rest }
-    ensures { ListOf row table.old rest result table.new }
+// The number of the token behind tokens of these kinds.
+pub fn expect_all(table: &[u32], n: usize, i: usize, kinds: &[u32]) -> Result<usize, Misfit>
+    requires { (n ≤ tokens_most) × (n ≤ length table.now) × (i ≤ n) × Kinds kinds.now }
+    ensures { ExpectedAll table.now n kinds.now i result }
 {
-    match rest {
-        Answer::At(more, end) => {
-            link(table, row, more);
-            Answer::At(row, end)
-        }
-        Answer::Bad(at) => Answer::Bad(at),
+    let mut next = i;
+    for &wanted in kinds {
+        next = expect(table, n, next, wanted)?;
     }
+    Ok(next)
 }
 
-// A node that begins with its own token and has one part.
-pub fn one_part(table: &mut [u32], row: usize, part: Answer) -> Answer
-    requires { (table_least ≤ length table.old) × (row < rows) × RowFits part }
-    ensures { OnePart row table.old part result table.new }
+// The number of the token behind the tokens `.m(`, where m is a name of this kind.
+pub fn expect_member(table: &[u32], n: usize, i: usize, m: u32) -> Result<usize, Misfit>
+    requires { (n ≤ tokens_most) × (n ≤ length table.now) × (i ≤ n) × (0 < m) }
+    ensures { ExpectedAll table.now n (k_dot ∷ m ∷ k_open ∷ []) i result }
 {
-    match part {
-        Answer::At(x, end) => {
-            node(table, row, row, x, columns::ABSENT);
-            Answer::At(row, end)
-        }
-        Answer::Bad(at) => Answer::Bad(at),
-    }
-}
-
-// A node that begins with token `first` and has two parts, of which the second was read last.
-pub fn two_parts(table: &mut [u32], row: usize, first: usize, left: usize, right: Answer) -> Answer
-    requires { (table_least ≤ length table.old) × (row < rows) × (first < rows) × (left ≤ absent) × RowFits right }
-    ensures { TwoParts row first left table.old right result table.new }
-{
-    match right {
-        Answer::At(x, end) => {
-            node(table, row, first, left, x);
-            Answer::At(row, end)
-        }
-        Answer::Bad(at) => Answer::Bad(at),
-    }
+    expect_all(table, n, i, &[DOT, m, OPEN])
 }

@@ -6,24 +6,14 @@ ghost use Rattle.reader.specs.promises.WalkPost.{Walkable};
 ghost use Rattle.reader.specs.promises.ReadPost.{Fills, GrowPost, MeasurePost, place_in, read_answer_of};
 
 use crate::walk;
-use base::codes;
-use base::fill::zero_words;
-use lexer::{Lexed, lex};
-use parser::answer::Answer;
+use base::bounds::{SOURCE_MOST, TABLE_LEAST};
+use base::refusal::{Reason, Refusal};
+use lexer::lex;
 use parser::decl;
 
-// The tokens and the nodes of an accepted source; or a refusal and its position.
-#[derive(Drop)]
-pub enum Filled {
-    Tree(usize, usize),
-    Refused(u32, usize),
-}
-
-// What Read answers.
-#[derive(Drop)]
-pub struct ReadAnswer {
-    pub number: u32,
-    pub position: usize,
+// How many tokens and nodes an accepted source has.
+#[derive(Clone, Copy)]
+pub struct Counts {
     pub tokens: usize,
     pub nodes: usize,
 }
@@ -40,72 +30,65 @@ pub fn place(table: &[u32], n: usize, k: usize, size: usize) -> usize
 }
 
 // The tree's depth and nodes.
-fn measure(table: &[u32], n: usize) -> Filled
+fn measure(table: &[u32], n: usize) -> Result<Counts, Refusal>
     requires { Walkable table.now n }
     ensures { MeasurePost table.now n result }
 {
     let walked = walk::program(table, n);
-    let place = walked.place;
-    let count = walked.count;
-    if place < walk::NOWHERE {
-        return Filled::Refused(codes::TOO_DEEP, place);
+    let position = walked.place;
+    let nodes = walked.count;
+    if position < walk::NOWHERE {
+        return Err(Refusal {
+            reason: Reason::TooDeep,
+            position,
+        });
     }
-    Filled::Tree(n, count)
+    Ok(Counts { tokens: n, nodes })
 }
 
 // From the tokens in the table to the tree.
-fn grow(table: &mut [u32], n: usize, size: usize) -> Filled
+fn grow(table: &mut [u32], n: usize, size: usize) -> Result<Counts, Refusal>
     requires { Walkable table.old n }
     ensures { GrowPost n size table.old result table.new }
 {
-    let a = decl::program(table, n);
-    match a {
-        Answer::At(_first, _next) => measure(table, n),
-        Answer::Bad(k) => Filled::Refused(codes::NOT_IN_GRAMMAR, place(table, n, k, size)),
+    match decl::program(table, n) {
+        Ok(_) => measure(table, n),
+        Err(misfit) => {
+            let position = place(table, n, misfit.token, size);
+            Err(Refusal {
+                reason: Reason::NotInGrammar,
+                position,
+            })
+        }
     }
 }
 
 // Read, with the table left filled.
-pub fn fill(source: &[u8], table: &mut [u32]) -> Filled
+pub fn fill(source: &[u8], table: &mut [u32]) -> Result<Counts, Refusal>
     requires { table_least ≤ length table.old }
     ensures { Fills (reading source.now) result table.new }
 {
-    if codes::SOURCE_MOST < source.len() {
-        return Filled::Refused(codes::SOURCE_TOO_LONG, 0);
+    if SOURCE_MOST < source.len() {
+        return Err(Refusal {
+            reason: Reason::SourceTooLong,
+            position: 0,
+        });
     }
-    let l = lex(source, table);
-    match l {
-        Lexed::Tokens(n) => grow(table, n, source.len()),
-        Lexed::Refused(number, at) => Filled::Refused(number, at),
-    }
+    let n = lex(source, table)?;
+    grow(table, n, source.len())
 }
 
 // The operation Read of document 01.
-pub fn read(source: &[u8], table: &mut [u32]) -> ReadAnswer
+pub fn read(source: &[u8], table: &mut [u32]) -> Result<Counts, Refusal>
     ensures { Reads source.now table.old (read_answer_of result) table.new }
 {
-    if table.len() < codes::TABLE_LEAST {
-        return ReadAnswer {
-            number: codes::TABLE_TOO_SHORT,
+    if table.len() < TABLE_LEAST {
+        return Err(Refusal {
+            reason: Reason::TableTooShort,
             position: 0,
-            tokens: 0,
-            nodes: 0,
-        };
+        });
     }
-    let f = fill(source, table);
-    zero_words(table);
-    match f {
-        Filled::Tree(tokens, nodes) => ReadAnswer {
-            number: codes::SUCCESS,
-            position: 0,
-            tokens,
-            nodes,
-        },
-        Filled::Refused(number, position) => ReadAnswer {
-            number,
-            position,
-            tokens: 0,
-            nodes: 0,
-        },
-    }
+    let counts = fill(source, table);
+    table.fill(0);
+    counts
 }

@@ -17,13 +17,16 @@ use Rattle.typesystem.specs.ClassTable.{Context, main_context, context_of, text_
 use Rattle.typesystem.specs.Judge.{judge, must}
 use Rattle.typesystem.specs.Declarations.{variables}
 use Rattle.typesystem.specs.Check.{body, bodies, class_bodies, all_bodies}
-use Rattle.lookup.specs.declared.answer.Judged.{Judged}
-use Rattle.lookup.specs.declared.answer.Judged.TheVariants.{Fine, Refused}
+use Rattle.std.specs.Prelude.{Result, Ok, Err}
+use Rattle.base.specs.declared.refusal.Reason.TheVariants as reason
+use Rattle.base.specs.declared.refusal.Refusal.{Refusal}
+use Rattle.base.specs.promises.Refusals.{number_of}
+use Rattle.lookup.specs.promises.Answers.{Judged, Typed}
 use Rattle.lookup.specs.promises.HeldClasses.{word_at, Lexemes, NameNumber, no_name, a-name, no-variables, MethodHeld, MethodsHeld, more-methods, ClassHeld, ClassesHeld, more-classes, ClassTableHeld, ListedAt}
 use Rattle.lookup.specs.laws.HeldLaws.{word_in, row-there, name-word, none_left}
 use Rattle.lookup.specs.promises.Lookups.{TypeOf, Many, Counts}
 use Rattle.lookup.specs.laws.VariableLaws.{variables-many}
-use Rattle.lookup.specs.promises.Answers.{as_judged, goes_on, stops}
+use Rattle.lookup.specs.promises.Answers.{told, goes_on, stops}
 use Rattle.declarations.specs.promises.Judgements.{VariablesJudged}
 use Rattle.declarations.specs.promises.Indexing.{Ready}
 use Rattle.bodies.specs.declared.scope.Scope.{Scope}
@@ -63,19 +66,19 @@ module _ {tab : List ℕ} {n : ℕ} {ts : List Token} (lx : Lexemes tab n ts) {m
 module _ {tab : List ℕ} {s : Scope} {row first from end : ℕ} (e₄ : first ≡ word_at tab c_body (row + 1)) (low : from ≡ row)
     (high : end ≡ s.tokens) {v : Judged} (f : ListPost tab s from end first v) where
   statements : (ts : List Token) (G : List Class) (Γ : Context) → InScope tab ts G Γ s → (m : Method) → m.name.row ≡ row
-      → MethodHeld tab s.tokens ts m → v ≡ as_judged (judge G Γ m.body)
+      → MethodHeld tab s.tokens ts m → told v ≡ (judge G Γ m.body)
   statements ts G Γ sc m at st =
       f.says ts G Γ sc m.body
       (rw (low, high) (part sc.world.tokens at st c_body m.body st.start e₄ st.body st.body-matches st.body-within))
 
-  pub carried-refused : {n p : ℕ} → v ≡ Refused n p → CarriedJudged tab s row (Refused n p)
+  pub carried-refused : {z : Refusal} → v ≡ Err z → CarriedJudged tab s row (Err z)
   carried-refused is =
       record {
         says = λ ts G Γ sc m at st.
             rw (stops (judge G Γ m.body) (λ _. judge G Γ m.value >>= λ t. must G m.value m.result.type t) (statements ts G Γ sc m at st) is);
       }
 
-  pub carried-value : {w : ℕ} → v ≡ Fine w → {t want second : ℕ} → t ≡ word_at tab c_type row → TypeOf tab s.tokens t want
+  pub carried-value : v ≡ Ok tt → {t want second : ℕ} → t ≡ word_at tab c_type row → TypeOf tab s.tokens t want
       → second ≡ word_at tab c_value (row + 1) → {r : Judged}
       → OperandPost tab s from end second want r → CarriedJudged tab s row r
   carried-value is {t} {want} {second} e₃ type e₅ g =
@@ -94,7 +97,7 @@ declared : {tab : List ℕ} {n : ℕ} (row parameters locals before : ℕ) → p
     → Counts tab n parameters before → {v : Judged}
     → VariablesJudged tab n n parameters before locals 0 locals v → (ts : List Token) (G : List Class) → ClassTableHeld tab n ts G
     → (m : Method) → m.name.row ≡ row → MethodHeld tab n ts m
-    → v ≡ as_judged (variables G (map text_of m.parameters) m.locals)
+    → told v ≡ (variables G (map text_of m.parameters) m.locals)
 declared {tab} row parameters locals before e₄ e₅ many f ts G w m at st =
     let given = named w.tokens at st c_parameters st.first e₄ in
     let own = named w.tokens at st c_locals st.second e₅ in
@@ -105,11 +108,11 @@ declared {tab} row parameters locals before e₄ e₅ many f ts G w m at st =
 
 module _ {tab : List ℕ} {n classes owner row parameters locals before : ℕ} (e₄ : parameters ≡ word_at tab c_parameters row) (e₅ : locals ≡ word_at tab c_locals row) (many : Counts tab n parameters before)
     {v : Judged} (f : VariablesJudged tab n n parameters before locals 0 locals v) where
-  pub body_refused : {k p : ℕ} → v ≡ Refused k p → BodyJudged tab n classes owner row (Refused k p)
+  pub body_refused : {z : Refusal} → v ≡ Err z → BodyJudged tab n classes owner row (Err z)
   body_refused is =
       record { says = λ ts G w l c sp m at st. rw (stops (variables G (map text_of m.parameters) m.locals) _ (declared row parameters locals before e₄ e₅ many f ts G w m at st) is) }
 
-  pub body-carried : {u : ℕ} → v ≡ Fine u → {r : Judged}
+  pub body-carried : v ≡ Ok tt → {r : Judged}
       → CarriedJudged tab (record { tokens = n; classes = classes; owner = owner; parameters = parameters; locals = locals }) row r
       → BodyJudged tab n classes owner row r
   body-carried is g =
@@ -134,38 +137,38 @@ module _ {tab : List ℕ} {n classes owner row parameters locals before : ℕ} (
 -- METHODS
 
 module _ {tab : List ℕ} {n classes left owner row : ℕ} where
-  pub methods-none : row < absent → left ≡ 0 → {number p : ℕ} → MethodsJudged tab n classes left owner row (Refused number p)
+  pub methods-none : row < absent → left ≡ 0 → {z : Refusal} → MethodsJudged tab n classes left owner row (Err z)
   methods-none near z = record { says = λ ts G w l c sp ms at st few. absurd (none_left row_methods refl ms at few near z) }
 
-  pub methods-end : absent ≤ row → MethodsJudged tab n classes left owner row (Fine 0)
+  pub methods-end : absent ≤ row → MethodsJudged tab n classes left owner row (Ok tt)
   unfolding bodies
   methods-end far = record { says = λ ts G w l c sp ms at st few. go ts G w c ms at st }
     where
       go : (ts : List Token) (G : List Class) → ClassTableHeld tab n ts G → (c : List ℕ) (ms : List Method) → row_methods ms ≡ row
-          → MethodsHeld tab n ts ms → Fine 0 ≡ as_judged (bodies G c ms)
+          → MethodsHeld tab n ts ms → told (Ok tt) ≡ (bodies G c ms)
       go ts G w c [] at st = refl
       go ts G w c (m ∷ ms) at (more-methods s c₆ st) =
           absurd (omega (arith, at, row-there w.tokens m.name.row s.head.name.token.there))
 
   module _ (near : row < absent) {v : Judged} (f : BodyJudged tab n classes owner row v) where
-    pub methods-refused : {k p : ℕ} → v ≡ Refused k p → MethodsJudged tab n classes left owner row (Refused k p)
+    pub methods-refused : {z : Refusal} → v ≡ Err z → MethodsJudged tab n classes left owner row (Err z)
     unfolding bodies
-    methods-refused {k} {p} is = record { says = λ ts G w l c sp ms at st few. go ts G w l c sp ms at st }
+    methods-refused {z = z} is = record { says = λ ts G w l c sp ms at st few. go ts G w l c sp ms at st }
       where
         go : (ts : List Token) (G : List Class) → ClassTableHeld tab n ts G → length G ≡ classes → (c : List ℕ) → NameNumber ts c owner
             → (ms : List Method) → row_methods ms ≡ row → MethodsHeld tab n ts ms
-            → Refused k p ≡ as_judged (bodies G c ms)
+            → told (Err z) ≡ (bodies G c ms)
         go ts G w l c sp [] at st = absurd (omega (arith, at))
         go ts G w l c sp (m ∷ ms) at (more-methods s c₆ st) = rw (stops (body G c m) (λ _. bodies G c ms) (f.says ts G w l c sp m at s) is)
 
-    pub methods-next : {u : ℕ} → v ≡ Fine u → {next : ℕ} → next ≡ word_at tab c_next row → {r : Judged}
+    pub methods-next : v ≡ Ok tt → {next : ℕ} → next ≡ word_at tab c_next row → {r : Judged}
         → MethodsJudged tab n classes (left - 1) owner next r → MethodsJudged tab n classes left owner row r
     unfolding bodies
     methods-next is {next} e₆ {r} g = record { says = λ ts G w l c sp ms at st few. go ts G w l c sp ms at st few }
       where
         go : (ts : List Token) (G : List Class) → ClassTableHeld tab n ts G → length G ≡ classes → (c : List ℕ) → NameNumber ts c owner
             → (ms : List Method) → row_methods ms ≡ row → MethodsHeld tab n ts ms
-            → length ms ≤ left → r ≡ as_judged (bodies G c ms)
+            → length ms ≤ left → told r ≡ (bodies G c ms)
         go ts G w l c sp [] at st few = absurd (omega (arith, at))
         go ts G w l c sp (m ∷ ms) at (more-methods s c₆ st) few =
             rw (goes_on (body G c m) (λ _. bodies G c ms) (f.says ts G w l c sp m at s) is)
@@ -180,46 +183,46 @@ module _ {tab : List ℕ} {n classes row first : ℕ} (e₅ : first ≡ word_at 
     where
       go : (ts : List Token) (G : List Class) → ClassTableHeld tab n ts G → length G ≡ classes → (k : Class) → k.name.row ≡ row
           → ClassHeld tab n ts k
-          → r ≡ as_judged (bodies G k.name.text k.methods)
+          → told r ≡ (bodies G k.name.text k.methods)
       go ts G w l k at s =
           f.says ts G w l k.name.text
           (subst (NameNumber ts k.name.text) (ap (word_at tab c_number) at ∙ sym e₂) (name-word w.tokens k.name.row s.named.token))
           k.methods (leads w.tokens at s.named.token.there c_methods s.second e₅) s.methods s.few-methods
 
-  pub class-empty : absent ≤ first → ClassJudged tab n classes row (Fine 0)
+  pub class-empty : absent ≤ first → ClassJudged tab n classes row (Ok tt)
   class-empty far = class-judged refl (methods-end far)
 
 module _ {tab : List ℕ} {n classes left row : ℕ} where
-  pub classes-none : row < absent → left ≡ 0 → {number p : ℕ} → ClassesJudged tab n classes left row (Refused number p)
+  pub classes-none : row < absent → left ≡ 0 → {z : Refusal} → ClassesJudged tab n classes left row (Err z)
   classes-none near z = record { says = λ ts G w l ks h. absurd (none_left row_classes refl ks h.here h.few near z) }
 
-  pub classes-end : absent ≤ row → ClassesJudged tab n classes left row (Fine 0)
+  pub classes-end : absent ≤ row → ClassesJudged tab n classes left row (Ok tt)
   unfolding class_bodies
   classes-end far = record { says = λ ts G w l ks h. go ts G w ks h.here h.stand }
     where
       go : (ts : List Token) (G : List Class) → ClassTableHeld tab n ts G → (ks : List Class) → row_classes ks ≡ row
-          → ClassesHeld tab n ts ks → Fine 0 ≡ as_judged (class_bodies G ks)
+          → ClassesHeld tab n ts ks → told (Ok tt) ≡ (class_bodies G ks)
       go ts G w [] at st = refl
       go ts G w (k ∷ ks) at (more-classes s c₆ st) =
           absurd (omega (arith, at, row-there w.tokens k.name.row s.named.token.there))
 
   module _ (near : row < absent) {v : Judged} (f : ClassJudged tab n classes row v) where
-    pub classes-refused : {k p : ℕ} → v ≡ Refused k p → ClassesJudged tab n classes left row (Refused k p)
+    pub classes-refused : {z : Refusal} → v ≡ Err z → ClassesJudged tab n classes left row (Err z)
     unfolding class_bodies
-    classes-refused {k} {p} is = record { says = λ ts G w l ks h. go ts G w l ks h.here h.stand }
+    classes-refused {z = z} is = record { says = λ ts G w l ks h. go ts G w l ks h.here h.stand }
       where
         go : (ts : List Token) (G : List Class) → ClassTableHeld tab n ts G → length G ≡ classes → (ks : List Class)
-            → row_classes ks ≡ row → ClassesHeld tab n ts ks → Refused k p ≡ as_judged (class_bodies G ks)
+            → row_classes ks ≡ row → ClassesHeld tab n ts ks → told (Err z) ≡ (class_bodies G ks)
         go ts G w l [] at st = absurd (omega (arith, at))
         go ts G w l (c ∷ ks) at (more-classes s c₆ st) = rw (stops (bodies G c.name.text c.methods) (λ _. class_bodies G ks) (f.says ts G w l c at s) is)
 
-    pub classes-next : {u : ℕ} → v ≡ Fine u → {next : ℕ} → next ≡ word_at tab c_next row → {r : Judged}
+    pub classes-next : v ≡ Ok tt → {next : ℕ} → next ≡ word_at tab c_next row → {r : Judged}
         → ClassesJudged tab n classes (left - 1) next r → ClassesJudged tab n classes left row r
     unfolding class_bodies
     classes-next is {next} e₆ {r} g = record { says = λ ts G w l ks h. go ts G w l ks h.here h.stand h.few }
       where
         go : (ts : List Token) (G : List Class) → ClassTableHeld tab n ts G → length G ≡ classes → (ks : List Class)
-            → row_classes ks ≡ row → ClassesHeld tab n ts ks → length ks ≤ left → r ≡ as_judged (class_bodies G ks)
+            → row_classes ks ≡ row → ClassesHeld tab n ts ks → length ks ≤ left → told r ≡ (class_bodies G ks)
         go ts G w l [] at st few = absurd (omega (arith, at))
         go ts G w l (c ∷ ks) at (more-classes s c₆ st) few =
             rw (goes_on (bodies G c.name.text c.methods) (λ _. class_bodies G ks) (f.says ts G w l c at s) is)
@@ -237,7 +240,7 @@ none-listed tab n ts = record { at = refl; stand = no-variables; few = omega ari
 module _ {tab : List ℕ} {n classes from end : ℕ} (low : from ≡ main_row) (high : end ≡ n) {v : Judged}
     (f : StatementPost tab (main_scope n classes) from end main_row v) where
   main-settled : (ts : List Token) (p : Program) → Ready tab n ts p → length p.classes ≡ classes
-      → v ≡ as_judged (judge p.classes main_context p.statement)
+      → told v ≡ (judge p.classes main_context p.statement)
   main-settled ts p h l =
       f.says ts p.classes main_context
       (record {
@@ -252,12 +255,12 @@ module _ {tab : List ℕ} {n classes from end : ℕ} (low : from ≡ main_row) (
       })
       p.statement (rw (low, high) (record { at = h.row; holds = h.statement; matches = h.matches; within = h.statement-within }))
 
-  pub bodies-main : {k p : ℕ} → v ≡ Refused k p → BodiesJudged tab n classes (Refused k p)
+  pub bodies-main : {z : Refusal} → v ≡ Err z → BodiesJudged tab n classes (Err z)
   unfolding all_bodies
   bodies-main is =
       record { says = λ ts p h l. rw (stops (judge p.classes main_context p.statement) (λ _. class_bodies p.classes p.classes) (main-settled ts p h l) is) }
 
-  pub bodies-classes : {u : ℕ} → v ≡ Fine u → {first : ℕ} → first ≡ word_at tab c_next 0 → {r : Judged} → ClassesJudged tab n classes n first r
+  pub bodies-classes : v ≡ Ok tt → {first : ℕ} → first ≡ word_at tab c_next 0 → {r : Judged} → ClassesJudged tab n classes n first r
       → BodiesJudged tab n classes r
   unfolding all_bodies
   bodies-classes is e₆ g =

@@ -5,7 +5,7 @@ use mathlib.Core.Path.{◌≡◌, refl, sym, ap, ◌∙◌, subst}
 use mathlib.Core.List.{List, [], ◌∷◌}
 use lib.ListN.{length, replicate}
 use borrow.Author.Tests.{lt-ltb, le-ltb}
-use Rattle.base.specs.Codes.{table_least, tokens_most, table_too_short}
+use Rattle.base.specs.Codes.{table_least, tokens_most}
 use Rattle.base.specs.laws.Lists.{get_d-replicate-same}
 use Rattle.base.specs.Outcome.{Outcome, accepted, refused, ◌>>=◌}
 use Rattle.base.specs.laws.Tests.{apart}
@@ -17,28 +17,27 @@ use Rattle.parser.specs.Stream.{name_at}
 use Rattle.parser.specs.Grammar.{DerivesProgram, a_program}
 use Rattle.parser.specs.promises.Layout.{absent, row_classes}
 use Rattle.parser.specs.Read.{Reading, reading, table_after}
-use Rattle.reader.specs.declared.read.Filled.{Filled}
-use Rattle.reader.specs.declared.read.Filled.TheVariants.{Tree, Refused as notRead}
-use Rattle.reader.specs.promises.ReadPost.{Fills}
+use Rattle.reader.specs.declared.read.Counts.{Counts as TreeCounts}
+use Rattle.reader.specs.promises.ReadPost.{Fills, tree}
 use Rattle.typesystem.specs.Declarations.{distinct_classes, known_parents, ending_chains, declarations}
 use Rattle.typesystem.specs.Check.{all_bodies, judged, checking, check_answer, check, Checks}
 use Rattle.typing.specs.laws.Agreement.{program-acyclic}
 use Rattle.acceptance.specs.Read.{readable-exactly}
 use Rattle.acceptance.specs.Accepted.{allowed}
-use Rattle.lookup.specs.declared.answer.Judged.{Judged}
-use Rattle.lookup.specs.declared.answer.Judged.TheVariants.{Fine, Refused}
+use Rattle.std.specs.Prelude.{Result, Ok, Err}
+use Rattle.base.specs.declared.refusal.Reason.TheVariants as reason
+use Rattle.base.specs.declared.refusal.Refusal.{Refusal}
+use Rattle.base.specs.promises.Refusals.{number_of, refusal, Refuses}
+use Rattle.lookup.specs.promises.Answers.{Judged, Typed}
 use Rattle.lookup.specs.promises.HeldClasses.{word_at, Lexemes, ClassesHeld, no-classes, more-classes}
 use Rattle.lookup.specs.laws.HeldLaws.{word_in, row-there}
 use Rattle.lookup.specs.promises.Lookups.{Many, many-none, many_more, Counts}
-use Rattle.lookup.specs.promises.Answers.{as_judged, as_judged-fine, as_judged-refused, goes_on, stops}
+use Rattle.lookup.specs.promises.Answers.{told, told-fine, told-refused, goes_on, stops}
 use Rattle.declarations.specs.promises.Marking.{StampsBelow}
 use Rattle.declarations.specs.promises.Judgements.{ClassesAt, ParentsJudged, ChainsJudged, DeclarationsJudged}
 use Rattle.declarations.specs.promises.Indexing.{Ready, IndexMade}
-use Rattle.typecheck.specs.declared.check.Finding.{Finding}
-use Rattle.typecheck.specs.declared.check.Finding.TheVariants.{Program as found, Refused as declined}
-use Rattle.typecheck.specs.declared.check.CheckAnswer.{CheckAnswer}
 use Rattle.typecheck.specs.promises.MethodPost.{BodiesJudged}
-use Rattle.typecheck.specs.promises.CheckPost.{told, Holding, ProgramDecided, Checked, FindsProgram, Leaves, contents_of, ContentsJudged, chains_on, ChainedJudged, parents_on, IndexedJudged, TreeJudged, check_answer_of}
+use Rattle.typecheck.specs.promises.CheckPost.{Finding, found, Holding, ProgramDecided, Checked, FindsProgram, Leaves, contents_of, ContentsJudged, chains_on, ChainedJudged, parents_on, IndexedJudged, TreeJudged, check_answer_of}
 
 -- before the first list of members no name has a stamp
 pub zeros-below : (m : ℕ) → StampsBelow 1 (replicate m 0)
@@ -53,14 +52,14 @@ classes-at h e = record { here = e; stand = h.world.classes; few = h.world.few }
 
 module _ {tab : List ℕ} {n classes first : ℕ} {v : Judged} (f : DeclarationsJudged tab n classes n first v) where
   declared : (ts : List Token) (p : Program) → Ready tab n ts p → length p.classes ≡ classes → row_classes p.classes ≡ first
-      → v ≡ as_judged (declarations p.classes p.classes)
+      → told v ≡ (declarations p.classes p.classes)
   declared ts p h l e = f.says ts p.classes h.world l p.classes (classes-at h e) h.own
 
-  pub contents-refused : {k q : ℕ} → v ≡ Refused k q → ContentsJudged tab n classes first (Refused k q)
+  pub contents-refused : {z : Refusal} → v ≡ Err z → ContentsJudged tab n classes first (Err z)
   contents-refused is =
       record { says = λ ts p h l e. rw (stops (declarations p.classes p.classes) (λ _. all_bodies p) (declared ts p h l e) is) }
 
-  pub contents-bodies : {u : ℕ} → v ≡ Fine u → {r : Judged} → BodiesJudged tab n classes r → ContentsJudged tab n classes first r
+  pub contents-bodies : v ≡ Ok tt → {r : Judged} → BodiesJudged tab n classes r → ContentsJudged tab n classes first r
   contents-bodies is g =
       record { says = λ ts p h l e. rw (goes_on (declarations p.classes p.classes) (λ _. all_bodies p) (declared ts p h l e) is) (g.says ts p h l) }
 
@@ -68,14 +67,14 @@ module _ {tab : List ℕ} {n classes first : ℕ} {v : Judged} (f : Declarations
 
 module _ {tab : List ℕ} {n classes first : ℕ} {v : Judged} (f : ChainsJudged tab classes n first v) where
   chains-told : (ts : List Token) (p : Program) → Ready tab n ts p → length p.classes ≡ classes → row_classes p.classes ≡ first
-      → v ≡ as_judged (ending_chains p.classes p.classes)
+      → told v ≡ (ending_chains p.classes p.classes)
   chains-told ts p h l e = f.says n ts p.classes h.world l p.classes (classes-at h e)
 
-  pub chained_refused : {k q : ℕ} → v ≡ Refused k q → ChainedJudged tab n classes first (Refused k q)
+  pub chained_refused : {z : Refusal} → v ≡ Err z → ChainedJudged tab n classes first (Err z)
   chained_refused is =
       record { says = λ ts p h l e. rw (stops (ending_chains p.classes p.classes) (λ _. contents_of p) (chains-told ts p h l e) is) }
 
-  pub chained-contents : {u : ℕ} → v ≡ Fine u → {r : Judged} → ContentsJudged tab n classes first r → ChainedJudged tab n classes first r
+  pub chained-contents : v ≡ Ok tt → {r : Judged} → ContentsJudged tab n classes first r → ChainedJudged tab n classes first r
   chained-contents is g =
       record { says = λ ts p h l e. rw (goes_on (ending_chains p.classes p.classes) (λ _. contents_of p) (chains-told ts p h l e) is) (g.says ts p h l e) }
 
@@ -91,30 +90,30 @@ first-row : (tab : List ℕ) {n : ℕ} {ts : List Token} {p : Program} → Ready
 first-row tab h e = sym (e ∙ word_in tab c_next 0 (omega arith) h.first)
 
 module _ {tab : List ℕ} {n first : ℕ} (e₆ : first ≡ word_at tab c_next 0) {v : Judged} (f : ParentsJudged tab n first v) where
-  parents-told : (ts : List Token) (p : Program) → Ready tab n ts p → v ≡ as_judged (known_parents p.classes p.classes)
+  parents-told : (ts : List Token) (p : Program) → Ready tab n ts p → told v ≡ (known_parents p.classes p.classes)
   parents-told ts p h = f.says n ts p.classes h.world p.classes (classes-at h (first-row tab h e₆))
 
-  pub indexed-refused : {k q : ℕ} → v ≡ Refused k q → IndexedJudged tab n (declined k q)
+  pub indexed-refused : {z : Refusal} → v ≡ Err z → IndexedJudged tab n (Err z)
   indexed-refused is =
-      record { says = λ ts p h d. rw (as_judged-refused (known_parents p.classes p.classes) (parents-told ts p h) is) }
+      record { says = λ ts p h d. rw (told-refused (parents-told ts p h) is) }
 
-  module _ {u : ℕ} (is : v ≡ Fine u) {classes : ℕ} (many : Counts tab n first classes) {c : Judged} (g : ChainedJudged tab n classes first c) where
+  module _ (is : v ≡ Ok tt) {classes : ℕ} (many : Counts tab n first classes) {c : Judged} (g : ChainedJudged tab n classes first c) where
     counted : (ts : List Token) (p : Program) → Ready tab n ts p → length p.classes ≡ classes
     counted ts p h =
         sym (many.says (length p.classes)
         (subst (λ (i : ℕ). Many tab i (length p.classes)) (first-row tab h e₆) (many-classes h.world.tokens h.world.classes)) h.world.few)
 
-    later-told : (ts : List Token) (p : Program) → Ready tab n ts p → c ≡ as_judged (chains_on p)
+    later-told : (ts : List Token) (p : Program) → Ready tab n ts p → told c ≡ (chains_on p)
     later-told ts p h = g.says ts p h (counted ts p h) (first-row tab h e₆)
 
     known-told : (ts : List Token) (p : Program) → Ready tab n ts p → parents_on p ≡ (chains_on p >>= λ _. accepted p)
     known-told ts p h = goes_on (known_parents p.classes p.classes) (λ _. chains_on p >>= λ _. accepted p) (parents-told ts p h) is
 
-    pub indexed-later : {k q : ℕ} → c ≡ Refused k q → IndexedJudged tab n (declined k q)
+    pub indexed-later : {z : Refusal} → c ≡ Err z → IndexedJudged tab n (Err z)
     indexed-later is' =
         record { says = λ ts p h d. rw (known-told ts p h, stops (chains_on p) (λ _. accepted p) (later-told ts p h) is') }
 
-    pub indexed-found : {w : ℕ} → c ≡ Fine w → IndexedJudged tab n (found n classes)
+    pub indexed-found : c ≡ Ok tt → IndexedJudged tab n (found n classes)
     indexed-found is' =
         record {
           says = λ ts p h d. rw (known-told ts p h, goes_on (chains_on p) (λ _. accepted p) (later-told ts p h) is') (holding ts p h d);
@@ -143,29 +142,33 @@ stages p = ap (λ (o : Outcome Program). known_parents p.classes p.classes >>= �
     go (refused n q) b = refl
 
 module _ {n : ℕ} {before middle : List ℕ} {v : Judged} (f : IndexMade n before v middle) where
-  pub tree-refused : {k q : ℕ} → v ≡ Refused k q → TreeJudged n before (declined k q) middle
+  pub tree-refused : {z : Refusal} → v ≡ Err z → TreeJudged n before (Err z) middle
   unfolding judged
   tree-refused is =
       record {
         says = λ rd h l.
-            rw (as_judged-refused (distinct_classes (rd.tree.main.text ∷ []) rd.tree.classes) (f.says rd h l).0 is);
+            rw (told-refused (f.says rd h l).0 is);
       }
 
-  pub tree-indexed : {u : ℕ} → v ≡ Fine u → {r : Finding} → IndexedJudged middle n r → TreeJudged n before r middle
+  pub tree-indexed : v ≡ Ok tt → {r : Finding} → IndexedJudged middle n r → TreeJudged n before r middle
   unfolding judged
   tree-indexed is g =
       record {
         says = λ rd h l.
-            let d = as_judged-fine (distinct_classes (rd.tree.main.text ∷ []) rd.tree.classes) (f.says rd h l).0 is in
+            let d = told-fine (f.says rd h l).0 is in
             rw (d, stages rd.tree) (g.says rd.stream rd.tree ((f.says rd h l).1 d) h.derived);
       }
 
 -- THE SOURCE
 
 -- what is told of a finding that is right is what Check answers
-told-right : (s : List ℕ) (v : Outcome Program) (f : Finding) (tab : List ℕ) → FindsProgram s v f tab → told f ≡ check_answer v
-told-right s (accepted p) f tab h = ap told h.answer
-told-right s (refused n q) f tab h = ap told h
+told-right : (s : List ℕ) (v : Outcome Program) (f : Finding) (tab : List ℕ) → FindsProgram s v f tab → check_answer_of f ≡ check_answer v
+told-right s (accepted p) f tab h = ap check_answer_of h.answer
+told-right s (refused n q) (Ok z) tab h = apart (cc)
+told-right s (refused n q) (Err z) tab h =
+    let n' : number_of z.reason ≡ n = cc in
+    let q' : z.position ≡ q = cc in
+    λ i. record { number = n' i; position = q' i; classes = 0 }
 
 -- main's names are those of tokens 1 and 11
 main-names : {ts : List Token} {p : Program} → DerivesProgram ts p → (p.main ≡ name_at ts 1) × (p.parameter ≡ name_at ts 11)
@@ -192,76 +195,65 @@ promised s d p after e q h =
       ends = λ c g. (program-acyclic A.typed).ends c g;
     }
 
-module _ (s : List ℕ) (a : Filled) (middle : List ℕ) (f : Fills (reading s) a middle) where
-  finds-refused : (after : List ℕ) {n q : ℕ} → a ≡ notRead n q → FindsProgram s (checking s) (declined n q) after
-  unfolding checking
-  finds-refused after {n} {q} is = go (reading s) f
-    where
-      go : (o : Outcome Reading) → Fills o a middle → FindsProgram s (o >>= λ r. judged r.tree) (declined n q) after
-      go (accepted r) h = let z = h.0 in apart (cc)
-      go (refused k p) h = let z = h in cc
+module _ (s : List ℕ) (a : Result TreeCounts Refusal) (middle : List ℕ) (f : Fills (reading s) a middle) where
+  -- the number of tokens of the tree that was read
+  tokens-read : {m : TreeCounts} {n k : ℕ} → a ≡ Ok m → a ≡ tree n k → n ≡ m.tokens
+  tokens-read {m} {n} {k} is e =
+      let z : tree n k ≡ Ok m = sym e ∙ is in
+      let w : record { tokens = n; nodes = k } ≡ m = cc in
+      ap (λ (c : TreeCounts). c.tokens) w
 
-  finds-tree : {after : List ℕ} {n m : ℕ} → a ≡ Tree n m → {r : Finding} → TreeJudged n middle r after → FindsProgram s (checking s) r after
+  finds-refused : (after : List ℕ) (z : Refusal) → a ≡ Err z → FindsProgram s (checking s) (Err z) after
   unfolding checking
-  finds-tree {after} {n} {m} is {r} g = go (reading s) refl f
+  finds-refused after z is = go (reading s) f
+    where
+      go : (o : Outcome Reading) → Fills o a middle → FindsProgram s (o >>= λ r. judged r.tree) (Err z) after
+      go (accepted r) h = let w = h.0 in apart (cc)
+      go (refused k p) h = subst (λ (b : Result TreeCounts Refusal). Refuses b k p) is h
+
+  finds-tree : {after : List ℕ} {m : TreeCounts} → a ≡ Ok m → {r : Finding} → TreeJudged m.tokens middle r after → FindsProgram s (checking s) r after
+  unfolding checking
+  finds-tree {after} {m} is {r} g = go (reading s) refl f
     where
       go : (o : Outcome Reading) → reading s ≡ o → Fills o a middle → FindsProgram s (o >>= λ d. judged d.tree) r after
-      go (accepted d) e h = let z = h.0 in let l : length d.stream ≡ n = cc in by (judged d.tree) refl (g.says d h.1 l)
+      go (accepted d) e h = by (judged d.tree) refl (g.says d h.1 (tokens-read is h.0))
         where
           by : (v : Outcome Program) → judged d.tree ≡ v → ProgramDecided d.stream v r after → FindsProgram s v r after
           by (accepted p) q x = promised s d p after e q x
           by (refused k p) q x = x
-      go (refused k p) e h = let z = h in apart (cc)
+      go (refused k p) e h = let z = subst (λ (b : Result TreeCounts Refusal). Refuses b k p) is h in apart (cc)
 
-  pub find-refused : (after : List ℕ) {n q : ℕ} → a ≡ notRead n q → Leaves s (checking s) (declined n q) after
-  find-refused after {n} {q} is =
-      let x = finds-refused after is in
-      record { answers = told-right s (checking s) (declined n q) after x; finds = x }
+  pub find-refused : (after : List ℕ) (z : Refusal) → a ≡ Err z → Leaves s (checking s) (Err z) after
+  find-refused after z is =
+      let x = finds-refused after z is in
+      record { answers = told-right s (checking s) (Err z) after x; finds = x }
 
-  pub find-tree : {after : List ℕ} {n m : ℕ} → a ≡ Tree n m → {r : Finding} → TreeJudged n middle r after → Leaves s (checking s) r after
+  pub find-tree : {after : List ℕ} {m : TreeCounts} → a ≡ Ok m → {r : Finding} → TreeJudged m.tokens middle r after → Leaves s (checking s) r after
   find-tree {after} is {r} g =
       let x = finds-tree is g in
       record { answers = told-right s (checking s) r after x; finds = x }
 
   -- the bound that the table's functions ask for
-  pub find-few : {n m : ℕ} → a ≡ Tree n m → n ≤ tokens_most
-  find-few {n} {m} is = go (reading s) f
+  pub find-few : {m : TreeCounts} → a ≡ Ok m → m.tokens ≤ tokens_most
+  find-few {m} is = go (reading s) f
     where
-      go : (o : Outcome Reading) → Fills o a middle → n ≤ tokens_most
-      go (accepted d) h = let z = h.0 in let l : length d.stream ≡ n = cc in omega (arith, l, h.1.few)
-      go (refused k p) h = let z = h in apart (cc)
-
-  -- what is told of it
-  pub answer-refused : {n q : ℕ} → a ≡ notRead n q → {x : CheckAnswer} → check_answer_of x ≡ told (declined n q)
-      → check_answer_of x ≡ check_answer (checking s)
-  answer-refused is t = t ∙ (find-refused [] is).answers
-
-  pub answer-tree : {after : List ℕ} {n m : ℕ} → a ≡ Tree n m → {r : Finding} → TreeJudged n middle r after → {x : CheckAnswer}
-      → check_answer_of x ≡ told r → check_answer_of x ≡ check_answer (checking s)
-  answer-tree is g t = t ∙ (find-tree is g).answers
+      go : (o : Outcome Reading) → Fills o a middle → m.tokens ≤ tokens_most
+      go (accepted d) h = omega (arith, tokens-read is h.0, h.1.few)
+      go (refused k p) h = let z = subst (λ (b : Result TreeCounts Refusal). Refuses b k p) is h in apart (cc)
 
 -- THE OPERATION
 
 module _ (s table : List ℕ) where
-  pub check-short : {r : CheckAnswer} → length table < table_least → r.number ≡ table_too_short → r.position ≡ 0 → r.classes ≡ 0
-      → Checks s table (check_answer_of r) table
+  pub check-short : length table < table_least → Checks s table (check_answer_of (refusal reason.TableTooShort 0)) table
   unfolding check table_after
-  check-short h e₁ e₂ e₃ =
-      record { answer = rw (lt-ltb (length table) table_least h, e₁, e₂, e₃); table = rw (lt-ltb (length table) table_least h) }
+  check-short h = record { answer = rw (lt-ltb (length table) table_least h); table = rw (lt-ltb (length table) table_least h) }
 
-  pub check_done : (r : CheckAnswer) (middle : List ℕ) {after : List ℕ} → table_least ≤ length table → length middle ≡ length table
+  pub check_done : (r : Finding) (middle : List ℕ) {after : List ℕ} → table_least ≤ length table → length middle ≡ length table
       → after ≡ replicate (length middle) 0
-      → check_answer_of r ≡ check_answer (checking s) → Checks s table (check_answer_of r) after
+      → Leaves s (checking s) r middle → Checks s table (check_answer_of r) after
   unfolding check table_after
   check_done r middle long same zero m =
-      record { answer = rw (le-ltb (length table) table_least long) m; table = rw (le-ltb (length table) table_least long) (zero ∙ ap (λ (k : ℕ). replicate k 0) same) }
-
--- THE ANSWER
-
-pub told-found : {f : Finding} {n k : ℕ} → f ≡ found n k → {r : CheckAnswer} → r.number ≡ 0 → r.position ≡ 0 → r.classes ≡ k
-    → check_answer_of r ≡ told f
-told-found is e₁ e₂ e₃ = rw (is, e₁, e₂, e₃)
-
-pub told-unfit : {f : Finding} {n q : ℕ} → f ≡ declined n q → {r : CheckAnswer} → r.number ≡ n → r.position ≡ q → r.classes ≡ 0
-    → check_answer_of r ≡ told f
-told-unfit is e₁ e₂ e₃ = rw (is, e₁, e₂, e₃)
+      record {
+        answer = rw (le-ltb (length table) table_least long) m.answers;
+        table = rw (le-ltb (length table) table_least long) (zero ∙ ap (λ (k : ℕ). replicate k 0) same);
+      }

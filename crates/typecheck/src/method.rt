@@ -9,13 +9,12 @@ ghost use Rattle.bodies.specs.promises.Scoping.{Judgeable};
 ghost use Rattle.typecheck.specs.promises.MethodPost.{CarriedJudged, BodyJudged, MethodsJudged, ClassJudged, ClassesJudged};
 ghost use Rattle.typecheck.specs.promises.MethodPost.{BodiesJudged};
 
-use base::codes::BROKEN;
+use base::refusal::{Reason, Refusal};
 use bodies::expr::operand;
 use bodies::range::onward;
 use bodies::scope::Scope;
 use bodies::stmt;
 use declarations::variables::variables;
-use lookup::answer::Judged;
 use lookup::fields::fill;
 use lookup::member::count;
 use lookup::rows::word;
@@ -24,25 +23,27 @@ use parser::columns;
 use parser::columns::{ABSENT, NEXT};
 
 // Statements and return expression of a method: the row after that of its name leads to them, and they lie behind its name.
-fn carried(table: &[u32], fields: &[u32], s: Scope, row: usize) -> Judged
+fn carried(table: &[u32], fields: &[u32], s: Scope, row: usize) -> Result<(), Refusal>
     requires { Judgeable table.now fields.now s × (row < modulus) }
     ensures { CarriedJudged table.now s row result }
 {
     let r = onward(s, row);
     let first = word(table, columns::BODY, row + 1);
-    let b = stmt::list(table, fields, s, r, first);
-    match b {
-        Judged::Fine(_) => {
-            let want = type_of(table, s.tokens, word(table, columns::TYPE, row));
-            let value = word(table, columns::VALUE, row + 1);
-            operand(table, fields, s, r, value, want)
-        }
-        Judged::Refused(number, at) => Judged::Refused(number, at),
-    }
+    stmt::list(table, fields, s, r, first)?;
+    let want = type_of(table, s.tokens, word(table, columns::TYPE, row));
+    let value = word(table, columns::VALUE, row + 1);
+    operand(table, fields, s, r, value, want)
 }
 
 // The body of a method in the class whose name has the number `owner`.
-fn body(table: &[u32], fields: &[u32], n: usize, classes: usize, owner: usize, row: usize) -> Judged
+fn body(
+    table: &[u32],
+    fields: &[u32],
+    n: usize,
+    classes: usize,
+    owner: usize,
+    row: usize,
+) -> Result<(), Refusal>
     requires { Walkable table.now n × (fields_least ≤ length fields.now) × FieldsHeld table.now n classes owner fields.now
         × (row < modulus) }
     ensures { BodyJudged table.now n classes owner row result }
@@ -50,20 +51,15 @@ fn body(table: &[u32], fields: &[u32], n: usize, classes: usize, owner: usize, r
     let parameters = word(table, columns::PARAMETERS, row);
     let locals = word(table, columns::LOCALS, row);
     let before = count(table, n, parameters);
-    let v = variables(table, n, n, parameters, before, locals, 0, locals);
-    match v {
-        Judged::Fine(_) => {
-            let s = Scope {
-                tokens: n,
-                classes: classes,
-                owner: owner,
-                parameters: parameters,
-                locals: locals,
-            };
-            carried(table, fields, s, row)
-        }
-        Judged::Refused(number, at) => Judged::Refused(number, at),
-    }
+    variables(table, n, n, parameters, before, locals, 0, locals)?;
+    let s = Scope {
+        tokens: n,
+        classes: classes,
+        owner: owner,
+        parameters: parameters,
+        locals: locals,
+    };
+    carried(table, fields, s, row)
 }
 
 // The bodies of the methods from a row on.
@@ -75,34 +71,38 @@ fn methods(
     left: usize,
     owner: usize,
     row: usize,
-) -> Judged
+) -> Result<(), Refusal>
     requires { Walkable table.now n × (fields_least ≤ length fields.now) × FieldsHeld table.now n classes owner fields.now }
     ensures { MethodsJudged table.now n classes left owner row result }
 {
     if ABSENT <= row {
-        return Judged::Fine(0);
+        return Ok(());
     }
     if left == 0 {
-        return Judged::Refused(BROKEN, 0);
+        return Err(Refusal {
+            reason: Reason::Broken,
+            position: 0,
+        });
     }
-    let b = body(table, fields, n, classes, owner, row);
-    match b {
-        Judged::Fine(_) => {
-            let next = word(table, NEXT, row);
-            methods(table, fields, n, classes, left - 1, owner, next)
-        }
-        Judged::Refused(number, at) => Judged::Refused(number, at),
-    }
+    body(table, fields, n, classes, owner, row)?;
+    let next = word(table, NEXT, row);
+    methods(table, fields, n, classes, left - 1, owner, next)
 }
 
 // The bodies of the class in a row.
-fn of_class(table: &[u32], fields: &mut [u32], n: usize, classes: usize, row: usize) -> Judged
+fn of_class(
+    table: &[u32],
+    fields: &mut [u32],
+    n: usize,
+    classes: usize,
+    row: usize,
+) -> Result<(), Refusal>
     requires { Walkable table.now n × (fields_least ≤ length fields.old) × (classes ≤ rows) }
     ensures { ClassJudged table.now n classes row result }
 {
     let first = word(table, columns::METHODS, row);
     if ABSENT <= first {
-        return Judged::Fine(0);
+        return Ok(());
     }
     let owner = word(table, columns::NUMBER, row);
     fill(table, fields, n, classes, owner);
@@ -117,25 +117,25 @@ fn all(
     classes: usize,
     left: usize,
     row: usize,
-) -> Judged
+) -> Result<(), Refusal>
     requires { Walkable table.now n × (fields_least ≤ length fields.old) × (classes ≤ rows) }
     ensures { ClassesJudged table.now n classes left row result }
 {
     if ABSENT <= row {
-        return Judged::Fine(0);
+        return Ok(());
     }
     if left == 0 {
-        return Judged::Refused(BROKEN, 0);
+        return Err(Refusal {
+            reason: Reason::Broken,
+            position: 0,
+        });
     }
-    let c = of_class(table, fields, n, classes, row);
-    match c {
-        Judged::Fine(_) => all(table, fields, n, classes, left - 1, word(table, NEXT, row)),
-        Judged::Refused(number, at) => Judged::Refused(number, at),
-    }
+    of_class(table, fields, n, classes, row)?;
+    all(table, fields, n, classes, left - 1, word(table, NEXT, row))
 }
 
 // All bodies, main first: its statement stands in row 14, and it sees no fields.
-pub fn bodies(table: &[u32], n: usize, classes: usize) -> Judged
+pub fn bodies(table: &[u32], n: usize, classes: usize) -> Result<(), Refusal>
     requires { Walkable table.now n × (classes ≤ rows) }
     ensures { BodiesJudged table.now n classes result }
 {
@@ -149,16 +149,13 @@ pub fn bodies(table: &[u32], n: usize, classes: usize) -> Judged
         locals: ABSENT,
     };
     let r = onward(s, columns::MAIN_STATEMENT);
-    let m = stmt::single(table, &fields, s, r, columns::MAIN_STATEMENT);
-    match m {
-        Judged::Fine(_) => all(
-            table,
-            &mut fields,
-            n,
-            classes,
-            n,
-            word(table, NEXT, columns::CLASS_LIST),
-        ),
-        Judged::Refused(number, at) => Judged::Refused(number, at),
-    }
+    stmt::single(table, &fields, s, r, columns::MAIN_STATEMENT)?;
+    all(
+        table,
+        &mut fields,
+        n,
+        classes,
+        n,
+        word(table, NEXT, columns::CLASS_LIST),
+    )
 }

@@ -25,8 +25,10 @@ use Rattle.parser.specs.promises.Post.{kind_in_table, is_atom_lem}
 use Rattle.reader.specs.promises.Matches.{operator_kind}
 use Rattle.typesystem.specs.ClassTable.{Context, meaning, fields_of}
 use Rattle.typesystem.specs.Judge.{arity, judge}
-use Rattle.lookup.specs.declared.answer.Judged.{Judged}
-use Rattle.lookup.specs.declared.answer.Judged.TheVariants.{Fine, Refused}
+use Rattle.std.specs.Prelude.{Result, Ok, Err}
+use Rattle.base.specs.declared.refusal.Reason.TheVariants as reason
+use Rattle.base.specs.declared.refusal.Refusal.{Refusal}
+use Rattle.lookup.specs.promises.Answers.{Judged, Typed}
 use Rattle.lookup.specs.promises.Answers.{Judges, well, ill}
 use Rattle.lookup.specs.promises.HeldClasses.{word_at, NameNumber, Lexemes, code_fixed, code-plain, number_of_fixed}
 use Rattle.lookup.specs.laws.HeldLaws.{same_codes, other-codes}
@@ -363,7 +365,7 @@ times-code G Γ l times is {b} e = rw (sym e) (by b)
 
 -- whether an answer is that for fixed
 judged-fixed : {tab : List ℕ} {n : ℕ} {ts : List Token} → Lexemes tab n ts → {o : Outcome Ty} {v : Judged} {t : ℕ} → Judges ts o v
-    → v ≡ Fine t → eqb t number_of_fixed ≡ judged_fixed o
+    → v ≡ Ok t → eqb t number_of_fixed ≡ judged_fixed o
 judged-fixed lx {t = t} (well {w = w} d) is =
     let z : w ≡ t = cc in
     rw (sym z) (elim (ℕ_discrete w number_of_fixed) [
@@ -372,7 +374,7 @@ judged-fixed lx {t = t} (well {w = w} d) is =
     ])
 judged-fixed lx ill is = apart (cc)
 
-judged-none : {ts : List Token} {o : Outcome Ty} {v : Judged} {n p : ℕ} → Judges ts o v → v ≡ Refused n p → false ≡ judged_fixed o
+judged-none : {ts : List Token} {o : Outcome Ty} {v : Judged} {z : Refusal} → Judges ts o v → v ≡ Err z → false ≡ judged_fixed o
 judged-none (well d) is = apart (cc)
 judged-none ill is = refl
 
@@ -382,14 +384,14 @@ module _ {tab : List ℕ} {s : Scope} {k row : ℕ} where
 
   module _ (times : k ≡ k_times) {from end : ℕ} (low : from ≡ 0) (high : end ≡ s.tokens) {v : Judged}
       (f : Bodies.ExpressionPost tab s from end row v) where
-    pub scales-judged : {t : ℕ} → v ≡ Fine t → ScalesPost tab s k row (eqb t number_of_fixed)
+    pub scales-judged : {t : ℕ} → v ≡ Ok t → ScalesPost tab s k row (eqb t number_of_fixed)
     scales-judged fine =
         record {
           says = λ ts G Γ w o is l h.
               times-code G Γ l o (sym is ∙ times) (judged-fixed w.world.tokens (f.says ts G Γ w l (rw (low, high) h)) fine);
         }
 
-    pub scales-refused : {n p : ℕ} → v ≡ Refused n p → ScalesPost tab s k row false
+    pub scales-refused : {z : Refusal} → v ≡ Err z → ScalesPost tab s k row false
     scales-refused wrong =
         record { says = λ ts G Γ w o is l h. times-code G Γ l o (sym is ∙ times) (judged-none (f.says ts G Γ w l (rw (low, high) h)) wrong) }
 

@@ -11,10 +11,13 @@ use Rattle.parser.specs.promises.Post.{kind_in_table}
 use Rattle.reader.specs.promises.Spans.{Among}
 use Rattle.typesystem.specs.ClassTable.{Context, method_of}
 use Rattle.typesystem.specs.Judge.{judge, must, for_array, arity, invocation, look_up}
-use Rattle.lookup.specs.declared.answer.Judged.{Judged}
-use Rattle.lookup.specs.declared.answer.Judged.TheVariants.{Fine, Refused}
+use Rattle.std.specs.Prelude.{Result, Ok, Err}
+use Rattle.base.specs.declared.refusal.Reason.TheVariants as reason
+use Rattle.base.specs.declared.refusal.Refusal.{Refusal}
+use Rattle.base.specs.promises.Refusals.{number_of}
+use Rattle.lookup.specs.promises.Answers.{Judged, Typed}
 use Rattle.lookup.specs.promises.HeldClasses.{word_at, NameNumber, Codes, ListedAt, ClassTableHeld}
-use Rattle.lookup.specs.promises.Answers.{as_judged, Judges}
+use Rattle.lookup.specs.promises.Answers.{told, Judges}
 use Rattle.lookup.specs.promises.Shows.{PartAt, Form, a_new_array, a_length, form_atom, form_compound}
 use Rattle.bodies.specs.declared.scope.Scope.{Scope}
 use Rattle.bodies.specs.promises.Scoping.{InScope, PartIn, ShowsIn}
@@ -25,69 +28,64 @@ pub record Invoked (tab : List ℕ) (ts : List Token) (first end row : ℕ) (m :
   pub start : word_at tab c_start (row + 1) ≡ m.start
   pub given : PartIn tab ts (word_at tab c_second row) first end es
 
--- the answer for a node of this type, by that for its last part
-pub data TypedPost (t : ℕ) (part : Judged) : Judged → Type 0 where
-  typed-fine : {u : ℕ} → part ≡ Fine u → TypedPost t part (Fine t)
-  typed-refused : {n p : ℕ} → part ≡ Refused n p → TypedPost t part (Refused n p)
-
 module _ (tab : List ℕ) (s : Scope) where
   -- a name, which is a whole expression or the target of an assignment
-  pub record NamePost (row : ℕ) (r : Judged) : Type 0 where
+  pub record NamePost (row : ℕ) (r : Typed) : Type 0 where
     pub says : (ts : List Token) (G : List Class) (Γ : Context) → InScope tab ts G Γ s → (p : Place) (x : List ℕ)
         → word_at tab c_begin row ≡ p.start → NameNumber ts x (word_at tab c_number row) → Judges ts (look_up G Γ p x) r
 
-  pub record ThisPost (row : ℕ) (r : Judged) : Type 0 where
+  pub record ThisPost (row : ℕ) (r : Typed) : Type 0 where
     pub says : (ts : List Token) (G : List Class) (Γ : Context) → InScope tab ts G Γ s → (p : Place) → word_at tab c_begin row ≡ p.start
         → Judges ts (judge G Γ (this p)) r
 
   -- an expression whose row shows this form
-  abbrev pub NodeJudged : Form → (first end row : ℕ) → Judged → Type 0
+  abbrev pub NodeJudged : Form → (first end row : ℕ) → Typed → Type 0
   NodeJudged F first end row r =
       (ts : List Token) (G : List Class) (Γ : Context) → InScope tab ts G Γ s → (e : Expression)
       → ShowsIn tab ts s.tokens first end row F e → Judges ts (judge G Γ e) r
 
-  pub record NodePost (F : Form) (first end row : ℕ) (r : Judged) : Type 0 where
+  pub record NodePost (F : Form) (first end row : ℕ) (r : Typed) : Type 0 where
     pub says : NodeJudged F first end row r
 
   -- an expression of one token, of this kind
-  pub record AtomPost (kind row : ℕ) (r : Judged) : Type 0 where
+  pub record AtomPost (kind row : ℕ) (r : Typed) : Type 0 where
     pub says : (first end : ℕ) → NodeJudged (form_atom kind) first end row r
 
   -- `new` and `.`, each of which begins two forms
-  abbrev pub CreationPost : (first end row : ℕ) → Judged → Type 0
+  abbrev pub CreationPost : (first end row : ℕ) → Typed → Type 0
   CreationPost first end row r =
       NodePost (form_compound k_new (kind_in_table tab s.tokens (row + 1)) (kind_in_table tab s.tokens (row + 2))) first end row r
 
-  abbrev pub DottedPost : (first end row : ℕ) → Judged → Type 0
+  abbrev pub DottedPost : (first end row : ℕ) → Typed → Type 0
   DottedPost first end row r =
       NodePost (form_compound k_dot (kind_in_table tab s.tokens (row + 1)) (kind_in_table tab s.tokens (row + 2))) first end row r
 
   -- an expression in any row; one that is fine lies in the range
-  pub record ExpressionPost (first end row : ℕ) (r : Judged) : Type 0 where
-    pub among : {t : ℕ} → r ≡ Fine t → Among first end row
+  pub record ExpressionPost (first end row : ℕ) (r : Typed) : Type 0 where
+    pub among : {t : ℕ} → r ≡ Ok t → Among first end row
     pub says : (ts : List Token) (G : List Class) (Γ : Context) → InScope tab ts G Γ s → (e : Expression) → PartIn tab ts row first end e
         → Judges ts (judge G Γ e) r
 
   -- an expression that must fit a type
   pub record OperandPost (first end row want : ℕ) (r : Judged) : Type 0 where
-    pub among : {t : ℕ} → r ≡ Fine t → Among first end row
+    pub among : r ≡ Ok tt → Among first end row
     pub says : (ts : List Token) (G : List Class) (Γ : Context) → InScope tab ts G Γ s → (e : Expression) → PartIn tab ts row first end e
-        → (t : Ty) → Codes ts t want → r ≡ as_judged (judge G Γ e >>= λ u. must G e t u)
+        → (t : Ty) → Codes ts t want → told r ≡ (judge G Γ e >>= λ u. must G e t u)
 
   -- an expression that must be an array, with the type of what it holds
-  pub record ArrayPost (first end row : ℕ) (r : Judged) : Type 0 where
+  pub record ArrayPost (first end row : ℕ) (r : Typed) : Type 0 where
     pub says : (ts : List Token) (G : List Class) (Γ : Context) → InScope tab ts G Γ s → (e : Expression) → PartIn tab ts row first end e
         → Judges ts (judge G Γ e >>= λ t. for_array (place_e e).start t λ u. accepted (plain u)) r
 
   -- `new T[e]`, which begins with its own token, and `e.length`, of which no part stands behind it
-  pub record NewArrayPost (end row : ℕ) (r : Judged) : Type 0 where
+  pub record NewArrayPost (end row : ℕ) (r : Typed) : Type 0 where
     pub says : (first : ℕ) → NodeJudged a_new_array first end row r
 
-  pub record LengthPost (first row : ℕ) (r : Judged) : Type 0 where
+  pub record LengthPost (first row : ℕ) (r : Typed) : Type 0 where
     pub says : (end : ℕ) → NodeJudged a_length first end row r
 
   -- the method and the arguments, where the receiver's class has this name
-  pub record InvocationPost (first end row c : ℕ) (r : Judged) : Type 0 where
+  pub record InvocationPost (first end row c : ℕ) (r : Typed) : Type 0 where
     pub says : (ts : List Token) (G : List Class) (Γ : Context) → InScope tab ts G Γ s → (m : Name) (es : Part arguments)
         → Invoked tab ts first end row m es → (name : List ℕ) → NameNumber ts name c
         → Judges ts (invocation m (arity es) (judge G Γ es) (method_of G name m.text)) r
@@ -96,10 +94,10 @@ module _ (tab : List ℕ) (s : Scope) where
   pub record ArgumentsPost (first end row parameter : ℕ) (r : Judged) : Type 0 where
     pub says : (ts : List Token) (G : List Class) (Γ : Context) → InScope tab ts G Γ s → (es : Part arguments)
         → PartIn tab ts row first end es → (n : ℕ) (vs : List Variable) → ListedAt tab n ts parameter vs → arity es ≡ length vs
-        → r ≡ as_judged (judge G Γ es vs)
+        → told r ≡ (judge G Γ es vs)
 
 -- `new C()`, in a table of n tokens
-pub record ObjectPost (tab : List ℕ) (n row : ℕ) (r : Judged) : Type 0 where
+pub record ObjectPost (tab : List ℕ) (n row : ℕ) (r : Typed) : Type 0 where
   pub says : (ts : List Token) (G : List Class) → ClassTableHeld tab n ts G → (Γ : Context) (p : Place) (c : Name)
       → NameNumber ts c.text (word_at tab c_number (row + 1)) → word_at tab c_start (row + 1) ≡ c.start → Judges ts (judge G Γ (new_object_lem p c)) r
 

@@ -7,10 +7,13 @@ use Rattle.parser.specs.Tree.{Sort.statements, Part, Expression, Statement, Elem
 use Rattle.reader.specs.promises.Spans.{Among}
 use Rattle.typesystem.specs.ClassTable.{Context}
 use Rattle.typesystem.specs.Judge.{judge, must}
-use Rattle.lookup.specs.declared.answer.Judged.{Judged}
-use Rattle.lookup.specs.declared.answer.Judged.TheVariants.{Fine}
+use Rattle.std.specs.Prelude.{Result, Ok, Err}
+use Rattle.base.specs.declared.refusal.Reason.TheVariants as reason
+use Rattle.base.specs.declared.refusal.Refusal.{Refusal}
+use Rattle.base.specs.promises.Refusals.{number_of}
+use Rattle.lookup.specs.promises.Answers.{Judged, Typed}
 use Rattle.lookup.specs.promises.HeldClasses.{word_at, Codes}
-use Rattle.lookup.specs.promises.Answers.{as_judged}
+use Rattle.lookup.specs.promises.Answers.{told}
 use Rattle.lookup.specs.promises.Shows.{Form}
 use Rattle.bodies.specs.declared.scope.Scope.{Scope}
 use Rattle.bodies.specs.promises.Scoping.{InScope, PartIn, ShowsStatement}
@@ -18,19 +21,19 @@ use Rattle.bodies.specs.promises.Scoping.{InScope, PartIn, ShowsStatement}
 module _ (tab : List ℕ) (s : Scope) where
   -- a statement in any row; one that is fine lies in the range
   pub record StatementPost (first end row : ℕ) (r : Judged) : Type 0 where
-    pub among : {t : ℕ} → r ≡ Fine t → Among first end row
+    pub among : r ≡ Ok tt → Among first end row
     pub says : (ts : List Token) (G : List Class) (Γ : Context) → InScope tab ts G Γ s → (t : Statement) → PartIn tab ts row first end t
-        → r ≡ as_judged (judge G Γ t)
+        → told r ≡ (judge G Γ t)
 
   pub record ListPost (first end row : ℕ) (r : Judged) : Type 0 where
     pub says : (ts : List Token) (G : List Class) (Γ : Context) → InScope tab ts G Γ s → (ss : Part statements)
-        → PartIn tab ts row first end ss → r ≡ as_judged (judge G Γ ss)
+        → PartIn tab ts row first end ss → told r ≡ (judge G Γ ss)
 
   -- a statement whose row shows this form, and whose parts lie among the tokens from `first` up to `end`
   abbrev pub StatementJudged : Form → (first end row : ℕ) → Judged → Type 0
   StatementJudged F first end row r =
       (ts : List Token) (G : List Class) (Γ : Context) → InScope tab ts G Γ s → (t : Statement) → ShowsStatement tab ts first end row F t
-      → r ≡ as_judged (judge G Γ t)
+      → told r ≡ (judge G Γ t)
 
   pub record StatementNodePost (F : Form) (first end row : ℕ) (r : Judged) : Type 0 where
     pub says : StatementJudged F first end row r
@@ -39,11 +42,11 @@ module _ (tab : List ℕ) (s : Scope) where
   pub record BranchesPost (first end row : ℕ) (r : Judged) : Type 0 where
     pub says : (ts : List Token) (G : List Class) (Γ : Context) → InScope tab ts G Γ s → (a b : Statement)
         → PartIn tab ts (word_at tab c_second row) first end a → PartIn tab ts (word_at tab c_third row) first end b
-        → r ≡ as_judged (judge G Γ a >>= λ _. judge G Γ b)
+        → told r ≡ (judge G Γ a >>= λ _. judge G Γ b)
 
   -- index, and value of an element of this type; register and value of a put
   pub record ValuePost (first end row want : ℕ) (r : Judged) : Type 0 where
     pub says : (ts : List Token) (G : List Class) (Γ : Context) → InScope tab ts G Γ s → (i e : Expression)
         → PartIn tab ts (word_at tab c_first row) first end i → PartIn tab ts (word_at tab c_second row) first end e
         → (t : Ty) → Codes ts t want
-        → r ≡ as_judged (judge G Γ i >>= λ u. must G i (plain int) u >>= λ _. judge G Γ e >>= λ u. must G e t u)
+        → told r ≡ (judge G Γ i >>= λ u. must G i (plain int) u >>= λ _. judge G Γ e >>= λ u. must G e t u)

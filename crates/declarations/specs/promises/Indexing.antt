@@ -18,9 +18,13 @@ use Rattle.reader.specs.promises.Matches.{NameMatches, Matches}
 use Rattle.reader.specs.promises.ReadPost.{Filling}
 use Rattle.typesystem.specs.Declarations.{distinct_classes}
 use Rattle.typesystem.specs.TypingRules.{class_name}
-use Rattle.lookup.specs.declared.answer.Judged.{Judged}
+use Rattle.std.specs.Prelude.{Result, Ok, Err}
+use Rattle.base.specs.declared.refusal.Reason.TheVariants as reason
+use Rattle.base.specs.declared.refusal.Refusal.{Refusal}
+use Rattle.base.specs.promises.Refusals.{number_of}
+use Rattle.lookup.specs.promises.Answers.{Judged, Typed}
 use Rattle.lookup.specs.promises.HeldClasses.{Lexemes, NameNumber, Indexed, ClassTableHeld}
-use Rattle.lookup.specs.promises.Answers.{as_judged}
+use Rattle.lookup.specs.promises.Answers.{told}
 use Rattle.declarations.specs.promises.Earlier.{onto}
 use Rattle.declarations.specs.promises.Judgements.{FoundByName}
 
@@ -62,7 +66,7 @@ pub record EntriesMade (main left row : ℕ) (before : List ℕ) (r : Judged) (a
   pub says : (n : ℕ) (ts : List Token) → Lexemes before n ts → (top : List ℕ) → NameNumber ts top main → (js : List Class)
       → Shown before ts js
       → (ks : List Class) → row_classes ks ≡ row → ClassesNamed before ts ks → length ks ≤ left
-      → (r ≡ as_judged (distinct_classes (onto (top ∷ []) (map class_name js)) ks))
+      → (told r ≡ (distinct_classes (onto (top ∷ []) (map class_name js)) ks))
       × (distinct_classes (onto (top ∷ []) (map class_name js)) ks ≡ accepted tt → ColumnsKept ts before after × Indexed after ts (js ++ ks))
 
 -- THE INDEX
@@ -81,5 +85,5 @@ pub record Ready (tab : List ℕ) (n : ℕ) (ts : List Token) (p : Program) : Ty
 -- 20, and where that accepts, the table is ready
 pub record IndexMade (n : ℕ) (before : List ℕ) (r : Judged) (after : List ℕ) : Type 0 where
   pub says : (rd : Reading) → Filling before rd → length rd.stream ≡ n
-      → (r ≡ as_judged (distinct_classes (rd.tree.main.text ∷ []) rd.tree.classes))
+      → (told r ≡ (distinct_classes (rd.tree.main.text ∷ []) rd.tree.classes))
       × (distinct_classes (rd.tree.main.text ∷ []) rd.tree.classes ≡ accepted tt → Ready after n rd.stream rd.tree)

@@ -12,10 +12,13 @@ use Rattle.reader.specs.promises.Matches.{TypeMatches}
 use Rattle.typesystem.specs.ClassTable.{class_named, underlying, known, occurs, text_of}
 use Rattle.typesystem.specs.Declarations.{known_type, known_parents, ending_chains, fields, variables, same_types_lem, redeclares, redeclaration, new_method, heads, declarations}
 use Rattle.typesystem.specs.TypingRules.{method_name}
-use Rattle.lookup.specs.declared.answer.Judged.{Judged}
-use Rattle.lookup.specs.declared.answer.Judged.TheVariants.{Fine}
+use Rattle.std.specs.Prelude.{Result, Ok, Err}
+use Rattle.base.specs.declared.refusal.Reason.TheVariants as reason
+use Rattle.base.specs.declared.refusal.Refusal.{Refusal}
+use Rattle.base.specs.promises.Refusals.{number_of}
+use Rattle.lookup.specs.promises.Answers.{Judged, Typed}
 use Rattle.lookup.specs.promises.HeldClasses.{Lexemes, MaybeNumber, VariablesHeld, MethodHeld, ClassHeld, ClassesHeld, ClassTableHeld, parent_name}
-use Rattle.lookup.specs.promises.Answers.{as_judged}
+use Rattle.lookup.specs.promises.Answers.{told}
 use Rattle.declarations.specs.promises.Marking.{StampsBelow, Stays, Marked}
 use Rattle.declarations.specs.promises.Earlier.{onto, VariablesListed, Along, FieldsAt, MethodAt, MethodsAt}
 
@@ -29,7 +32,7 @@ pub record FieldsJudged (tab : List ℕ) (n left stamp row : ℕ) (before after 
   pub below : Stays stamp before after
   pub says : (ts : List Token) (G : List Class) → ClassTableHeld tab n ts G → (earlier : List (List ℕ)) (vs : List Variable)
       → FieldsAt tab ts before stamp earlier vs left row
-      → r ≡ as_judged (fields G earlier vs)
+      → told r ≡ (fields G earlier vs)
 
 -- one parameter or local: 24, 27, 28
 unfoldable pub new_variable : List Class → (earlier : List (List ℕ)) → Variable → Outcome (Unit {0})
@@ -42,12 +45,12 @@ new_variable G earlier v =
 pub record VariableJudged (tab : List ℕ) (n others before first index row : ℕ) (r : Judged) : Type 0 where
   pub says : (ts : List Token) (G : List Class) → ClassTableHeld tab n ts G → (ps : List Variable) → VariablesListed tab ts ps others before
       → (us : List Variable) (v : Variable) (vs : List Variable) → Along tab ts us (v ∷ vs) first index row
-      → r ≡ as_judged (new_variable G (onto (map text_of ps) (map text_of us)) v)
+      → told r ≡ (new_variable G (onto (map text_of ps) (map text_of us)) v)
 
 pub record VariablesJudged (tab : List ℕ) (n left others before first index row : ℕ) (r : Judged) : Type 0 where
   pub says : (ts : List Token) (G : List Class) → ClassTableHeld tab n ts G → (ps : List Variable) → VariablesListed tab ts ps others before
       → (us vs : List Variable) → Along tab ts us vs first index row → length vs ≤ left
-      → r ≡ as_judged (variables G (onto (map text_of ps) (map text_of us)) vs)
+      → told r ≡ (variables G (onto (map text_of ps) (map text_of us)) vs)
 
 -- METHOD HEADS
 
@@ -87,21 +90,21 @@ pub record OpeningJudged (tab : List ℕ) (n stamp row : ℕ) (before after : Li
   pub below : Stays stamp before after
   pub says : (ts : List Token) (G : List Class) → ClassTableHeld tab n ts G → (earlier : List (List ℕ)) (m : Method)
       → MethodAt tab n ts before stamp earlier m row
-      → r ≡ as_judged (judged_head G earlier m)
-  pub marks : {u : ℕ} → r ≡ Fine u → (ts : List Token) → Lexemes tab n ts → (earlier : List (List ℕ)) (m : Method)
+      → told r ≡ (judged_head G earlier m)
+  pub marks : r ≡ Ok tt → (ts : List Token) → Lexemes tab n ts → (earlier : List (List ℕ)) (m : Method)
       → MethodAt tab n ts before stamp earlier m row
       → Marked ts after stamp (method_name m ∷ earlier)
 
 pub record RestJudged (tab : List ℕ) (n classes parent row : ℕ) (r : Judged) : Type 0 where
   pub says : (ts : List Token) (G : List Class) → ClassTableHeld tab n ts G → length G ≡ classes → (k : Class) → Parented ts G k parent
-      → (m : Method) → m.name.row ≡ row → MethodHeld tab n ts m → r ≡ as_judged (closed G k m)
+      → (m : Method) → m.name.row ≡ row → MethodHeld tab n ts m → told r ≡ (closed G k m)
 
 pub record HeadJudged (tab : List ℕ) (n classes parent stamp row : ℕ) (before after : List ℕ) (r : Judged) : Type 0 where
   pub below : Stays stamp before after
   pub says : (ts : List Token) (G : List Class) → ClassTableHeld tab n ts G → length G ≡ classes → (k : Class) → Parented ts G k parent
       → (earlier : List (List ℕ)) (m : Method) → MethodAt tab n ts before stamp earlier m row
-      → r ≡ as_judged (judged_head G earlier m >>= λ _. closed G k m)
-  pub marks : {u : ℕ} → r ≡ Fine u → (ts : List Token) → Lexemes tab n ts → (earlier : List (List ℕ)) (m : Method)
+      → told r ≡ (judged_head G earlier m >>= λ _. closed G k m)
+  pub marks : r ≡ Ok tt → (ts : List Token) → Lexemes tab n ts → (earlier : List (List ℕ)) (m : Method)
       → MethodAt tab n ts before stamp earlier m row
       → Marked ts after stamp (method_name m ∷ earlier)
 
@@ -109,7 +112,7 @@ pub record HeadsJudged (tab : List ℕ) (n classes left parent stamp row : ℕ) 
   pub below : Stays stamp before after
   pub says : (ts : List Token) (G : List Class) → ClassTableHeld tab n ts G → length G ≡ classes → (k : Class) → Parented ts G k parent
       → (earlier : List (List ℕ)) (ms : List Method) → MethodsAt tab n ts before stamp earlier ms left row
-      → r ≡ as_judged (heads G k earlier ms)
+      → told r ≡ (heads G k earlier ms)
 
 -- CLASSES
 
@@ -130,12 +133,12 @@ pub record ClassesAt (tab : List ℕ) (n : ℕ) (ts : List Token) (ks : List Cla
 
 pub record ParentsJudged (tab : List ℕ) (left row : ℕ) (r : Judged) : Type 0 where
   pub says : (n : ℕ) (ts : List Token) (G : List Class) → ClassTableHeld tab n ts G → (ks : List Class) → ClassesAt tab n ts ks left row
-      → r ≡ as_judged (known_parents G ks)
+      → told r ≡ (known_parents G ks)
 
 pub record ChainsJudged (tab : List ℕ) (classes left row : ℕ) (r : Judged) : Type 0 where
   pub says : (n : ℕ) (ts : List Token) (G : List Class) → ClassTableHeld tab n ts G → length G ≡ classes → (ks : List Class)
       → ClassesAt tab n ts ks left row
-      → r ≡ as_judged (ending_chains G ks)
+      → told r ≡ (ending_chains G ks)
 
 -- each class is what its name finds
 abbrev pub FoundByName : List Class → List Class → Type 0
@@ -145,9 +148,9 @@ pub record MembersJudged (tab : List ℕ) (n classes stamp class : ℕ) (after :
   pub below : StampsBelow (stamp + 2) after
   pub says : (ts : List Token) (G : List Class) → ClassTableHeld tab n ts G → length G ≡ classes → (k : Class) → k.name.row ≡ class
       → ClassHeld tab n ts k
-      → class_named G k.name.text ≡ some k → r ≡ as_judged (fields G [] k.fields >>= λ _. heads G k [] k.methods)
+      → class_named G k.name.text ≡ some k → told r ≡ (fields G [] k.fields >>= λ _. heads G k [] k.methods)
 
 pub record DeclarationsJudged (tab : List ℕ) (n classes left row : ℕ) (r : Judged) : Type 0 where
   pub says : (ts : List Token) (G : List Class) → ClassTableHeld tab n ts G → length G ≡ classes → (ks : List Class)
       → ClassesAt tab n ts ks left row → FoundByName G ks
-      → r ≡ as_judged (declarations G ks)
+      → told r ≡ (declarations G ks)

@@ -18,7 +18,9 @@ use Rattle.lexer.specs.Tokens.{turn, tokens_from, tokens}
 use Rattle.base.specs.laws.Tests.{apart, and-true, and_right, or-neither, same_refl, same-equal}
 use Rattle.lexer.proofs.laws.ItemLaws.{kinds_end, Good, Shape, Digits, Pointed, TokenForm, good}
 use Rattle.lexer.specs.promises.Rows.{first_named, Rows, Lexes}
-use Rattle.lexer.specs.declared.Lexed.TheVariants.{Tokens, Refused}
+use Rattle.std.specs.Prelude.{Result, Ok, Err}
+use Rattle.base.specs.declared.refusal.Refusal.{Refusal}
+use Rattle.base.specs.promises.Refusals.{number_of}
 
 -- ---- the numbers of names
 
@@ -296,13 +298,13 @@ pub record LexedAs (o : Outcome (List Token)) (n : ℕ) (tab : List ℕ) : Type 
   pub rows : Rows tab items
 
 -- an answer with a number of tokens is right only where the definition accepts as many
-pub accepted-of-answer : (o : Outcome (List Token)) {n : ℕ} (tab : List ℕ) → Lexes o (Tokens n) tab → LexedAs o n tab
+pub accepted-of-answer : (o : Outcome (List Token)) {n : ℕ} (tab : List ℕ) → Lexes o (Ok n) tab → LexedAs o n tab
 accepted-of-answer (accepted ts) {n} tab a =
     let e : n ≡ length ts = cc in
     record { items = ts; is = refl; count = e; few = a.1; rows = a.2 }
 accepted-of-answer (refused m p) tab a = apart (cc)
 
 -- and one with a refusal only where the definition has that refusal
-pub refused-of-answer : (o : Outcome (List Token)) {m p : ℕ} (tab : List ℕ) → Lexes o (Refused m p) tab → o ≡ refused m p
-refused-of-answer (accepted ts) tab a = apart (cc)
-refused-of-answer (refused k q) {m} {p} tab a = cc
+pub refused-of-answer : (o : Outcome (List Token)) (q : Refusal) (tab : List ℕ) → Lexes o (Err q) tab → o ≡ refused (number_of q.reason) q.position
+refused-of-answer (accepted ts) q tab a = apart (cc)
+refused-of-answer (refused k p) q tab a = cc

@@ -1,6 +1,7 @@
 -- `lexer::lex` meets its contract: each turn is a turn of the definition, and the table holds the tokens read so far.
 use native.Mathlib.Omega.{arith}
 use mathlib.Core.Path.{refl, sym, ◌∙◌}
+use Rattle.std.proofs.lemmas.Result.{err_from_is_err_and}
 use Rattle.lexer.proofs.Lexing.{lexing-start, gap-to, token-to, lexing-gap, lexing-token, unclosed-refused, nothing-refused, token-refused, answers-refused, answers-tokens}
 use Rattle.lexer.proofs.lex.Goals as goal
 
@@ -25,14 +26,14 @@ shape_of-table-in-Unclosed c = omega (arith, c.loop-at.invariant.1, c.clear_buck
 
 pub returns-in-Unclosed : goal.returns-in-Unclosed
 returns-in-Unclosed c =
-    (omega (arith, c.loop-at.invariant.1, c.clear_buckets.auto.table), answers-refused _ c.loop-at.table (unclosed-refused c.loop-at-test.true c.loop-at.invariant.0 (sym c.in-Unclosed.is ∙ c.piece_at.ensures)))
+    (omega (arith, c.loop-at.invariant.1, c.clear_buckets.auto.table), answers-refused _ c.loop-at.table _ (unclosed-refused c.loop-at-test.true c.loop-at.invariant.0 (sym c.in-Unclosed.is ∙ c.piece_at.ensures)))
 
 pub shape_of-table-in-Nothing : goal.shape_of-table-in-Nothing
 shape_of-table-in-Nothing c = omega (arith, c.loop-at.invariant.1, c.clear_buckets.auto.table)
 
 pub returns-in-Nothing : goal.returns-in-Nothing
 returns-in-Nothing c =
-    (omega (arith, c.loop-at.invariant.1, c.clear_buckets.auto.table), answers-refused _ c.loop-at.table (nothing-refused c.loop-at-test.true c.loop-at.invariant.0 (sym c.in-Nothing.is ∙ c.piece_at.ensures)))
+    (omega (arith, c.loop-at.invariant.1, c.clear_buckets.auto.table), answers-refused _ c.loop-at.table _ (nothing-refused c.loop-at-test.true c.loop-at.invariant.0 (sym c.in-Nothing.is ∙ c.piece_at.ensures)))
 
 pub add-requires : goal.add-requires
 add-requires c =
@@ -54,16 +55,20 @@ loop-at-smaller c =
 pub loop-at-preserved : goal.loop-at-preserved
 loop-at-preserved c =
     let g = token-to c.loop-at-test.true c.loop-at.invariant.0 (sym c.in-Token.is ∙ c.piece_at.ensures) in
-    (lexing-token c.loop-at-test.true c.loop-at.invariant.0 g c.add.ensures c.in-Done.is, omega (arith, c.loop-at.invariant.1, c.add.auto.table))
+    (lexing-token c.loop-at-test.true c.loop-at.invariant.0 g c.add.ensures c.in_ok-add-in-Token.was, omega (arith, c.loop-at.invariant.1, c.add.auto.table))
 
-pub shape_of-table-in-Refused : goal.shape_of-table-in-Refused
-shape_of-table-in-Refused c = omega (arith, c.loop-at.invariant.1, c.clear_buckets.auto.table, c.add.auto.table)
+pub shape_of-table-in_err-add-in-Token : goal.shape_of-table-in_err-add-in-Token
+shape_of-table-in_err-add-in-Token c = omega (arith, c.loop-at.invariant.1, c.clear_buckets.auto.table, c.add.auto.table)
 
-pub returns-in-Refused : goal.returns-in-Refused
-returns-in-Refused c =
+pub returns-in_err-add-in-Token : goal.returns-in_err-add-in-Token
+returns-in_err-add-in-Token c =
     let g = token-to c.loop-at-test.true c.loop-at.invariant.0 (sym c.in-Token.is ∙ c.piece_at.ensures) in
-    let q = token-refused c.loop-at-test.true c.loop-at.invariant.0 g c.add.ensures c.in-Refused.is in
-    (omega (arith, c.loop-at.invariant.1, c.clear_buckets.auto.table, c.add.auto.table), answers-refused _ _ q)
+    let q = token-refused c.loop-at-test.true c.loop-at.invariant.0 g c.add.ensures c.in_err-add-in-Token.was in
+    let p = err_from_is_err_and c.from_residual.result c.from_residual.ensures.1 in
+    (
+      omega (arith, c.loop-at.invariant.1, c.clear_buckets.auto.table, c.add.auto.table),
+      rw (p.1, p.2) (answers-refused c.args.source.now c.add.new.table c.in_err-add-in-Token.field-0.0 q),
+    )
 
 pub shape_of-table : goal.shape_of-table
 shape_of-table c = omega (arith, c.loop-at.invariant.1, c.clear_buckets.auto.table)

@@ -1,14 +1,14 @@
 -- The work table while the lexer fills it: the tokens are read off it, with `c_length` for a token's length, and the names stand in chains.
 -- `c_head` of row b is the head of bucket b and `c_link` of a row the link to the next one of its chain: a row plus one, or 0 for none.
-use Rattle.std.specs.Prelude.{ℕ, zero, suc, ◌+◌, ◌*◌, ◌-◌, ◌%◌, ◌≤◌, ◌<◌, List, [], ◌∷◌, ◌++◌, true, ◌≡◌, length, take, drop}
+use Rattle.std.specs.Prelude.{ℕ, zero, suc, ◌+◌, ◌*◌, ◌-◌, ◌%◌, ◌≤◌, ◌<◌, List, [], ◌∷◌, ◌++◌, true, ◌≡◌, length, take, drop, Result, Ok, Err}
 use Rattle.base.specs.Outcome.{Outcome, accepted, refused, ◌>>=◌}
 use Rattle.base.specs.promises.Table.{col, put, rows, size, c_kind, c_start, c_number, c_head, c_link, c_length}
 use Rattle.base.specs.Codes.{source_most}
 use Rattle.lexer.specs.Kinds.{k_literal, k_fixed_literal, is_name_lem}
 use Rattle.lexer.specs.Tokens.{Token, token, decimal, thousandths_of_lem, turn}
 use Rattle.lexer.specs.promises.Rows.{first_named}
-use Rattle.lexer.specs.declared.Stored.{Stored}
-use Rattle.lexer.specs.declared.Stored.TheVariants.{Refused, Done}
+use Rattle.base.specs.declared.refusal.Refusal.{Refusal}
+use Rattle.base.specs.promises.Refusals.{number_of}
 
 -- the bucket of a name
 unfoldable pub bucket_from : (h : ℕ) → List ℕ → ℕ
@@ -96,10 +96,10 @@ pub record Extended (s tab : List ℕ) (n k i e : ℕ) (tab' : List ℕ) : Type 
   pub tokens : tokens_of s tab' (n + 1) ≡ tokens_of s tab n ++ ((record { kind = k; start = i; text = take (e - i) (drop i s) }) ∷ [])
 
 -- a token is refused, or it becomes row n: either as the definition has it, whatever follows
-pub record Added (s tab : List ℕ) (n k i e : ℕ) (r : Stored) (tab' : List ℕ) : Type 0 where
-  pub refusal : (m : ℕ) → r ≡ Refused m
-      → (next : ℕ → ℕ → Outcome (List Token)) → turn next n i (token k (take (e - i) (drop i s))) ≡ refused m i
-  pub done : r ≡ Done → Extended s tab n k i e tab'
-  pub passed : r ≡ Done → (next : ℕ → ℕ → Outcome (List Token))
+pub record Added (s tab : List ℕ) (n k i e : ℕ) (r : Result (Unit {0}) Refusal) (tab' : List ℕ) : Type 0 where
+  pub refusal : (q : Refusal) → r ≡ Err q
+      → (next : ℕ → ℕ → Outcome (List Token)) → turn next n i (token k (take (e - i) (drop i s))) ≡ refused (number_of q.reason) q.position
+  pub done : r ≡ Ok tt → Extended s tab n k i e tab'
+  pub passed : r ≡ Ok tt → (next : ℕ → ℕ → Outcome (List Token))
       → turn next n i (token k (take (e - i) (drop i s)))
       ≡ (next (n + 1) e >>= λ ts. accepted ((record { kind = k; start = i; text = take (e - i) (drop i s) }) ∷ ts))

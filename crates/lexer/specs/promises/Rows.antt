@@ -1,17 +1,17 @@
 -- What the lexer leaves in the work table, one row for each token: `c_kind` is the token's kind, `c_start` its position, and `c_number` the
 -- number of a name or the value of a literal. The other columns may hold anything.
-use Rattle.std.specs.Prelude.{ℕ, ◌+◌, ◌≤◌, List, [], ◌∷◌, true, ◌&&◌, ◌≡◌, length}
+use Rattle.std.specs.Prelude.{ℕ, Result, Ok, ◌+◌, ◌≤◌, List, [], ◌∷◌, true, ◌&&◌, ◌≡◌, length}
 use Rattle.std.proofs.Math.Option.{some}
 use Rattle.std.proofs.Math.ListN.{get_elem?}
 use Rattle.base.specs.Bytes.{same}
 use Rattle.base.specs.Choice.{if◌then◌otherwise◌}
 use Rattle.base.specs.Codes.{tokens_most}
 use Rattle.base.specs.Outcome.{Outcome, accepted, refused}
+use Rattle.base.specs.declared.refusal.Refusal.{Refusal}
+use Rattle.base.specs.promises.Refusals.{Refuses}
 use Rattle.base.specs.promises.Table.{col, c_kind, c_start, c_number}
 use Rattle.lexer.specs.Kinds.{k_literal, k_fixed_literal, is_name_lem}
 use Rattle.lexer.specs.Tokens.{Token, decimal, thousandths_of_lem}
-use Rattle.lexer.specs.declared.Lexed.{Lexed}
-use Rattle.lexer.specs.declared.Lexed.TheVariants.{Tokens, Refused}
 
 -- the number of a name: that of the first token that is a name with this text, and the number of tokens where there is none
 unfoldable pub first_named : List Token → List ℕ → ℕ
@@ -31,6 +31,6 @@ abbrev pub Rows : List ℕ → List Token → Type 0
 Rows tab ts = (i : ℕ) (t : Token) → get_elem? ts i ≡ some t → RowOf tab ts i t
 
 -- the answer r and the table are right, where the tokens of the source are as the definition has them
-abbrev pub Lexes : Outcome (List Token) → Lexed → List ℕ → Type 0
-Lexes (accepted ts) r tab = (r ≡ Tokens (length ts)) × (length ts ≤ tokens_most) × Rows tab ts
-Lexes (refused n p) r tab = r ≡ Refused n p
+abbrev pub Lexes : Outcome (List Token) → Result ℕ Refusal → List ℕ → Type 0
+Lexes (accepted ts) r tab = (r ≡ Ok (length ts)) × (length ts ≤ tokens_most) × Rows tab ts
+Lexes (refused n p) r tab = Refuses r n p

@@ -1,5 +1,5 @@
 -- What the functions that scan a source answer: the definitions of the tokens in terms of positions.
-use Rattle.std.specs.Prelude.{ℕ, ◌+◌, ◌<◌, List, Bool, ◌&&◌, not, ◌≡◌, length, get_or, eqb}
+use Rattle.std.specs.Prelude.{ℕ, ◌+◌, ◌<◌, List, Bool, ◌&&◌, not, Option as Found, Some, None, ◌≡◌, length, get_or, eqb}
 use Rattle.std.proofs.Math.Option.{Option, none, some}
 use Rattle.base.specs.Choice.{if◌then◌otherwise◌}
 use Rattle.lexer.specs.Bytes.{b_line_feed, b_slash, b_star, is_digit_lem, is_name_part_lem}
@@ -9,8 +9,6 @@ use Rattle.lexer.specs.declared.scan.Class.{Class}
 use Rattle.lexer.specs.declared.scan.Class.TheVariants.{Line, Word, Number}
 use Rattle.lexer.specs.declared.scan.Delimiter.{Delimiter}
 use Rattle.lexer.specs.declared.scan.Delimiter.TheVariants.{Open, Close, Other}
-use Rattle.lexer.specs.declared.scan.Closing.{Closing}
-use Rattle.lexer.specs.declared.scan.Closing.TheVariants.{At, Never}
 use Rattle.lexer.specs.declared.scan.Piece.{Piece}
 use Rattle.lexer.specs.declared.scan.Piece.TheVariants.{Gap, Unclosed, Nothing, Token}
 
@@ -25,9 +23,9 @@ delimiter_of_lem a b =
     if eqb a b_slash && eqb b b_star then (λ _. Open) otherwise λ _.
     if eqb a b_star && eqb b b_slash then (λ _. Close) otherwise λ _. Other
 
-abbrev pub closing_of : Option ℕ → Closing
-closing_of none = Never
-closing_of (some i) = At i
+abbrev pub closing_of : Option ℕ → Found ℕ
+closing_of none = None
+closing_of (some i) = Some i
 
 -- the item that begins at i
 abbrev pub piece_of : ℕ → Item → Piece

@@ -1,5 +1,5 @@
--- The reserved words of one length, as the code has them: one after the other in a byte string, and their kinds beside it.
-use Rattle.std.specs.Prelude.{ℕ, List, [], ◌∷◌, Bool, true, ◌&&◌, ◌≡◌, length, take, drop, eqb, leb}
+-- The reserved words of one length, as the code has them: each with its kind.
+use Rattle.std.specs.Prelude.{ℕ, List, [], ◌∷◌, ◌≡◌, map, length, eqb}
 use Rattle.base.specs.Choice.{if◌then◌otherwise◌}
 use Rattle.lexer.specs.Kinds.{Word, words}
 
@@ -8,17 +8,10 @@ abbrev pub has_length : ℕ → List Word → List Word
 has_length n [] = []
 has_length n (w ∷ ws) = if eqb (length w.text) n then (λ _. w ∷ has_length n ws) otherwise λ _. has_length n ws
 
--- texts of n bytes each, with their kinds
-abbrev pub cut : ℕ → List ℕ → List ℕ → List Word
-cut n texts [] = []
-cut n texts (k ∷ ks) = (record { text = take n texts; kind = k }) ∷ cut n (drop n texts) ks
-
--- each text has its n bytes
-abbrev pub whole : ℕ → List ℕ → List ℕ → Bool
-whole n texts [] = true
-whole n texts (k ∷ ks) = leb n (length texts) && whole n (drop n texts) ks
+-- a word with its kind
+abbrev pub as_word : List ℕ × ℕ → Word
+as_word w = record { text = w.0; kind = w.1 }
 
 -- these are the reserved words of length n
-pub record Listed (n : ℕ) (texts kinds : List ℕ) : Type 0 where
-  pub fill : whole n texts kinds ≡ true
-  pub all : has_length n words ≡ cut n texts kinds
+abbrev pub Listed : ℕ → List (List ℕ × ℕ) → Type 0
+Listed n ws = has_length n words ≡ map as_word ws

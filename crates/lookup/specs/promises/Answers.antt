@@ -1,34 +1,38 @@
--- How a stage's outcome is answered, and what an answer tells of the outcome.
-use Rattle.std.specs.Prelude.{ℕ, ◌≡◌, refl, List}
+-- What a result tells of a stage's outcome.
+use Rattle.std.specs.Prelude.{ℕ, ◌≡◌, List, Result, Ok, Err}
 use Rattle.base.specs.Outcome.{Outcome, accepted, refused, ◌>>=◌}
-use Rattle.base.specs.laws.Tests.{apart}
+use Rattle.base.specs.declared.refusal.Refusal.{Refusal}
+use Rattle.base.specs.promises.Refusals.{number_of, outcome}
 use Rattle.lexer.specs.Tokens.{Token}
 use Rattle.parser.specs.Tree.{Ty}
-use Rattle.lookup.specs.declared.answer.Judged.{Judged}
-use Rattle.lookup.specs.declared.answer.Judged.TheVariants.{Fine, Refused}
 use Rattle.lookup.specs.promises.HeldClasses.{Codes}
 
-abbrev pub as_judged : Outcome (Unit {0}) → Judged
-as_judged (accepted u) = Fine 0
-as_judged (refused n p) = Refused n p
+-- the result of judging what has no type, and of judging an expression: the number of its type
+abbrev pub Judged : Type 0
+Judged = Result (Unit {0}) Refusal
 
-pub as_judged-fine : (o : Outcome (Unit {0})) {v : Judged} {w : ℕ} → v ≡ as_judged o → v ≡ Fine w → o ≡ accepted tt
-as_judged-fine (accepted tt) e f = refl
-as_judged-fine (refused n p) e f = apart (cc)
+abbrev pub Typed : Type 0
+Typed = Result ℕ Refusal
 
-pub as_judged-refused : (o : Outcome (Unit {0})) {v : Judged} {n p : ℕ} → v ≡ as_judged o → v ≡ Refused n p → o ≡ refused n p
-as_judged-refused (accepted u) e f = apart (cc)
-as_judged-refused (refused n p) e f = cc
+-- the outcome that a result tells
+abbrev pub told : Judged → Outcome (Unit {0})
+told r = outcome (λ u. u) r
+
+pub told-fine : {o : Outcome (Unit {0})} {v : Judged} → told v ≡ o → v ≡ Ok tt → o ≡ accepted tt
+told-fine e f = rw (← e, f)
+
+pub told-refused : {o : Outcome (Unit {0})} {v : Judged} {q : Refusal} → told v ≡ o → v ≡ Err q → o ≡ refused (number_of q.reason) q.position
+told-refused e f = rw (← e, f)
 
 -- a stage and the next
-module _ {A : Type 0} (o : Outcome (Unit {0})) (next : Unit {0} → Outcome A) {v : Judged} (e : v ≡ as_judged o) where
-  pub goes_on : {w : ℕ} → v ≡ Fine w → (o >>= next) ≡ next tt
-  goes_on f = rw (as_judged-fine o e f)
+module _ {A : Type 0} (o : Outcome (Unit {0})) (next : Unit {0} → Outcome A) {v : Judged} (e : told v ≡ o) where
+  pub goes_on : v ≡ Ok tt → (o >>= next) ≡ next tt
+  goes_on f = rw (told-fine e f)
 
-  pub stops : {n p : ℕ} → v ≡ Refused n p → (o >>= next) ≡ refused n p
-  stops f = rw (as_judged-refused o e f)
+  pub stops : {q : Refusal} → v ≡ Err q → (o >>= next) ≡ refused (number_of q.reason) q.position
+  stops f = rw (told-refused e f)
 
 -- how the type of an expression is answered
-pub data Judges (ts : List Token) : Outcome Ty → Judged → Type 0 where
-  well : {t : Ty} {w : ℕ} → Codes ts t w → Judges ts (accepted t) (Fine w)
-  ill : {n p : ℕ} → Judges ts (refused n p) (Refused n p)
+pub data Judges (ts : List Token) : Outcome Ty → Typed → Type 0 where
+  well : {t : Ty} {w : ℕ} → Codes ts t w → Judges ts (accepted t) (Ok w)
+  ill : {q : Refusal} → Judges ts (refused (number_of q.reason) q.position) (Err q)

@@ -1,20 +1,16 @@
 -- What the functions that parse declarations require and ensure.
-use Rattle.std.specs.Prelude.{ℕ, ◌+◌, ◌*◌, ◌-◌, ◌<◌, ◌≡◌, List, Bool, ◌||◌, ◌&&◌, eqb}
+use Rattle.std.specs.Prelude.{ℕ, ◌+◌, ◌*◌, ◌-◌, ◌<◌, ◌≡◌, List, Bool, ◌||◌, ◌&&◌, eqb, Ok, Err}
 use Rattle.std.proofs.Math.Option.{Option}
-use Rattle.lexer.specs.Kinds.{is_name_lem, k_open_bracket, k_close_bracket, k_open_brace}
+use Rattle.lexer.specs.Kinds.{is_name_lem, k_open_bracket, k_close_bracket}
 use Rattle.lexer.specs.Tokens.{Token}
-use Rattle.parser.specs.declared.answer.Answer.{Answer}
-use Rattle.parser.specs.declared.answer.Answer.TheVariants.{At, Bad}
-use Rattle.parser.specs.Tree.{Name, Sort.statements, Part, TypeUse, Variable, Method, Class, Program}
-use Rattle.parser.specs.Stream.{name_at}
-use Rattle.parser.specs.Parse.{Parsed, expect, begins_type_lem, type_from, variable_from, variables_from, some_parameters_lem, parameters_from}
+use Rattle.parser.specs.promises.Answers.{Answer}
+use Rattle.parser.specs.Tree.{Name, TypeUse, Variable, Method, Class, Program}
+use Rattle.parser.specs.Parse.{Parsed, begins_type_lem, type_from, variable_from, variables_from, some_parameters_lem, parameters_from}
 use Rattle.parser.specs.Parse.{method_from}
-use Rattle.parser.specs.Parse.{methods_from, parent_from, class_from, classes_from, program_from, locals_from, body_from, returned_from}
-use Rattle.parser.specs.Parse.{members_from, class_methods_from}
-use Rattle.parser.specs.promises.Layout.{given, row_of, store, store_variable, store_variables, row_variables, store_method, row_methods}
+use Rattle.parser.specs.Parse.{methods_from, parent_from, class_from, classes_from, program_from}
+use Rattle.parser.specs.promises.Layout.{given, store_variable, store_variables, row_variables, store_method, row_methods}
 use Rattle.parser.specs.promises.Layout.{store_methods, row_parent, store_class, row_classes, store_classes, store_program, list_top}
 use Rattle.parser.specs.promises.Post.{kind_in_table, TokensIn, Stored, Met, Within}
-use Rattle.parser.specs.promises.Parts.{PiecePost}
 
 -- the kinds of declarations
 pub data Declaration : Type 0 where
@@ -106,8 +102,8 @@ pub record DeclPost (d : Declaration) (n i : ℕ) (before : List ℕ) (r : Answe
 
 -- what was read ends with the token of its row
 abbrev pub EndsThere : Answer → Type 0
-EndsThere (At x j) = x + 1 ≡ j
-EndsThere (Bad k) = Unit {0}
+EndsThere (Ok p) = p.row + 1 ≡ p.next
+EndsThere (Err m) = Unit {0}
 
 -- a name before token i is a type
 unfoldable pub follows_type_lem : List ℕ → (inClass : Bool) → (n i : ℕ) → Bool
@@ -117,56 +113,6 @@ follows_type_lem tab inClass n i =
 -- a variable begins here
 unfoldable pub starts_variable_lem : List ℕ → (inClass : Bool) → (n i : ℕ) → Bool
 starts_variable_lem tab inClass n i = begins_type_lem (kind_in_table tab n i) (follows_type_lem tab inClass n (i + 1))
-
--- `{` and fields or locals
-abbrev pub opened_from : (inClass : Bool) (j : ℕ) → (fuel : ℕ) → List Token → Parsed (List Variable)
-opened_from inClass j f ts = expect ts k_open_brace j λ j. variables_from f inClass ts j
-
-pub record OpenedPost (inClass : Bool) (n j : ℕ) (before : List ℕ) (r : Answer) (after : List ℕ) : Type 0 where
-  pub piece : PiecePost (declaration_stored (variable_list inClass)) (opened_from inClass j) (16 * (n - j)) (j + 1) n list_top before r after
-
--- a method after its parameters, after its locals, and after its `return`; `base` is the table before its head was written
-pub record LocalsPost (n name parameters j : ℕ) (before : List ℕ) (r : Answer) (after : List ℕ) : Type 0 where
-  pub kept : given after ≡ given before
-  pub within : Within (j + 1) n n r
-  pub says : (head : Variable) (ps : List Variable) (base : List ℕ) → name ≡ head.name.row → parameters ≡ row_variables ps
-      → before ≡ store_variables ps (store_variable head base)
-      → (ts : List Token) → TokensIn before n ts → (f : ℕ) → 16 * (n - j) < f
-      → Met (declaration_stored a_method) base after r (locals_from f ts head ps j)
-
-pub record BodyPost (n name parameters locals j : ℕ) (before : List ℕ) (r : Answer) (after : List ℕ) : Type 0 where
-  pub kept : given after ≡ given before
-  pub within : Within (j + 1) n n r
-  pub says : (head : Variable) (ps ls : List Variable) (base : List ℕ) → name ≡ head.name.row → parameters ≡ row_variables ps
-      → locals ≡ row_variables ls
-      → before ≡ store_variables ls (store_variables ps (store_variable head base))
-      → (ts : List Token) → TokensIn before n ts → (f : ℕ) → 16 * (n - j) + 1 < f
-      → Met (declaration_stored a_method) base after r (body_from f ts head ps ls j)
-
-pub record ReturnedPost (n name parameters locals body j : ℕ) (before : List ℕ) (r : Answer) (after : List ℕ) : Type 0 where
-  pub kept : given after ≡ given before
-  pub within : Within (j + 1) n n r
-  pub says : (head : Variable) (ps ls : List Variable) (ss : Part statements) (base : List ℕ) → name ≡ head.name.row
-      → parameters ≡ row_variables ps
-      → locals ≡ row_variables ls → body ≡ row_of ss → before ≡ store ss (store_variables ls (store_variables ps (store_variable head base)))
-      → (ts : List Token) → TokensIn before n ts → (f : ℕ) → 16 * (n - j) + 6 < f
-      → Met (declaration_stored a_method) base after r (returned_from f ts head ps ls ss j)
-
--- a class after its parent, and after its fields
-pub record MembersPost (n name parent j : ℕ) (before : List ℕ) (r : Answer) (after : List ℕ) : Type 0 where
-  pub kept : given after ≡ given before
-  pub within : Within (j + 1) n n r
-  pub says : (p : Option Name) → parent ≡ row_parent p
-      → (ts : List Token) → TokensIn before n ts → (f : ℕ) → 16 * (n - j) < f
-      → Met (declaration_stored a_class) before after r (members_from f ts (name_at ts name) p j)
-
-pub record ClassMethodsPost (n name parent fields j : ℕ) (before : List ℕ) (r : Answer) (after : List ℕ) : Type 0 where
-  pub kept : given after ≡ given before
-  pub within : Within (j + 1) n n r
-  pub says : (p : Option Name) (fs : List Variable) (base : List ℕ) → parent ≡ row_parent p → fields ≡ row_variables fs
-      → before ≡ store_variables fs base
-      → (ts : List Token) → TokensIn before n ts → (f : ℕ) → 16 * (n - j) + 3 < f
-      → Met (declaration_stored a_class) base after r (class_methods_from f ts (name_at ts name) p fs j)
 
 -- the whole program
 abbrev pub whole_program : Stored Program

@@ -1,42 +1,28 @@
--- What the parser's functions make of one another's answers.
-use Rattle.std.specs.Prelude.{ℕ, ◌+◌, ◌*◌, ◌-◌, ◌≤◌, ◌<◌, ◌≡◌, List, ◌≢◌}
-use Rattle.base.specs.promises.Table.{col, put, c_start, c_next}
+-- What the functions ensure that look for tokens, and those that read a piece of the definition.
+use Rattle.std.specs.Prelude.{ℕ, ◌+◌, ◌*◌, ◌-◌, ◌≤◌, ◌<◌, ◌≡◌, List, [], ◌∷◌, length, true, false, Result, Ok, Err}
 use Rattle.lexer.specs.Kinds.{k_open, k_close}
 use Rattle.lexer.specs.Tokens.{Token}
-use Rattle.parser.specs.declared.answer.Answer.{Answer}
-use Rattle.parser.specs.declared.answer.Answer.TheVariants.{At, Bad}
+use Rattle.parser.specs.declared.answer.Misfit.{Misfit}
 use Rattle.parser.specs.Tree.{Sort.expression, Expression}
-use Rattle.parser.specs.Parse.{Parsed, ok, bind, expect, an_expression, parse_as}
-use Rattle.parser.specs.promises.Layout.{absent, node, given}
-use Rattle.parser.specs.promises.Post.{kind_in_table, TokensIn, Stored, part, Met, Within}
+use Rattle.parser.specs.Parse.{Parsed, ok, bind, accepts, expect, an_expression, parse_as}
+use Rattle.parser.specs.promises.Answers.{Answer}
+use Rattle.parser.specs.promises.Layout.{given}
+use Rattle.parser.specs.promises.Post.{kind_in_table, matched_in, TokensIn, Stored, part, Met, Within}
 
--- the answer with a token of this kind after what was read
-pub data Follows (tab : List ℕ) (n wanted : ℕ) : Answer → Answer → Type 0 where
-  present : {x j : ℕ} → kind_in_table tab n j ≡ wanted → Follows tab n wanted (At x j) (At x (j + 1))
-  missing : {x j : ℕ} → kind_in_table tab n j ≢ wanted → Follows tab n wanted (At x j) (Bad j)
-  nothing : {k : ℕ} → Follows tab n wanted (Bad k) (Bad k)
+-- kinds of tokens that are there: that of none is 0
+abbrev pub Kinds : List ℕ → Type 0
+Kinds [] = Unit {0}
+Kinds (q ∷ qs) = (0 < q) × Kinds qs
 
--- a row, or none
-abbrev pub RowFits : Answer → Type 0
-RowFits (At x j) = x ≤ absent
-RowFits (Bad k) = Unit {0}
+-- the number of the token behind one of this kind
+pub data Expected (tab : List ℕ) (n wanted i : ℕ) : Result ℕ Misfit → Type 0 where
+  present : accepts wanted (kind_in_table tab n i) ≡ true → Expected tab n wanted i (Ok (i + 1))
+  missing : accepts wanted (kind_in_table tab n i) ≡ false → Expected tab n wanted i (Err (record { token = i }))
 
--- of what was read, a whole is made in this row; `write` is the table with it, by the row of what was read
-pub data WholeOf (row : ℕ) (write : ℕ → List ℕ) (before : List ℕ) : Answer → Answer → List ℕ → Type 0 where
-  done : {x j : ℕ} → WholeOf row write before (At x j) (At row j) (write x)
-  refused : {k : ℕ} → WholeOf row write before (Bad k) (Bad k) before
-
--- the rest of a list after its first member
-abbrev pub ListOf : (row : ℕ) (before : List ℕ) → Answer → Answer → List ℕ → Type 0
-ListOf row before a r after = WholeOf row (λ x. put before c_next row x) before a r after
-
--- the part of a node that begins with its own token and has no other
-abbrev pub OnePart : (row : ℕ) (before : List ℕ) → Answer → Answer → List ℕ → Type 0
-OnePart row before a r after = WholeOf row (λ x. node before row (col before c_start row) x absent) before a r after
-
--- the second part of a node that begins with token `first`
-abbrev pub TwoParts : (row first left : ℕ) (before : List ℕ) → Answer → Answer → List ℕ → Type 0
-TwoParts row first left before a r after = WholeOf row (λ x. node before row (col before c_start first) left x) before a r after
+-- the number of the token behind tokens of these kinds
+pub data ExpectedAll (tab : List ℕ) (n : ℕ) (kinds : List ℕ) (i : ℕ) : Result ℕ Misfit → Type 0 where
+  all_present : length kinds ≤ matched_in tab n i kinds → ExpectedAll tab n kinds i (Ok (i + length kinds))
+  one_missing : matched_in tab n i kinds < length kinds → ExpectedAll tab n kinds i (Err (record { token = i + matched_in tab n i kinds }))
 
 -- what a parser ensures that reads a piece of which P is the definition, whatever the tokens are that the table holds and whatever fuel
 -- there is, if it is enough

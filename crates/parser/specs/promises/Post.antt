@@ -1,16 +1,15 @@
 -- What the parser's functions require and ensure.
-use Rattle.std.specs.Prelude.{ℕ, ◌+◌, ◌*◌, ◌-◌, ◌≤◌, ◌<◌, ◌≡◌, List, [], ◌∷◌, Bool, true, false, ◌||◌, ◌&&◌, length, eqb, ltb}
+use Rattle.std.specs.Prelude.{ℕ, ◌+◌, ◌*◌, ◌-◌, ◌≤◌, ◌<◌, ◌≡◌, List, [], ◌∷◌, Bool, true, false, ◌||◌, ◌&&◌, length, eqb, ltb, Ok, Err}
 use Rattle.base.specs.Choice.{if◌then◌otherwise◌, option}
 use Rattle.base.specs.promises.Table.{col, c_kind, c_start}
 use Rattle.base.specs.Codes.{tokens_most, table_least}
 use Rattle.lexer.specs.Kinds.{is_name_lem, k_literal, k_fixed_literal, k_boolean, k_int, k_true, k_false, k_this, k_new, k_open_bracket}
 use Rattle.lexer.specs.Tokens.{Token}
-use Rattle.parser.specs.declared.answer.Answer.{Answer}
-use Rattle.parser.specs.declared.answer.Answer.TheVariants.{At, Bad}
 use Rattle.parser.specs.Tree.{Sort, Sort.expression, Sort.statement, Sort.statements, Part, Expression}
 use Rattle.parser.specs.Stream.{kind_at, start_at, Level, Level.conjunction, Level.comparison, Level.sum, Level.product, operator_of}
 use Rattle.parser.specs.Parse.{Parsed, ok, bad, Mode, operation, operations, operand, unary, postfix, primary, suffixes, argument_list}
-use Rattle.parser.specs.Parse.{some_arguments_lem, a_statement, statement_list, accepts, parse_as, branches_from}
+use Rattle.parser.specs.Parse.{some_arguments_lem, a_statement, statement_list, accepts, parse_as}
+use Rattle.parser.specs.promises.Answers.{Answer, At, Bad}
 use Rattle.parser.specs.promises.Layout.{row_of, store, given, list_top}
 
 -- THE TOKENS IN THE TABLE
@@ -42,8 +41,8 @@ pub data Met {A : Type 0} (S : Stored A) (before after : List ℕ) : Answer → 
 
 -- an answer's row is below `top`, and the next token is from `low` up to n
 abbrev pub Within : (low n top : ℕ) → Answer → Type 0
-Within low n top (At x j) = (low ≤ j) × (j ≤ n) × (x < top)
-Within low n top (Bad k) = Unit {0}
+Within low n top (Ok p) = (low ≤ p.next) × (p.next ≤ n) × (p.row < top)
+Within low n top (Err m) = Unit {0}
 
 pub record Parsable (tab : List ℕ) (n i : ℕ) : Type 0 where
   pub few : n ≤ tokens_most
@@ -71,6 +70,11 @@ begins_element_lem k named = eqb k k_int || eqb k k_boolean || is_name_lem k && 
 unfoldable pub starts_array_lem : List ℕ → (n i : ℕ) → Bool
 starts_array_lem tab n i =
     eqb (kind_in_table tab n i) k_new && begins_element_lem (kind_in_table tab n (i + 1)) (eqb (kind_in_table tab n (i + 2)) k_open_bracket)
+
+-- a name, or a token of one of these kinds
+abbrev pub name_or : (kinds : List ℕ) → (kind : ℕ) → Bool
+name_or [] k = is_name_lem k
+name_or (q ∷ qs) k = eqb k q || name_or qs k
 
 -- an expression of one token
 unfoldable pub is_atom_lem : ℕ → Bool
@@ -137,11 +141,3 @@ pub record ListPost (n i : ℕ) (before : List ℕ) (r : Answer) (after : List �
   pub within : Within i n list_top r
   pub says : (ts : List Token) → TokensIn before n ts → (f : ℕ) → fuel statement_list n i < f
       → Met (part statements) before after r (parse_as f ts statement_list i)
-
--- what ensures the parser that goes on after the test of an `if`, which was written over `base`
-pub record BranchesPost (n i test j : ℕ) (before : List ℕ) (r : Answer) (after : List ℕ) : Type 0 where
-  pub kept : given after ≡ given before
-  pub within : Within (j + 1) n n r
-  pub says : (e : Expression) (base : List ℕ) → test ≡ row_of e → before ≡ store e base → (ts : List Token) → TokensIn before n ts
-      → (f : ℕ) → 16 * (n - j) < f
-      → Met (part statement) base after r (branches_from ts (λ s m j. parse_as f ts m j) i e j)

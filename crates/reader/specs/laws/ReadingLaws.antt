@@ -13,11 +13,10 @@ use Rattle.base.specs.Outcome.{accepted, refused}
 use Rattle.lexer.specs.Tokens.{Token, tokens}
 use Rattle.lexer.specs.promises.Rows.{Rows}
 use Rattle.lexer.proofs.laws.RowLaws.{token-not-end, starts-increase}
-use Rattle.parser.specs.declared.answer.Answer.{Answer}
-use Rattle.parser.specs.declared.answer.Answer.TheVariants.{At, Bad}
 use Rattle.parser.specs.Tree.{Program}
 use Rattle.parser.specs.Stream.{token_at, kind_at, start_at, no_more}
 use Rattle.parser.specs.Parse.{Parsed, ok, bad, parse}
+use Rattle.parser.specs.promises.Answers.{Answer, At, Bad}
 use Rattle.parser.specs.promises.Layout.{store_program, given, given_words}
 use Rattle.parser.specs.Measure.{program_deep}
 use Rattle.parser.specs.promises.Post.{kind_in_table, TokensIn, Met, met-ok, met-bad}

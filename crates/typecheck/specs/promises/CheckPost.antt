@@ -19,17 +19,24 @@ use Rattle.typesystem.specs.ClassTable.{class_named}
 use Rattle.typesystem.specs.TypingRules.{Ends, ProgramTyped}
 use Rattle.typesystem.specs.Declarations.{known_parents, ending_chains, declarations}
 use Rattle.typesystem.specs.Check.{all_bodies, judged, CheckAnswer as SpecAnswer, check_answer}
-use Rattle.lookup.specs.declared.answer.Judged.{Judged}
-use Rattle.lookup.specs.promises.Answers.{as_judged}
+use Rattle.std.specs.Prelude.{Result, Ok, Err}
+use Rattle.base.specs.declared.refusal.Refusal.{Refusal}
+use Rattle.base.specs.promises.Refusals.{number_of, Refuses}
+use Rattle.lookup.specs.declared.sizes.Sizes.{Sizes}
+use Rattle.lookup.specs.promises.Answers.{Judged, told}
 use Rattle.declarations.specs.promises.Indexing.{Ready}
-use Rattle.typecheck.specs.declared.check.Finding.{Finding}
-use Rattle.typecheck.specs.declared.check.Finding.TheVariants.{Program as found, Refused as declined}
-use Rattle.typecheck.specs.declared.check.CheckAnswer.{CheckAnswer}
 
--- what Check answers in each case: of an accepted source 0 and the number of its classes, of a refused one the refusal
-abbrev pub told : Finding → SpecAnswer
-told (found tokens classes) = record { number = success; position = 0; classes = classes }
-told (declined number position) = record { number = number; position = position; classes = 0 }
+-- what is found of a source: how many tokens and classes it has, or a refusal
+abbrev pub Finding : Type 0
+Finding = Result Sizes Refusal
+
+abbrev pub found : (tokens classes : ℕ) → Finding
+found n k = Ok (record { tokens = n; classes = k })
+
+-- the code's answer as document 01 counts it: of an accepted source 0 and the number of its classes, of a refused one the refusal
+abbrev pub check_answer_of : Finding → SpecAnswer
+check_answer_of (Ok z) = record { number = success; position = 0; classes = z.classes }
+check_answer_of (Err q) = record { number = number_of q.reason; position = q.position; classes = 0 }
 
 -- of an accepted program with these tokens, the answer and what the table then holds
 pub record Holding (ts : List Token) (p : Program) (r : Finding) (tab : List ℕ) : Type 0 where
@@ -40,7 +47,7 @@ pub record Holding (ts : List Token) (p : Program) (r : Finding) (tab : List ℕ
 -- the answers and tables that are right for what is found of a tree with these tokens
 abbrev pub ProgramDecided : List Token → Outcome Program → Finding → List ℕ → Type 0
 ProgramDecided ts (accepted p) r tab = Holding ts p r tab
-ProgramDecided ts (refused n q) r tab = r ≡ declined n q
+ProgramDecided ts (refused n q) r tab = Refuses r n q
 
 -- What Check promises of an accepted source, to Menu and to Run: the tokens are those of the source, and a name's text is the run of its
 -- bytes from its start; the table holds them and the program that the grammar derives from them, whose main class is named by token 1 and
@@ -62,11 +69,11 @@ pub record Checked (s : List ℕ) (p : Program) (r : Finding) (tab : List ℕ) :
 -- the cases and tables that are right for what Check finds of a source
 abbrev pub FindsProgram : List ℕ → Outcome Program → Finding → List ℕ → Type 0
 FindsProgram s (accepted p) r tab = Checked s p r tab
-FindsProgram s (refused n q) r tab = r ≡ declined n q
+FindsProgram s (refused n q) r tab = Refuses r n q
 
 -- what is found tells Check's answer, and is left in the table
 pub record Leaves (s : List ℕ) (v : Outcome Program) (r : Finding) (tab : List ℕ) : Type 0 where
-  pub answers : told r ≡ check_answer v
+  pub answers : check_answer_of r ≡ check_answer v
   pub finds : FindsProgram s v r tab
 
 -- declarations and bodies; chains before these; parents before these
@@ -81,18 +88,14 @@ parents_on p = known_parents p.classes p.classes >>= λ _. chains_on p >>= λ _.
 
 pub record ContentsJudged (tab : List ℕ) (n classes first : ℕ) (r : Judged) : Type 0 where
   pub says : (ts : List Token) (p : Program) → Ready tab n ts p → length p.classes ≡ classes → row_classes p.classes ≡ first
-      → r ≡ as_judged (contents_of p)
+      → told r ≡ contents_of p
 
 pub record ChainedJudged (tab : List ℕ) (n classes first : ℕ) (r : Judged) : Type 0 where
   pub says : (ts : List Token) (p : Program) → Ready tab n ts p → length p.classes ≡ classes → row_classes p.classes ≡ first
-      → r ≡ as_judged (chains_on p)
+      → told r ≡ chains_on p
 
 pub record IndexedJudged (tab : List ℕ) (n : ℕ) (r : Finding) : Type 0 where
   pub says : (ts : List Token) (p : Program) → Ready tab n ts p → DerivesProgram ts p → ProgramDecided ts (parents_on p) r tab
 
 pub record TreeJudged (n : ℕ) (before : List ℕ) (r : Finding) (after : List ℕ) : Type 0 where
   pub says : (rd : Reading) → Filling before rd → length rd.stream ≡ n → ProgramDecided rd.stream (judged rd.tree) r after
-
--- the code's answer as document 01 counts it
-abbrev pub check_answer_of : CheckAnswer → SpecAnswer
-check_answer_of a = record { number = a.number; position = a.position; classes = a.classes }

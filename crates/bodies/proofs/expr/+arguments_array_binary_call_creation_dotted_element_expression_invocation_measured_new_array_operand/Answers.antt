@@ -1,15 +1,17 @@
 -- The cycle of calls on expressions. The measure is 8 for each token of the range, and the rank of the function. Each return is a law of
 -- `ExpressionLaws`.
 use borrow.Author.Rules.{rules}
+use Rattle.std.proofs.lemmas.Result.{err_from_is_err_and}
+use Rattle.bodies.proofs.ExpressionLaws.{last-fine, last-refused}
 use Rattle.bodies.proofs.ExpressionLaws.{arguments-end, arguments-next, arguments-refused, operand_low, operand-high}
 use Rattle.bodies.proofs.ExpressionLaws.{of-binary, of-call, left-refused, binary-right, binary-wrong, call-object, call-plain}
 use Rattle.bodies.proofs.ExpressionLaws.{creation-array, creation-object, dotted-call, dotted-length, element-first}
 use Rattle.bodies.proofs.ExpressionLaws.{element-second, expression-atom, expression-before, expression-behind, expression-binary}
 use Rattle.bodies.proofs.ExpressionLaws.{of-not, of-get, expression-unary, expression-dot, expression-element, expression-new}
 use Rattle.bodies.proofs.ExpressionLaws.{invocation-count}
-use Rattle.bodies.proofs.ExpressionLaws.{invocation-typed, invocation-unknown, operand-fits, operand-refused}
+use Rattle.bodies.proofs.ExpressionLaws.{invocation-fine, invocation-refused, invocation-unknown, operand-fits, operand-refused}
 use Rattle.bodies.proofs.ExpressionLaws.{operand-wrong}
-use Rattle.bodies.proofs.ExpressionLaws.{array-wrong, array-right, array-unjudged, length-typed}
+use Rattle.bodies.proofs.ExpressionLaws.{array-wrong, array-right, array-unjudged, length-fine, length-refused}
 use Rattle.bodies.proofs.ExpressionLaws.{new-array-known, new-array-unknown}
 use Rattle.bodies.proofs.expr.+arguments_array_binary_call_creation_dotted_element_expression_invocation_measured_new_array_operand.Goals as goal
 
@@ -17,46 +19,59 @@ pub arguments-returns-then-row-ge-ABSENT : goal.arguments-returns-then-row-ge-AB
 arguments-returns-then-row-ge-ABSENT t c = search arguments-end
 
 pub arguments-behind-requires : goal.arguments-behind-requires
-arguments-behind-requires t c = search (operand_low, operand-high)
+arguments-behind-requires t c = search (operand_low, operand-high, c.in_ok-operand.was)
 
 pub arguments-arguments-requires : goal.arguments-arguments-requires
 arguments-arguments-requires t c = (search rules, (search rules, search rules))
 
-pub arguments-returns-in-Fine : goal.arguments-returns-in-Fine
-arguments-returns-in-Fine t c = search arguments-next
+pub arguments-returns : goal.arguments-returns
+arguments-returns t c = search (arguments-next, c.in_ok-operand.was)
 
-pub arguments-returns-in-Refused : goal.arguments-returns-in-Refused
-arguments-returns-in-Refused t c = search arguments-refused
+pub arguments-returns-in_err-operand : goal.arguments-returns-in_err-operand
+arguments-returns-in_err-operand t c =
+    let p = err_from_is_err_and c.from_residual.result c.from_residual.ensures.1 in
+    rw (p.1, p.2) (search (arguments-refused, c.in_err-operand.was))
 
 pub array-returns-then-t-lt-ARRAY : goal.array-returns-then-t-lt-ARRAY
-array-returns-then-t-lt-ARRAY t c = search array-wrong
+array-returns-then-t-lt-ARRAY t c = search (array-wrong, c.in_ok-t.was)
 
-pub array-returns-else-t-lt-ARRAY : goal.array-returns-else-t-lt-ARRAY
-array-returns-else-t-lt-ARRAY t c = search array-right
+pub array-returns : goal.array-returns
+array-returns t c = search (array-right, c.in_ok-t.was)
 
-pub array-returns-in-Refused : goal.array-returns-in-Refused
-array-returns-in-Refused t c = search array-unjudged
+pub array-returns-in_err-t : goal.array-returns-in_err-t
+array-returns-in_err-t t c =
+    let p = err_from_is_err_and c.from_residual.result c.from_residual.ensures.1 in
+    rw (p.1, p.2) (search (array-unjudged, c.in_err-t.was))
 
 pub binary-returns-then-answer-ge-NOTHING : goal.binary-returns-then-answer-ge-NOTHING
-binary-returns-then-answer-ge-NOTHING t c = search binary-wrong
+binary-returns-then-answer-ge-NOTHING t c = search (binary-wrong, c.requires.k_value, c.in_ok-t.was)
 
-pub binary-returns-else-answer-ge-NOTHING : goal.binary-returns-else-answer-ge-NOTHING
-binary-returns-else-answer-ge-NOTHING t c = search (binary-right, c.requires.k_value)
+pub binary-returns : goal.binary-returns
+binary-returns t c = search (binary-right, c.requires.k_value, c.in_ok-t.was, last-fine, c.in_ok-operand.was)
 
-pub binary-returns-in-Refused : goal.binary-returns-in-Refused
-binary-returns-in-Refused t c = search (left-refused of-binary)
+pub binary-returns-in_err-t : goal.binary-returns-in_err-t
+binary-returns-in_err-t t c =
+    let p = err_from_is_err_and c.from_residual.result c.from_residual.ensures.1 in
+    rw (p.1, p.2) (search (left-refused of-binary, c.in_err-t.was))
+
+pub binary-returns-in_err-operand : goal.binary-returns-in_err-operand
+binary-returns-in_err-operand t c =
+    let p = err_from_is_err_and c.from_residual-in_err-operand.result c.from_residual-in_err-operand.ensures.1 in
+    rw (p.1, p.2) (search (binary-right, c.requires.k_value, c.in_ok-t.was, last-refused, c.in_err-operand.was))
 
 pub call-returns-then-t-ge-INT : goal.call-returns-then-t-ge-INT
-call-returns-then-t-ge-INT t c = search call-plain
+call-returns-then-t-ge-INT t c = search (call-plain, c.in_ok-t.was)
 
 pub call-invocation-requires : goal.call-invocation-requires
 call-invocation-requires t c = (search rules, (search rules, search rules, search rules))
 
-pub call-returns-else-t-ge-INT : goal.call-returns-else-t-ge-INT
-call-returns-else-t-ge-INT t c = search call-object
+pub call-returns : goal.call-returns
+call-returns t c = search (call-object, c.in_ok-t.was)
 
-pub call-returns-in-Refused : goal.call-returns-in-Refused
-call-returns-in-Refused t c = search (left-refused of-call)
+pub call-returns-in_err-t : goal.call-returns-in_err-t
+call-returns-in_err-t t c =
+    let p = err_from_is_err_and c.from_residual.result c.from_residual.ensures.1 in
+    rw (p.1, p.2) (search (left-refused of-call, c.in_err-t.was))
 
 pub creation-returns-then-kind-eq-OPEN_BRACKET : goal.creation-returns-then-kind-eq-OPEN_BRACKET
 creation-returns-then-kind-eq-OPEN_BRACKET t c = search creation-array
@@ -70,11 +85,18 @@ dotted-returns-then-kind-eq-LENGTH t c = search dotted-length
 pub dotted-returns : goal.dotted-returns
 dotted-returns t c = search dotted-call
 
-pub element-returns-in-Fine : goal.element-returns-in-Fine
-element-returns-in-Fine t c = search element-second
+pub element-returns : goal.element-returns
+element-returns t c = search (element-second, c.in_ok-t.was, last-fine, c.in_ok-operand.was)
 
-pub element-returns-in-Refused : goal.element-returns-in-Refused
-element-returns-in-Refused t c = search element-first
+pub element-returns-in_err-t : goal.element-returns-in_err-t
+element-returns-in_err-t t c =
+    let p = err_from_is_err_and c.from_residual.result c.from_residual.ensures.1 in
+    rw (p.1, p.2) (search (element-first, c.in_err-t.was))
+
+pub element-returns-in_err-operand : goal.element-returns-in_err-operand
+element-returns-in_err-operand t c =
+    let p = err_from_is_err_and c.from_residual-in_err-operand.result c.from_residual-in_err-operand.ensures.1 in
+    rw (p.1, p.2) (search (element-second, c.in_ok-t.was, last-refused, c.in_err-operand.was))
 
 pub expression-returns-then-row-r : goal.expression-returns-then-row-r
 expression-returns-then-row-r t c = search expression-before
@@ -91,17 +113,27 @@ expression-returns-then-k-eq-NEW t c = search expression-new
 pub expression-returns-then-k-eq-DOT : goal.expression-returns-then-k-eq-DOT
 expression-returns-then-k-eq-DOT t c = search expression-dot
 
-pub expression-operand-a-requires : goal.expression-operand-a-requires
-expression-operand-a-requires t c = (search rules, (search rules, search rules))
+pub expression-operand-requires : goal.expression-operand-requires
+expression-operand-requires t c = (search rules, (search rules, search rules))
 
 pub expression-returns-then-k-eq-NOT : goal.expression-returns-then-k-eq-NOT
-expression-returns-then-k-eq-NOT t c = search (expression-unary of-not)
+expression-returns-then-k-eq-NOT t c = search (expression-unary of-not, last-fine, c.in_ok-operand.was)
 
-pub expression-operand-a-requires-then-k-eq-PORT : goal.expression-operand-a-requires-then-k-eq-PORT
-expression-operand-a-requires-then-k-eq-PORT t c = (search rules, (search rules, search rules))
+pub expression-returns-in_err-operand : goal.expression-returns-in_err-operand
+expression-returns-in_err-operand t c =
+    let p = err_from_is_err_and c.from_residual.result c.from_residual.ensures.1 in
+    rw (p.1, p.2) (search (expression-unary of-not, last-refused, c.in_err-operand.was))
+
+pub expression-operand-requires-then-k-eq-PORT : goal.expression-operand-requires-then-k-eq-PORT
+expression-operand-requires-then-k-eq-PORT t c = (search rules, (search rules, search rules))
 
 pub expression-returns-then-k-eq-PORT : goal.expression-returns-then-k-eq-PORT
-expression-returns-then-k-eq-PORT t c = search (expression-unary of-get)
+expression-returns-then-k-eq-PORT t c = search (expression-unary of-get, last-fine, c.in_ok-operand-2.was)
+
+pub expression-returns-in_err-operand-2 : goal.expression-returns-in_err-operand-2
+expression-returns-in_err-operand-2 t c =
+    let p = err_from_is_err_and c.from_residual-in_err-operand-2.result c.from_residual-in_err-operand-2.ensures.1 in
+    rw (p.1, p.2) (search (expression-unary of-get, last-refused, c.in_err-operand-2.was))
 
 pub expression-returns-then-k-eq-OPEN_BRACKET : goal.expression-returns-then-k-eq-OPEN_BRACKET
 expression-returns-then-k-eq-OPEN_BRACKET t c = search expression-element
@@ -113,25 +145,42 @@ pub invocation-returns-then-m-ge-ABSENT : goal.invocation-returns-then-m-ge-ABSE
 invocation-returns-then-m-ge-ABSENT t c = search invocation-unknown
 
 pub invocation-returns-then-same_count : goal.invocation-returns-then-same_count
-invocation-returns-then-same_count t c = search invocation-typed
+invocation-returns-then-same_count t c = search (invocation-fine, c.in_ok-arguments.was)
+
+pub invocation-returns-in_err-arguments : goal.invocation-returns-in_err-arguments
+invocation-returns-in_err-arguments t c =
+    let p = err_from_is_err_and c.from_residual.result c.from_residual.ensures.1 in
+    rw (p.1, p.2) (search (invocation-refused, c.in_err-arguments.was))
 
 pub invocation-returns : goal.invocation-returns
 invocation-returns t c = search invocation-count
 
 pub measured-returns : goal.measured-returns
-measured-returns t c = search length-typed
+measured-returns t c = search (length-fine, c.in_ok-array.was)
+
+pub measured-returns-in_err-array : goal.measured-returns-in_err-array
+measured-returns-in_err-array t c =
+    let p = err_from_is_err_and c.from_residual.result c.from_residual.ensures.1 in
+    rw (p.1, p.2) (search (length-refused, c.in_err-array.was))
 
 pub new_array-returns-then-known : goal.new_array-returns-then-known
-new_array-returns-then-known t c = search new-array-known
+new_array-returns-then-known t c = search (new-array-known, last-fine, c.in_ok-operand.was)
+
+pub new_array-returns-in_err-operand : goal.new_array-returns-in_err-operand
+new_array-returns-in_err-operand t c =
+    let p = err_from_is_err_and c.from_residual.result c.from_residual.ensures.1 in
+    rw (p.1, p.2) (search (new-array-known, last-refused, c.in_err-operand.was))
 
 pub new_array-returns : goal.new_array-returns
 new_array-returns t c = search new-array-unknown
 
 pub operand-returns-then-fits : goal.operand-returns-then-fits
-operand-returns-then-fits t c = search operand-fits
+operand-returns-then-fits t c = search (operand-fits, c.in_ok-t.was)
 
-pub operand-returns-else-fits : goal.operand-returns-else-fits
-operand-returns-else-fits t c = search operand-wrong
+pub operand-returns : goal.operand-returns
+operand-returns t c = search (operand-wrong, c.in_ok-t.was)
 
-pub operand-returns-in-Refused : goal.operand-returns-in-Refused
-operand-returns-in-Refused t c = search operand-refused
+pub operand-returns-in_err-t : goal.operand-returns-in_err-t
+operand-returns-in_err-t t c =
+    let p = err_from_is_err_and c.from_residual.result c.from_residual.ensures.1 in
+    rw (p.1, p.2) (search (operand-refused, c.in_err-t.was))

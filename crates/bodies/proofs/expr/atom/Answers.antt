@@ -1,21 +1,23 @@
 -- Each return is a law of `ExpressionLaws`.
+use native.Mathlib.Omega.{arith}
 use Rattle.bodies.proofs.ExpressionLaws.{atom-literal, atom-fixed-literal, atom-true, atom-false, atom-this, atom-is-name}
 use Rattle.bodies.proofs.expr.atom.Goals as goal
 
-pub returns-then-k-eq-LITERAL : goal.returns-then-k-eq-LITERAL
-returns-then-k-eq-LITERAL c = search atom-literal
+pub returns-in-4 : goal.returns-in-4
+returns-in-4 c = search atom-literal
 
-pub returns-then-k-eq-FIXED_LITERAL : goal.returns-then-k-eq-FIXED_LITERAL
-returns-then-k-eq-FIXED_LITERAL c = search atom-fixed-literal
+pub returns-in-44 : goal.returns-in-44
+returns-in-44 c = search atom-fixed-literal
 
-pub returns-then-k-eq-TRUE : goal.returns-then-k-eq-TRUE
-returns-then-k-eq-TRUE c = search atom-true
+pub returns-in-21 : goal.returns-in-21
+returns-in-21 c = search atom-true
 
-pub returns-then-k-eq-FALSE : goal.returns-then-k-eq-FALSE
-returns-then-k-eq-FALSE c = search atom-false
+pub returns-in-9 : goal.returns-in-9
+returns-in-9 c = search atom-false
 
-pub returns-then-k-eq-THIS : goal.returns-then-k-eq-THIS
-returns-then-k-eq-THIS c = search atom-this
+pub returns-in-20 : goal.returns-in-20
+returns-in-20 c = search atom-this
 
-pub returns : goal.returns
-returns c = search atom-is-name
+pub returns-in_default : goal.returns-in_default
+returns-in_default c =
+    atom-is-name (λ e. omega arith) (λ e. omega arith) (λ e. omega arith) (λ e. omega arith) (λ e. omega arith) c.name.ensures

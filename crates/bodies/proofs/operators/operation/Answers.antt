@@ -1,21 +1,22 @@
 -- Each return is a law of `OperatorLaws`.
+use native.Mathlib.Omega.{arith}
 use Rattle.bodies.proofs.OperatorLaws.{added, compared, conjoined, multiplied, no-operator, subtracted}
 use Rattle.bodies.proofs.operators.operation.Goals as goal
 
-pub returns-then-k-eq-AND : goal.returns-then-k-eq-AND
-returns-then-k-eq-AND c = search conjoined
+pub returns-in-24 : goal.returns-in-24
+returns-in-24 c = search conjoined
 
-pub returns-then-k-eq-LESS : goal.returns-then-k-eq-LESS
-returns-then-k-eq-LESS c = search compared
+pub returns-in-25 : goal.returns-in-25
+returns-in-25 c = search compared
 
-pub returns-then-k-eq-PLUS : goal.returns-then-k-eq-PLUS
-returns-then-k-eq-PLUS c = search added
+pub returns-in-26 : goal.returns-in-26
+returns-in-26 c = search added
 
-pub returns-then-k-eq-MINUS : goal.returns-then-k-eq-MINUS
-returns-then-k-eq-MINUS c = search subtracted
+pub returns-in-27 : goal.returns-in-27
+returns-in-27 c = search subtracted
 
-pub returns-then-k-eq-TIMES : goal.returns-then-k-eq-TIMES
-returns-then-k-eq-TIMES c = search multiplied
+pub returns-in-28 : goal.returns-in-28
+returns-in-28 c = search multiplied
 
-pub returns : goal.returns
-returns c = search no-operator
+pub returns-in_default : goal.returns-in_default
+returns-in_default c = no-operator (λ e. omega arith) (λ e. omega arith) (λ e. omega arith) (λ e. omega arith) (λ e. omega arith)

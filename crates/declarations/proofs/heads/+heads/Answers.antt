@@ -1,5 +1,6 @@
 -- The measure is what is left. Each return is a law of `HeadLaws`.
 use borrow.Author.Rules.{rules}
+use Rattle.std.proofs.lemmas.Result.{err_from_is_err_and}
 use Rattle.declarations.proofs.HeadLaws.{heads-none-left, heads-absent, heads-next, heads-stop}
 use Rattle.declarations.proofs.heads.+heads.Goals as goal
 
@@ -12,8 +13,10 @@ returns-then-left-eq0 t c = search heads-none-left
 pub heads-requires : goal.heads-requires
 heads-requires t c = (search rules, (search rules, search rules))
 
-pub returns-in-Fine : goal.returns-in-Fine
-returns-in-Fine t c = search heads-next
+pub returns : goal.returns
+returns t c = search (heads-next, c.in_ok-head.was)
 
-pub returns-in-Refused : goal.returns-in-Refused
-returns-in-Refused t c = search heads-stop
+pub returns-in_err-head : goal.returns-in_err-head
+returns-in_err-head t c =
+    let p = err_from_is_err_and c.from_residual.result c.from_residual.ensures.1 in
+    rw (p.1, p.2) (search (heads-stop, c.in_err-head.was))

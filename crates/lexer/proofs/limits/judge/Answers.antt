@@ -1,7 +1,6 @@
 -- `lexer::limits::judge` meets its contract: the tests of the definition in their order.
-use mathlib.Core.Path.{◌≡◌, sym, ap, ◌∙◌}
-use Rattle.lexer.specs.promises.Verdicts.{verdict_of}
-use Rattle.lexer.proofs.Verdicts.{verdict-many, verdict-long, verdict-name, verdict-zero, verdict-literal, verdict-fixed, verdict-plain, on_literal}
+use mathlib.Core.Path.{◌∙◌}
+use Rattle.lexer.proofs.Verdicts.{verdict-many, verdict-long, verdict-name, verdict-zero, verdict-literal, verdict-fixed, verdict-plain}
 use Rattle.lexer.proofs.limits.judge.Goals as goal
 
 pub returns-then-count-eq-TOKENS_MOST : goal.returns-then-count-eq-TOKENS_MOST
@@ -21,13 +20,11 @@ returns-then-starts_with_zero c =
     verdict-zero c.args.count c.args.kind c.args.text.now c.if-count-eq-TOKENS_MOST.false c.is_name.ensures
     c.if-is_name.false c.if-kind-eq-LITERAL.true c.starts_with_zero.ensures c.if-starts_with_zero.true
 
-pub returns-in-Value : goal.returns-in-Value
-returns-in-Value c = ap on_literal (sym c.in-Value.is) ∙ (let it : on_literal c.value_of.result ≡ verdict_of c.args.count c.args.kind c.args.text.now = verdict-literal c.args.count c.args.kind c.args.text.now c.if-count-eq-TOKENS_MOST.false c.is_name.ensures
-    c.if-is_name.false c.if-kind-eq-LITERAL.true c.starts_with_zero.ensures c.if-starts_with_zero.false c.value_of.ensures in it)
-
-pub returns-in-TooLarge : goal.returns-in-TooLarge
-returns-in-TooLarge c = ap on_literal (sym c.in-TooLarge.is) ∙ (let it : on_literal c.value_of.result ≡ verdict_of c.args.count c.args.kind c.args.text.now = verdict-literal c.args.count c.args.kind c.args.text.now c.if-count-eq-TOKENS_MOST.false c.is_name.ensures
-    c.if-is_name.false c.if-kind-eq-LITERAL.true c.starts_with_zero.ensures c.if-starts_with_zero.false c.value_of.ensures in it)
+pub returns-then-kind-eq-LITERAL : goal.returns-then-kind-eq-LITERAL
+returns-then-kind-eq-LITERAL c =
+    c.literal.ensures
+    ∙ verdict-literal c.args.count c.args.kind c.args.text.now c.if-count-eq-TOKENS_MOST.false c.is_name.ensures
+    c.if-is_name.false c.if-kind-eq-LITERAL.true c.starts_with_zero.ensures c.if-starts_with_zero.false c.value_of.ensures
 
 pub returns-then-kind-eq-FIXED_LITERAL : goal.returns-then-kind-eq-FIXED_LITERAL
 returns-then-kind-eq-FIXED_LITERAL c =

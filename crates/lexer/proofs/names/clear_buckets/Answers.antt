@@ -1,15 +1,13 @@
--- The buckets before the loop's are empty.
-use borrow.Author.Rules.{rules}
+-- The heads of the buckets are one range of the table.
+use Prim.Native.Nat.{ℕ}
 use native.Mathlib.Omega.{arith}
-use mathlib.Core.Path.{refl}
-use Rattle.lexer.proofs.Chains.{no-names-first, no-names-next, no-names-last}
+use mathlib.Core.Path.{ap, ◌∙◌}
+use lib.ListN.{drop, replicate, length-drop}
+use Rattle.std.proofs.lemmas.List.{length-take-le}
+use Rattle.lexer.proofs.Chains.{no-names-filled}
 use Rattle.lexer.proofs.names.clear_buckets.Goals as goal
 
-pub loop-b-init : goal.loop-b-init
-loop-b-init c = (refl, omega arith, no-names-first)
-
-pub loop-b-preserved : goal.loop-b-preserved
-loop-b-preserved c = (search rules, search rules, no-names-next (search rules) (search rules) c.loop-b.invariant.2)
-
 pub returns : goal.returns
-returns c = search no-names-last
+returns c =
+    no-names-filled c.args.table.now _ c.fill.new.self c.requires
+    (c.fill.ensures.after (λ y e. e) ∙ ap (λ (n : ℕ). replicate n 0) (length-take-le 2048 (drop 10240 c.args.table.now) (omega (arith, c.requires, length-drop 10240 c.args.table.now))))

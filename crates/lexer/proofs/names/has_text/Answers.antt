@@ -22,13 +22,13 @@ unfolding col
 overflow_add-end-2 c =
     omega (arith, c.shared_slice_known-5-1.given (cell c_length (c.args.row)), c.shared_slice_known-4-1.given (cell c_start (c.args.row)))
 
-pub slice_bounds-equal-end : goal.slice_bounds-equal-end
+pub slice_bounds-eq-end : goal.slice_bounds-eq-end
 unfolding col
-slice_bounds-equal-end c = omega arith
+slice_bounds-eq-end c = omega arith
 
 pub returns : goal.returns
 unfolding col text_from
 returns c =
     let start = col c.args.table.now c_start c.args.row in
-    c.equal.ensures
+    c.eq.ensures
     ∙ ap (λ (n : ℕ). same (take n (drop start c.args.source.now)) c.args.text.now) (cut start (col c.args.table.now c_length c.args.row))

@@ -1,5 +1,6 @@
 -- `lexer::scan::run_end` meets its contract: the run ends at the first byte of another class, or at the end.
 use mathlib.Core.Path.{refl, sym, ◌∙◌}
+use native.Mathlib.Omega.{arith}
 use Rattle.lexer.proofs.Runs.{running_more, running-stop, running-end}
 use Rattle.lexer.proofs.scan.run_end.Goals as goal
 
@@ -15,4 +16,4 @@ loop-i-preserved c =
     running_more c.loop-i-test.true (sym c.belongs.ensures ∙ c.if-not-belongs.false) c.loop-i.invariant
 
 pub returns : goal.returns
-returns c = running-end c.loop-i-test.false c.loop-i.invariant
+returns c = omega (arith, running-end c.loop-i-test.false c.loop-i.invariant, c.loop-i.invariant.within, c.loop-i-test.false)

@@ -15,14 +15,14 @@ comment_end-requires c =
     let q = byte_inside c.args.source.now _ b_star (sym c.byte_at-next.ensures ∙ c.if-next-eq42.true) (omega arith) in
     omega arith
 
-pub returns-in-At : goal.returns-in-At
-returns-in-At c =
-    ap on_closing (sym c.in-At.is)
+pub returns-in-Some : goal.returns-in-Some
+returns-in-Some c =
+    ap on_closing (sym c.in-Some.is)
     ∙ piece-block c.args.source.now c.args.at c.requires.1 c.requires.2 (sym c.byte_at-next.ensures ∙ c.if-next-eq42.true) c.comment_end.ensures
 
-pub returns-in-Never : goal.returns-in-Never
-returns-in-Never c =
-    ap on_closing (sym c.in-Never.is)
+pub returns-in-None : goal.returns-in-None
+returns-in-None c =
+    ap on_closing (sym c.in-None.is)
     ∙ piece-block c.args.source.now c.args.at c.requires.1 c.requires.2 (sym c.byte_at-next.ensures ∙ c.if-next-eq42.true) c.comment_end.ensures
 
 pub returns : goal.returns

@@ -1,24 +1,22 @@
 -- `lexer::words::kind_among` meets its contract: the words that are left decide, and the first that is equal is the word.
-use native.Mathlib.Omega.{arith}
-use Rattle.lexer.proofs.Reserved.{decide-start, decide-inside, decide-hit, decide-more, decide-end}
+use mathlib.Core.Path.{sym, ◌∙◌}
+use lib.ListN.{drop_of_length-le}
+use Rattle.lexer.proofs.Reserved.{decide-start, decide-hit, decide-more, decide-end}
 use Rattle.lexer.proofs.words.kind_among.Goals as goal
 
-pub loop-i-init : goal.loop-i-init
-loop-i-init c = decide-start c.requires
+pub loop-word-init : goal.loop-word-init
+loop-word-init g c = decide-start c.args.words.now c.args.text.now c.requires
 
-pub overflow_add-end : goal.overflow_add-end
-overflow_add-end c = omega (arith, decide-inside c.loop-i-test.true c.loop-i.invariant)
+pub returns-then-eq : goal.returns-then-eq
+returns-then-eq g c =
+    decide-hit c.args.words.now c.args.text.now c.loop-word.word-index c.loop-word-item.result c.loop-word-item.is c.loop-word-test.true c.loop-word.invariant
+    (rw (← c.as_slice.ensures) (sym c.eq.ensures ∙ c.if-eq.true))
 
-pub slice_bounds-equal-end : goal.slice_bounds-equal-end
-slice_bounds-equal-end c = omega (arith, decide-inside c.loop-i-test.true c.loop-i.invariant)
-
-pub returns-then-equal : goal.returns-then-equal
-returns-then-equal c =
-    decide-hit c.loop-i-test.true c.loop-i.invariant c.equal.ensures c.if-equal.true
-
-pub loop-i-preserved : goal.loop-i-preserved
-loop-i-preserved c =
-    decide-more c.loop-i-test.true c.loop-i.invariant c.equal.ensures c.if-equal.false
+pub loop-word-preserved : goal.loop-word-preserved
+loop-word-preserved g c =
+    decide-more c.args.words.now c.args.text.now c.loop-word.word-index c.loop-word-item.result c.loop-word-item.is c.loop-word-test.true c.loop-word.invariant
+    (rw (← c.as_slice.ensures) (sym c.eq.ensures ∙ c.if-eq.false))
 
 pub returns : goal.returns
-returns c = decide-end c.loop-i-test.false c.loop-i.invariant
+returns g c =
+    decide-end c.args.words.now c.args.text.now c.loop-word.word-index (drop_of_length-le c.args.words.now c.loop-word-test.false) c.loop-word.invariant

@@ -1,34 +1,39 @@
 -- `lexer::words::word_kind` meets its contract: at each length the words in the code are those of the definition, and there are no others.
-use mathlib.Core.Path.{refl}
+use Prim.Native.Nat.{ℕ}
+use mathlib.Core.Path.{◌≡◌, ap}
+use native.Mathlib.Omega.{arith}
 use Rattle.lexer.specs.Kinds.{words}
+use Rattle.lexer.specs.promises.Words.{has_length}
 use Rattle.lexer.proofs.laws.WordLengths.{no_word}
-use Rattle.lexer.proofs.Reserved.{listed}
 use Rattle.lexer.proofs.words.word_kind.Goals as goal
+
+-- the reserved words of a length
+of-length : {m n : ℕ} → m ≡ n → has_length m words ≡ has_length n words
+of-length e = ap (λ (n : ℕ). has_length n words) e
 
 pub kind_among-requires : goal.kind_among-requires
 unfolding words
-kind_among-requires c = listed c.args.text.now 2 c.in-2.is refl refl
+kind_among-requires c = (omega arith, of-length c.in-2.is)
 
 pub kind_among-requires-in-3 : goal.kind_among-requires-in-3
 unfolding words
-kind_among-requires-in-3 c = listed c.args.text.now 3 c.in-3.is refl refl
+kind_among-requires-in-3 c = (omega arith, of-length c.in-3.is)
 
 pub kind_among-requires-in-4 : goal.kind_among-requires-in-4
 unfolding words
-kind_among-requires-in-4 c = listed c.args.text.now 4 c.in-4.is refl refl
+kind_among-requires-in-4 c = (omega arith, of-length c.in-4.is)
 
 pub kind_among-requires-in-5 : goal.kind_among-requires-in-5
 unfolding words
-kind_among-requires-in-5 c = listed c.args.text.now 5 c.in-5.is refl refl
+kind_among-requires-in-5 c = (omega arith, of-length c.in-5.is)
 
 pub kind_among-requires-in-6 : goal.kind_among-requires-in-6
 unfolding words
-kind_among-requires-in-6 c = listed c.args.text.now 6 c.in-6.is refl refl
+kind_among-requires-in-6 c = (omega arith, of-length c.in-6.is)
 
 pub kind_among-requires-in-7 : goal.kind_among-requires-in-7
 unfolding words
-kind_among-requires-in-7 c = listed c.args.text.now 7 c.in-7.is refl refl
+kind_among-requires-in-7 c = (omega arith, of-length c.in-7.is)
 
 pub returns-in_default : goal.returns-in_default
-returns-in_default c =
-    no_word c.args.text.now c.in_default.in_default-own.rest.0.0.0.0.0.1 c.in_default.in_default-own.rest.0.0.0.0.1 c.in_default.in_default-own.rest.0.0.0.1 c.in_default.in_default-own.rest.0.0.1 c.in_default.in_default-own.rest.0.1 c.in_default.in_default-own.rest.1
+returns-in_default c = search no_word

@@ -1,53 +1,45 @@
 -- `program` meets its contract. Each return is a law of `Methods`.
 use native.Mathlib.Omega.{arith}
-use lib.Dec.{lit<}
-use Rattle.parser.proofs.Laws.{within-ok}
-use Rattle.parser.proofs.Matched.{matched-there}
-use Rattle.parser.proofs.Pieces.{two-follow}
-use Rattle.parser.proofs.Methods.{program-head, program-bad, program-classes, program-ok}
+use mathlib.Core.Path.{refl}
 use Rattle.parser.specs.Parse.{main_head_lem}
+use Rattle.parser.proofs.Matched.{past, head-found}
+use Rattle.parser.proofs.Wholes.{passed-on, behind, not-behind, nothing}
+use Rattle.parser.proofs.Methods.{program-head, at-start, program-bad, program-classes, program-ok}
 use Rattle.parser.proofs.decl.program.Goals as goal
 
-pub returns-then-m-lt14 : goal.returns-then-m-lt14
-returns-then-m-lt14 c = search program-head
+pub single-requires : goal.single-requires
+single-requires c =
+    omega (arith, c.requires, head-found main_head_lem (omega arith) (omega arith) c.in_ok-start.ensures)
 
-pub single-a-requires : goal.single-a-requires
-single-a-requires c =
-    let w = matched-there c.args.table.now c.args.n 0 main_head_lem (omega arith) (omega arith) in
-    omega arith
+pub classes-requires : goal.classes-requires
+classes-requires c =
+    omega (arith, c.requires, c.in_ok-statement.ensures.within, past (omega arith) c.in_ok-brace.ensures, past (omega arith) c.in_ok-next.ensures)
 
-pub classes-d-requires : goal.classes-d-requires
-classes-d-requires c =
-    let w = two-follow c.in-At.is c.followed-b.ensures c.followed-c.ensures (lit< tt) (lit< tt)
-    c.single-a.ensures.within in
-    omega (arith, c.requires)
+pub returns-in_err-start : goal.returns-in_err-start
+returns-in_err-start c =
+    rw (passed-on c.from_residual.ensures.1)
+    (program-head c.in_err-start.ensures)
 
-pub link-requires : goal.link-requires
-link-requires c =
-    let w = within-ok c.in-At-d.is c.classes-d.ensures.within in
-    omega arith
+pub returns-in_err-statement : goal.returns-in_err-statement
+returns-in_err-statement c =
+    rw (passed-on c.from_residual-in_err-statement.ensures.1)
+    (program-bad c.requires.few c.in_ok-start.ensures (at-start c.in_ok-start.ensures c.in_err-statement.ensures) nothing nothing refl)
 
-pub returns-in-At-d : goal.returns-in-At-d
-returns-in-At-d c =
-    program-ok c.matched-m.ensures c.requires.few
-    c.if-m-lt14.false
-    c.single-a.ensures
-    c.followed-b.ensures c.followed-c.ensures c.in-At.is
-    c.classes-d.ensures
-    c.in-At-d.is c.link.ensures
+pub returns-in_err-brace : goal.returns-in_err-brace
+returns-in_err-brace c =
+    rw (passed-on c.from_residual-in_err-brace.ensures.1)
+    (program-bad c.requires.few c.in_ok-start.ensures (at-start c.in_ok-start.ensures c.in_ok-statement.ensures) (not-behind refl c.in_err-brace.ensures) nothing refl)
 
-pub returns-in-Bad-d : goal.returns-in-Bad-d
-returns-in-Bad-d c =
-    program-classes c.matched-m.ensures c.requires.few
-    c.if-m-lt14.false
-    c.single-a.ensures c.followed-b.ensures c.followed-c.ensures
-    c.in-At.is
-    c.classes-d.ensures c.in-Bad-d.is
+pub returns-in_err-next : goal.returns-in_err-next
+returns-in_err-next c =
+    rw (passed-on c.from_residual-in_err-next.ensures.1)
+    (program-bad c.requires.few c.in_ok-start.ensures (at-start c.in_ok-start.ensures c.in_ok-statement.ensures) (behind refl c.in_ok-brace.ensures) (not-behind refl c.in_err-next.ensures) refl)
 
-pub returns-in-Bad : goal.returns-in-Bad
-returns-in-Bad c =
-    program-bad c.matched-m.ensures
-    c.requires.few c.if-m-lt14.false
-    c.single-a.ensures
-    c.followed-b.ensures c.followed-c.ensures
-    c.in-Bad.is
+pub returns-in_err-others : goal.returns-in_err-others
+returns-in_err-others c =
+    rw (passed-on c.from_residual-in_err-others.ensures.1)
+    (program-classes c.requires.few c.in_ok-start.ensures (at-start c.in_ok-start.ensures c.in_ok-statement.ensures) (behind refl c.in_ok-brace.ensures) (behind refl c.in_ok-next.ensures) refl c.in_err-others.ensures refl)
+
+pub returns : goal.returns
+returns c =
+    program-ok c.requires.few c.in_ok-start.ensures (at-start c.in_ok-start.ensures c.in_ok-statement.ensures) (behind refl c.in_ok-brace.ensures) (behind refl c.in_ok-next.ensures) refl c.in_ok-others.ensures refl c.link.ensures

@@ -1,22 +1,18 @@
 -- `variable` meets its contract: each return is a law of `Variables`.
-use mathlib.Core.Path.{refl}
 use native.Mathlib.Omega.{arith}
-use Rattle.parser.proofs.Laws.{within-ok}
-use Rattle.parser.proofs.Postfix.{name-there}
-use Rattle.parser.proofs.Variables.{variable-bad, variable-ok, variable-name}
+use Rattle.parser.proofs.Matched.{past}
+use Rattle.parser.proofs.Wholes.{passed-on}
+use Rattle.parser.proofs.Variables.{variable-bad, variable-name, variable-ok}
 use Rattle.parser.proofs.decl.variable.Goals as goal
 
 pub put-requires : goal.put-requires
-put-requires c = omega (arith, within-ok c.in-At.is c.type_use-a.ensures.within, name-there c.args.table.now c.args.n c.in-At.next _ c.kind.ensures c.is_name.ensures c.if-is_name.true)
+put-requires c = omega (arith, c.requires, c.in_ok-of_type.ensures.within, past (omega arith) c.in_ok-next.ensures)
 
-pub overflow_add-result : goal.overflow_add-result
-overflow_add-result c = omega (arith, within-ok c.in-At.is c.type_use-a.ensures.within)
+pub returns-in_err-of_type : goal.returns-in_err-of_type
+returns-in_err-of_type c = rw (passed-on c.from_residual.ensures.1) (variable-bad c.in_err-of_type.ensures, tt)
 
-pub returns-then-is_name : goal.returns-then-is_name
-returns-then-is_name c = (search variable-ok, refl)
+pub returns-in_err-next : goal.returns-in_err-next
+returns-in_err-next c = rw (passed-on c.from_residual-in_err-next.ensures.1) (variable-name c.in_ok-of_type.ensures c.in_err-next.ensures, tt)
 
-pub returns-else-is_name : goal.returns-else-is_name
-returns-else-is_name c = (search variable-name, tt)
-
-pub returns-in-Bad : goal.returns-in-Bad
-returns-in-Bad c = (search variable-bad, tt)
+pub returns : goal.returns
+returns c = variable-ok c.in_ok-of_type.ensures c.in_ok-next.ensures c.put.ensures

@@ -1,23 +1,29 @@
--- `new_object` meets its contract: each return is a law of `Postfix`.
+-- `new_object` meets its contract. Each return is a law of `Postfix`.
 use native.Mathlib.Omega.{arith}
-use lib.Dec.{lit<}
-use mathlib.Core.Path.{refl}
-use Rattle.lexer.specs.Kinds.{k_new}
-use Rattle.parser.proofs.Laws.{there}
-use Rattle.parser.proofs.Postfix.{object-ok, object-close, object-open, object-name}
+use Rattle.parser.proofs.Matched.{past}
+use Rattle.parser.proofs.Wholes.{passed-on}
+use Rattle.parser.proofs.Postfix.{object-name, object-open, object-close, object-ok}
 use Rattle.parser.proofs.expr.new_object.Goals as goal
 
+pub returns-in_err-paren : goal.returns-in_err-paren
+returns-in_err-paren c =
+    rw (passed-on c.from_residual.ensures.1)
+    (object-name c.requires.1 c.in_err-paren.ensures)
+
+pub returns-in_err-close : goal.returns-in_err-close
+returns-in_err-close c =
+    rw (passed-on c.from_residual-in_err-close.ensures.1)
+    (object-open c.requires.1 c.in_ok-paren.ensures c.in_err-close.ensures)
+
+pub returns-in_err-next : goal.returns-in_err-next
+returns-in_err-next c =
+    rw (passed-on c.from_residual-in_err-next.ensures.1)
+    (object-close c.requires.1 c.in_ok-paren.ensures c.in_ok-close.ensures c.in_err-next.ensures)
+
 pub node-requires : goal.node-requires
-node-requires c = omega (arith, there c.args.table.now c.args.n c.args.i _ k_new refl c.requires.1 (lit< tt))
-
-pub returns-then-kind-eq-CLOSE : goal.returns-then-kind-eq-CLOSE
-returns-then-kind-eq-CLOSE c = search object-ok
-
-pub returns-then-kind-eq-OPEN : goal.returns-then-kind-eq-OPEN
-returns-then-kind-eq-OPEN c = search object-close
-
-pub returns-then-is_name : goal.returns-then-is_name
-returns-then-is_name c = search object-open
+node-requires c =
+    omega (arith, c.requires.0, past (omega arith) c.in_ok-paren.ensures, past (omega arith) c.in_ok-close.ensures, past (omega arith) c.in_ok-next.ensures)
 
 pub returns : goal.returns
-returns c = search object-name
+returns c =
+    object-ok c.requires.1 c.in_ok-paren.ensures c.in_ok-close.ensures c.in_ok-next.ensures c.node.ensures

@@ -1,7 +1,7 @@
 -- `begins_statement` meets its contract: the kinds are those of the definition.
-use Rattle.parser.specs.Parse.{begins_statement_lem}
+use mathlib.Core.Path.{◌∙◌}
+use Rattle.parser.proofs.Types.{statement-told}
 use Rattle.parser.proofs.kinds.begins_statement.Goals as goal
 
 pub returns : goal.returns
-unfolding begins_statement_lem
-returns c = c.is_name_or.ensures
+returns c = c.is_name_or.ensures ∙ statement-told c.args.k

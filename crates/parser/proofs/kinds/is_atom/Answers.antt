@@ -1,7 +1,7 @@
 -- `is_atom` meets its contract: the kinds are those of the definition.
-use Rattle.parser.specs.promises.Post.{is_atom_lem}
+use mathlib.Core.Path.{◌∙◌}
+use Rattle.parser.proofs.Types.{atom-told}
 use Rattle.parser.proofs.kinds.is_atom.Goals as goal
 
 pub returns : goal.returns
-unfolding is_atom_lem
-returns c = c.is_name_or.ensures
+returns c = c.is_name_or.ensures ∙ atom-told c.args.k

@@ -2,17 +2,17 @@
 use Rattle.parser.proofs.Operators.{conjunctions, comparisons, plus-signs, minus-signs, products}
 use Rattle.parser.proofs.kinds.is_operator.Goals as goal
 
-pub returns-then-level-eq0 : goal.returns-then-level-eq0
-returns-then-level-eq0 c = search conjunctions
+pub returns-in-0 : goal.returns-in-0
+returns-in-0 c = search conjunctions
 
-pub returns-then-level-eq1 : goal.returns-then-level-eq1
-returns-then-level-eq1 c = search comparisons
+pub returns-in-1 : goal.returns-in-1
+returns-in-1 c = search comparisons
 
 pub returns-then-k-eq-PLUS : goal.returns-then-k-eq-PLUS
 returns-then-k-eq-PLUS c = search plus-signs
 
-pub returns-then-level-eq2 : goal.returns-then-level-eq2
-returns-then-level-eq2 c = search minus-signs
+pub returns-else-k-eq-PLUS : goal.returns-else-k-eq-PLUS
+returns-else-k-eq-PLUS c = search minus-signs
 
-pub returns : goal.returns
-returns c = search products
+pub returns-in_default : goal.returns-in_default
+returns-in_default c = search products

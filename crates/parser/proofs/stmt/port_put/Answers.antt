@@ -1,52 +1,61 @@
 -- `port_put` meets its contract. Each return is a law of `Statements`; that the head is there is `head-there`.
-use Prim.Native.Nat.{◌<◌}
-use mathlib.Core.Path.{refl}
 use native.Mathlib.Omega.{arith}
-use lib.Dec.{lit<}
+use mathlib.Core.Path.{refl}
 use Rattle.lexer.specs.Kinds.{k_port}
 use Rattle.parser.specs.Parse.{put_head}
-use Rattle.parser.proofs.Laws.{there, within-ok}
-use Rattle.parser.proofs.Pieces.{mode-fits, follows-within, follows-fits}
+use Rattle.parser.proofs.Laws.{there}
+use Rattle.parser.proofs.Matched.{past}
 use Rattle.parser.proofs.Heads.{head-there}
+use Rattle.parser.proofs.Wholes.{passed-on, behind, not-behind, nothing, with-two, refused}
 use Rattle.parser.proofs.Statements.{put-head, register-bad, put-ok}
 use Rattle.parser.proofs.stmt.port_put.Goals as goal
 
-pub member_head-m-requires : goal.member_head-m-requires
-member_head-m-requires c = omega (arith, there c.args.table.now c.args.n c.args.i _ k_port refl c.requires.1 (lit< tt), c.requires.0)
+pub expect_member-requires : goal.expect_member-requires
+expect_member-requires c =
+    omega (arith, c.requires.0, there c.args.table.now c.args.n c.args.i _ k_port refl c.requires.1 (omega arith))
 
-pub returns-then-m-lt3 : goal.returns-then-m-lt3
-returns-then-m-lt3 c =
-    put-head c.requires.1 c.member_head-m.ensures c.if-m-lt3.true
+pub returns-in_err-start : goal.returns-in_err-start
+returns-in_err-start c =
+    rw (passed-on c.from_residual.ensures.1)
+    (put-head c.requires.1 c.in_err-start.ensures)
 
-pub operation-a-requires : goal.operation-a-requires
-operation-a-requires c =
-    let w = head-there c.args.table.now c.args.n c.args.i k_port _ put_head (omega arith) (lit< tt) c.requires.1 c.member_head-m.ensures in
-    omega (arith, c.requires.0)
+pub operation-requires : goal.operation-requires
+operation-requires c =
+    omega (arith, c.requires.0, head-there put_head (omega arith) (omega arith) c.requires.1 c.in_ok-start.ensures)
 
-pub operation-c-requires : goal.operation-c-requires
-operation-c-requires c =
-    let w = within-ok c.in-At.is (follows-within _ _ _ c.followed-b.ensures (lit< tt) c.operation-a.ensures.within) in
-    omega (arith, c.requires.0)
+pub returns-in_err-register : goal.returns-in_err-register
+returns-in_err-register c =
+    rw (passed-on c.from_residual-in_err-register.ensures.1)
+    (register-bad c.requires.0.few c.requires.1 c.in_ok-start.ensures c.in_err-register.ensures nothing refl)
 
-pub two_parts-requires : goal.two_parts-requires
-two_parts-requires c =
-    let w : c.args.i < c.args.n = there c.args.table.now c.args.n c.args.i _ k_port refl c.requires.1 (lit< tt) in
-    let w₂ = within-ok c.in-At.is (follows-within _ _ _ c.followed-b.ensures (lit< tt) c.operation-a.ensures.within) in (
-      omega arith,
-      omega arith,
-      omega arith,
-      omega arith,
-      follows-fits c.followed-e.ensures
-          (follows-fits c.followed-d.ensures (mode-fits c.requires.0.few c.operation-c.ensures)),
-    )
+pub returns-in_err-second : goal.returns-in_err-second
+returns-in_err-second c =
+    rw (passed-on c.from_residual-in_err-second.ensures.1)
+    (register-bad c.requires.0.few c.requires.1 c.in_ok-start.ensures c.in_ok-register.ensures (not-behind refl c.in_err-second.ensures) refl)
 
-pub returns-in-At : goal.returns-in-At
-returns-in-At c =
-    put-ok c.requires.0.few c.requires.1 c.member_head-m.ensures c.if-m-lt3.false c.operation-a.ensures c.followed-b.ensures
-    c.in-At.is c.operation-c.ensures c.followed-d.ensures c.followed-e.ensures
-    c.two_parts.ensures
+pub operation-requires-2 : goal.operation-requires-2
+operation-requires-2 c =
+    omega (arith, c.requires.0, c.in_ok-register.ensures.within, past (omega arith) c.in_ok-second.ensures)
 
-pub returns-in-Bad : goal.returns-in-Bad
-returns-in-Bad c =
-    register-bad c.requires.0.few c.requires.1 c.member_head-m.ensures c.if-m-lt3.false c.operation-a.ensures c.followed-b.ensures
-    c.in-Bad.is
+pub returns-in_err-value : goal.returns-in_err-value
+returns-in_err-value c =
+    rw (passed-on c.from_residual-in_err-value.ensures.1)
+    (put-ok c.requires.0.few c.requires.1 c.in_ok-start.ensures c.in_ok-register.ensures (behind refl c.in_ok-second.ensures) refl c.in_err-value.ensures nothing nothing refused)
+
+pub returns-in_err-end : goal.returns-in_err-end
+returns-in_err-end c =
+    rw (passed-on c.from_residual-in_err-end.ensures.1)
+    (put-ok c.requires.0.few c.requires.1 c.in_ok-start.ensures c.in_ok-register.ensures (behind refl c.in_ok-second.ensures) refl c.in_ok-value.ensures (not-behind refl c.in_err-end.ensures) nothing refused)
+
+pub returns-in_err-next : goal.returns-in_err-next
+returns-in_err-next c =
+    rw (passed-on c.from_residual-in_err-next.ensures.1)
+    (put-ok c.requires.0.few c.requires.1 c.in_ok-start.ensures c.in_ok-register.ensures (behind refl c.in_ok-second.ensures) refl c.in_ok-value.ensures (behind refl c.in_ok-end.ensures) (not-behind refl c.in_err-next.ensures) refused)
+
+pub node-requires : goal.node-requires
+node-requires c =
+    omega (arith, c.requires.0, there c.args.table.now c.args.n c.args.i _ k_port refl c.requires.1 (omega arith), c.in_ok-register.ensures.within, c.in_ok-value.ensures.within)
+
+pub returns : goal.returns
+returns c =
+    put-ok c.requires.0.few c.requires.1 c.in_ok-start.ensures c.in_ok-register.ensures (behind refl c.in_ok-second.ensures) refl c.in_ok-value.ensures (behind refl c.in_ok-end.ensures) (behind refl c.in_ok-next.ensures) (with-two c.args.i _ c.node.ensures)

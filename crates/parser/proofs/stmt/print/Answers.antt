@@ -1,37 +1,46 @@
--- `print` meets its contract. Each return is a law of `Statements`; that the head and the end are there is `matched-there` and `follows-within`.
-use Prim.Native.Nat.{◌<◌}
-use mathlib.Core.Path.{refl}
+-- `print` meets its contract. Each return is a law of `Statements`; that the head is there is `head-there`.
 use native.Mathlib.Omega.{arith}
-use lib.Dec.{lit<}
+use mathlib.Core.Path.{refl}
 use Rattle.lexer.specs.Kinds.{k_system}
-use Rattle.parser.proofs.Laws.{there}
 use Rattle.parser.specs.Parse.{print_head}
+use Rattle.parser.proofs.Laws.{there}
 use Rattle.parser.proofs.Heads.{head-there}
+use Rattle.parser.proofs.Wholes.{passed-on, behind, not-behind, nothing, with-one, refused}
 use Rattle.parser.proofs.Statements.{print-head, print-ok}
-use Rattle.parser.proofs.Pieces.{mode-fits, follows-fits}
 use Rattle.parser.proofs.stmt.print.Goals as goal
 
-pub matched-m-requires : goal.matched-m-requires
-matched-m-requires c = omega (arith, there c.args.table.now c.args.n c.args.i _ k_system refl c.requires.1 (lit< tt), c.requires.0)
+pub expect_all-requires : goal.expect_all-requires
+expect_all-requires c =
+    omega (arith, c.requires.0, there c.args.table.now c.args.n c.args.i _ k_system refl c.requires.1 (omega arith))
 
-pub returns-then-m-lt5 : goal.returns-then-m-lt5
-returns-then-m-lt5 c = search print-head
+pub returns-in_err-start : goal.returns-in_err-start
+returns-in_err-start c =
+    rw (passed-on c.from_residual.ensures.1)
+    (print-head c.requires.1 c.in_err-start.ensures)
 
-pub operation-a-requires : goal.operation-a-requires
-operation-a-requires c =
-    let w = head-there c.args.table.now c.args.n c.args.i k_system _ print_head (omega arith) (lit< tt) c.requires.1
-    c.matched-m.ensures in
-    omega arith
+pub operation-requires : goal.operation-requires
+operation-requires c =
+    omega (arith, c.requires.0, head-there print_head (omega arith) (omega arith) c.requires.1 c.in_ok-start.ensures)
 
-pub one_part-requires : goal.one_part-requires
-one_part-requires c =
-    let w : c.args.i < c.args.n = there c.args.table.now c.args.n c.args.i _ k_system refl c.requires.1 (lit< tt) in (
-      omega arith,
-      omega arith,
-      follows-fits c.followed-c.ensures
-          (follows-fits c.followed-b.ensures
-          (mode-fits c.requires.0.few c.operation-a.ensures)),
-    )
+pub returns-in_err-value : goal.returns-in_err-value
+returns-in_err-value c =
+    rw (passed-on c.from_residual-in_err-value.ensures.1)
+    (print-ok c.requires.1 c.requires.0.few c.in_ok-start.ensures c.in_err-value.ensures nothing nothing refused)
+
+pub returns-in_err-end : goal.returns-in_err-end
+returns-in_err-end c =
+    rw (passed-on c.from_residual-in_err-end.ensures.1)
+    (print-ok c.requires.1 c.requires.0.few c.in_ok-start.ensures c.in_ok-value.ensures (not-behind refl c.in_err-end.ensures) nothing refused)
+
+pub returns-in_err-next : goal.returns-in_err-next
+returns-in_err-next c =
+    rw (passed-on c.from_residual-in_err-next.ensures.1)
+    (print-ok c.requires.1 c.requires.0.few c.in_ok-start.ensures c.in_ok-value.ensures (behind refl c.in_ok-end.ensures) (not-behind refl c.in_err-next.ensures) refused)
+
+pub node-requires : goal.node-requires
+node-requires c =
+    omega (arith, c.requires.0, there c.args.table.now c.args.n c.args.i _ k_system refl c.requires.1 (omega arith), c.in_ok-value.ensures.within)
 
 pub returns : goal.returns
-returns c = search print-ok
+returns c =
+    print-ok c.requires.1 c.requires.0.few c.in_ok-start.ensures c.in_ok-value.ensures (behind refl c.in_ok-end.ensures) (behind refl c.in_ok-next.ensures) (with-one c.node.ensures)

@@ -1,20 +1,29 @@
 -- `test` meets its contract. Each return is a law of `Statements`.
-use Prim.Native.Nat.{◌+◌}
 use native.Mathlib.Omega.{arith}
-use lib.Dec.{lit<}
-use Rattle.lexer.specs.Kinds.{k_open}
-use Rattle.parser.proofs.Laws.{there}
+use mathlib.Core.Path.{refl}
+use Rattle.parser.proofs.Matched.{past}
+use Rattle.parser.proofs.Wholes.{passed-on, behind, not-behind, nothing}
 use Rattle.parser.proofs.Statements.{test-open, test-ok}
 use Rattle.parser.proofs.stmt.test.Goals as goal
 
-pub operation-a-requires : goal.operation-a-requires
-operation-a-requires c =
-    let w = there c.args.table.now c.args.n (c.args.i + 1) _ k_open c.kind.ensures c.if-kind-eq-OPEN.true
-    (lit< tt) in
-    omega arith
+pub returns-in_err-start : goal.returns-in_err-start
+returns-in_err-start c =
+    rw (passed-on c.from_residual.ensures.1)
+    (test-open c.in_err-start.ensures)
 
-pub returns-then-kind-eq-OPEN : goal.returns-then-kind-eq-OPEN
-returns-then-kind-eq-OPEN c = search test-ok
+pub operation-requires : goal.operation-requires
+operation-requires c = omega (arith, c.requires, past (omega arith) c.in_ok-start.ensures)
+
+pub returns-in_err-value : goal.returns-in_err-value
+returns-in_err-value c =
+    rw (passed-on c.from_residual-in_err-value.ensures.1)
+    (test-ok c.requires.few c.in_ok-start.ensures c.in_err-value.ensures nothing)
+
+pub returns-in_err-next : goal.returns-in_err-next
+returns-in_err-next c =
+    rw (passed-on c.from_residual-in_err-next.ensures.1)
+    (test-ok c.requires.few c.in_ok-start.ensures c.in_ok-value.ensures (not-behind refl c.in_err-next.ensures))
 
 pub returns : goal.returns
-returns c = search test-open
+returns c =
+    test-ok c.requires.few c.in_ok-start.ensures c.in_ok-value.ensures (behind refl c.in_ok-next.ensures)

@@ -1,14 +1,17 @@
 -- Each return is a law of `VerdictLaws`.
 use Rattle.base.specs.promises.Table.{rows}
 use borrow.Author.Rules.{rules}
+use Rattle.std.proofs.lemmas.Result.{err_from_is_err_and}
 use Rattle.typecheck.proofs.VerdictLaws.{zeros-below, contents-bodies, contents-refused}
 use Rattle.typecheck.proofs.check.contents.Goals as goal
 
-pub declarations-d-requires : goal.declarations-d-requires
-declarations-d-requires c = (search rules, search rules, zeros-below rows, search rules)
+pub declarations-requires : goal.declarations-requires
+declarations-requires c = (search rules, search rules, zeros-below rows, search rules)
 
-pub returns-in-Fine : goal.returns-in-Fine
-returns-in-Fine c = search contents-bodies
+pub returns : goal.returns
+returns c = search (contents-bodies, c.in_ok-declarations.was)
 
-pub returns-in-Refused : goal.returns-in-Refused
-returns-in-Refused c = search contents-refused
+pub returns-in_err-declarations : goal.returns-in_err-declarations
+returns-in_err-declarations c =
+    let p = err_from_is_err_and c.from_residual.result c.from_residual.ensures.1 in
+    rw (p.1, p.2) (search (contents-refused, c.in_err-declarations.was))
