@@ -11,7 +11,10 @@ use lib.IntN.{ℤ, pos}
 use lib.Dec.{ltb, leb}
 use borrow.Author.Tests.{lt-ltb, le-ltb, le-leb, lt-leb}
 use borrow.Rule.Slice.PartMut.{put_mid, mid_of, mid_len, same_len_mid}
-use Rattle.std.specs.Prelude.{Result, Ok, Err}
+use Rattle.std.specs.Prelude.{Option as Maybe, Some, Result, Ok, Err}
+use Rattle.base.specs.declared.refusal.Reason.{Reason}
+use Rattle.base.specs.declared.refusal.Reason.TheVariants as reason
+use Rattle.base.specs.promises.Refusals.{number_of}
 use Rattle.std.specs.Bool.{MatchBool}
 use Rattle.std.specs.List.{AllWithin, HoldsAt}
 use Rattle.base.specs.Word.{low, modulus}
@@ -83,7 +86,7 @@ enough stack height n b l s e f k =
     ∙ ap₂ (λ (y u : ℕ). sure (all_words_lem (take u (drop (2176 + (height - n)) stack))) λ _. word (get_or stack y 0) k) j i
 
 module _ {stack : List ℕ} {height n : ℕ} where
-  pub unfit_count : (32 < n) ⊎ ((n ≤ 32) × (height < n + 1)) → CalledOn stack height n (Err 70)
+  pub unfit_count : (32 < n) ⊎ ((n ≤ 32) × (height < n + 1)) → CalledOn stack height n (Err reason.FrameFault)
   unfit_count (inl l) = record { says = λ s e f k. sure-no (leb n 32) _ (lt-leb n 32 l); few = λ v q. absurd (cc) }
   unfit_count (inr (b, l)) =
       record {
@@ -94,11 +97,11 @@ module _ {stack : List ℕ} {height n : ℕ} where
 
   pub no_words : {q : Bool} → n ≤ 32 → n + 1 ≤ height
       → q ≡ all_words_lem (take (2176 + (height - n) + n - (2176 + (height - n))) (drop (2176 + (height - n)) stack)) → q ≡ false
-      → CalledOn stack height n (Err 70)
+      → CalledOn stack height n (Err reason.FrameFault)
   no_words b l w i =
       record { says = λ s e f k. enough stack height n b l s e f k ∙ sure-no _ _ (sym w ∙ i); few = λ v q. absurd (cc) }
 
-  pub a-receiver : {q : Bool} {r : Result ℕ ℕ} → n ≤ 32 → n + 1 ≤ height
+  pub a-receiver : {q : Bool} {r : Result ℕ Reason} → n ≤ 32 → n + 1 ≤ height
       → q ≡ all_words_lem (take (2176 + (height - n) + n - (2176 + (height - n))) (drop (2176 + (height - n)) stack)) → q ≡ true → IsWord (get_or stack (2176 + (height - n) - 1) 0) r
       → CalledOn stack height n r
   a-receiver b l w i u =
@@ -107,10 +110,10 @@ module _ {stack : List ℕ} {height n : ℕ} where
 -- THE LINE
 
 module _ {text : List ℕ} {heap : List ℤ} {words receiver table : ℕ} where
-  pub no-object : {r : Result ℕ ℕ} {n : ℕ} → Header words receiver (Err n) → r ≡ Err n → Dispatched text heap words receiver table r
-  no-object w e = record { says = λ s p q k. w.says s p _ ∙ sym (ap (λ (r : Result ℕ ℕ). followed r k) e) }
+  pub no-object : {r : Result ℕ Reason} {n : Reason} → Header words receiver (Err n) → r ≡ Err n → Dispatched text heap words receiver table r
+  no-object w e = record { says = λ s p q k. w.says s p _ ∙ sym (ap (λ (r : Result ℕ Reason). followed r k) e) }
 
-  pub looked-up : {r : Result ℕ ℕ} {i v : ℕ} → Header words receiver (Ok i) → Cell heap i v → EntryAt text (table + v) r
+  pub looked-up : {r : Result ℕ Reason} {i v : ℕ} → Header words receiver (Ok i) → Cell heap i v → EntryAt text (table + v) r
       → Dispatched text heap words receiver table r
   looked-up {r} {i} {v} w c u =
       record {
@@ -160,7 +163,7 @@ called m l h c =
     record { line = l; height = h; calls = c; words = m.words; printed = m.printed; tape = m.tape; marks = m.marks }
 
 module _ {limit : ℕ} {m : Machine} {n receiver line : ℕ} {stack : List ℕ} where
-  pub calls-full : limit ≤ m.calls → Enters limit m n receiver line stack stack (Err 52)
+  pub calls-full : limit ≤ m.calls → Enters limit m n receiver line stack stack (Err (Some reason.CallsFull))
   calls-full l = record { says = λ h o g. allowed-no 52 (ltb m.calls limit) _ (le-ltb m.calls limit l) }
 
   pub enters : {stack' : List ℕ} → m.calls < limit
@@ -175,7 +178,7 @@ module _ {limit : ℕ} {m : Machine} {n receiver line : ℕ} {stack : List ℕ} 
 
 -- CALL
 
-reached : {text stack : List ℕ} {heap : List ℤ} {v : ℕ} {t : Result ℕ ℕ} (m : Machine) (x : ℕ) → CalledOn stack m.height (x % 256) (Ok v) → Dispatched text heap m.words v (x / 256) t
+reached : {text stack : List ℕ} {heap : List ℤ} {v : ℕ} {t : Result ℕ Reason} (m : Machine) (x : ℕ) → CalledOn stack m.height (x % 256) (Ok v) → Dispatched text heap m.words v (x / 256) t
     → (A : Around) (o : List ℤ) (g : List ℕ) → A.lines ≡ lines_in text
     → do_call A x (state_of m stack heap o g)
     ≡ followed t λ l. allowed 52 (ltb m.calls A.calls) λ _. goes (opens (state_of m stack heap o g) (x % 256) v l)
@@ -188,24 +191,24 @@ reached {text} {stack} {heap} {v} {t} m x w u A o g p =
     (state_of m stack heap o g) (x % 256) v l))
 
 module _ {text : List ℕ} {limit x : ℕ} {m : Machine} {stack : List ℕ} {heap : List ℤ} where
-  pub call_none : {r : Result Machine ℕ} {e : ℕ} → CalledOn stack m.height (x % 256) (Err e) → r ≡ Err e
+  pub call_none : {r : Result Machine (Maybe Reason)} {e : Reason} → CalledOn stack m.height (x % 256) (Err e) → r ≡ Err (Some e)
       → OnCall text limit x m stack stack heap r
   unfolding do_call call_on
   call_none w i =
       record {
         says = λ A o g p q.
-            w.says (state_of m stack heap o g) refl refl _ ∙ sym (ap (λ (r : Result Machine ℕ). turn_of r stack heap o g) i);
+            w.says (state_of m stack heap o g) refl refl _ ∙ sym (ap (λ (r : Result Machine (Maybe Reason)). turn_of r stack heap o g) i);
       }
 
-  pub call-wrong : {r : Result Machine ℕ} {v e : ℕ} → CalledOn stack m.height (x % 256) (Ok v)
-      → Dispatched text heap m.words v (x / 256) (Err e) → r ≡ Err e
+  pub call-wrong : {r : Result Machine (Maybe Reason)} {e : Reason} {v : ℕ} → CalledOn stack m.height (x % 256) (Ok v)
+      → Dispatched text heap m.words v (x / 256) (Err e) → r ≡ Err (Some e)
       → OnCall text limit x m stack stack heap r
   call-wrong w u i =
       record {
-        says = λ A o g p q. reached m x w u A o g p ∙ sym (ap (λ (r : Result Machine ℕ). turn_of r stack heap o g) i);
+        says = λ A o g p q. reached m x w u A o g p ∙ sym (ap (λ (r : Result Machine (Maybe Reason)). turn_of r stack heap o g) i);
       }
 
-  pub calls : {r : Result Machine ℕ} {v l : ℕ} {stack' : List ℕ} → CalledOn stack m.height (x % 256) (Ok v)
+  pub calls : {r : Result Machine (Maybe Reason)} {v l : ℕ} {stack' : List ℕ} → CalledOn stack m.height (x % 256) (Ok v)
       → Dispatched text heap m.words v (x / 256) (Ok l) → Enters limit m (x % 256) v l stack stack' r
       → OnCall text limit x m stack stack' heap r
   calls {r} {v} {l} {stack'} w u d =

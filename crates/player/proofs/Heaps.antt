@@ -8,14 +8,17 @@ use lib.ListN.{length, get_or, set}
 use lib.IntN.{ℤ, pos}
 use lib.Dec.{ltb, leb, eqb}
 use borrow.Author.Tests.{lt-ltb, le-ltb, le-leb, lt-leb, eq-eqb, ne_eqb}
-use Rattle.std.specs.Prelude.{Result, Ok, Err}
+use Rattle.std.specs.Prelude.{Option as Maybe, Some, Result, Ok, Err}
+use Rattle.base.specs.declared.refusal.Reason.{Reason}
+use Rattle.base.specs.declared.refusal.Reason.TheVariants as reason
+use Rattle.base.specs.promises.Refusals.{number_of}
 use Rattle.base.specs.Word.{low, signed}
 use Rattle.base.specs.laws.WordLaws.{low_signed}
 use Rattle.frames.specs.Machine as Machine
 use Rattle.frames.specs.Machine.{State, Around, Turn, goes, ends, leave, making, reference, element, heap_word}
 use Rattle.frames.specs.Machine.{do_fetch, do_measure, do_store_element, do_print, showing}
 use Rattle.player.specs.promises.Reading.{followed}
-use Rattle.player.specs.promises.Turning.{OnHeap, OnOutput, Value, Cell, Stored, Header, Element, state_of, turn_of}
+use Rattle.player.specs.promises.Turning.{OnHeap, OnOutput, Value, Cell, Stored, Header, Element, number_in, state_of, turn_of}
 use Rattle.player.specs.declared.state.Machine.{Machine}
 use Rattle.player.proofs.Tests.{sure-yes, sure-no, allowed-yes, allowed-no, yes-is, no-is}
 use Rattle.player.proofs.Stacks.{next, two-is, not-two, three-is, three-not, not-three}
@@ -28,11 +31,11 @@ is-cell {heap} {i} {r} e b = record { is = sym (low_signed r b) ∙ ap (low 32) 
 pub stores : {heap : List ℤ} {i v : ℕ} {z : ℤ} → z ≡ signed v → Stored heap i v (set heap i z)
 stores {heap} {i} e = record { is = ap (set heap i) e }
 
-pub null : {words r : ℕ} → r < 1 → Header words r (Err 40)
+pub null : {words r : ℕ} → r < 1 → Header words r (Err reason.NullReference)
 unfolding reference
 null {words} {r} l = record { says = λ s w k. yes-is (eqb r 0) _ _ (eq-eqb r 0 (omega (arith, l))); at = λ i q. absurd (cc) }
 
-pub unmade : {words r : ℕ} → 1 ≤ r → words ≤ r - 1 → Header words r (Err 70)
+pub unmade : {words r : ℕ} → 1 ≤ r → words ≤ r - 1 → Header words r (Err reason.FrameFault)
 unfolding reference
 unmade {words} {r} n l =
     record {
@@ -52,12 +55,12 @@ refers {words} {r} n l =
       at = λ i q. let e : r - 1 ≡ i = cc in (sym e, omega (arith, l, e));
     }
 
-pub no_array : {heap : List ℤ} {words array i n : ℕ} {r : Result ℕ ℕ} → Header words array (Err n) → r ≡ Err n
+pub no_array : {heap : List ℤ} {words array i : ℕ} {n : Reason} {r : Result ℕ Reason} → Header words array (Err n) → r ≡ Err n
     → Element heap words array i r
 unfolding element
 no_array {heap} {words} {array} {i} {n} {r} w e =
     record {
-      says = λ s p q k. w.says s p _ ∙ sym (ap (λ (r : Result ℕ ℕ). followed r k) e);
+      says = λ s p q k. w.says s p _ ∙ sym (ap (λ (r : Result ℕ Reason). followed r k) e);
       within = λ j f. absurd (cc);
     }
 
@@ -68,7 +71,7 @@ tested {heap} {words} {array} {at} {c} i w v s p q k =
     ∙ ap (λ (y : ℕ). Machine.allowed 41 (ltb i y) k) (sym v.is)
 
 pub beyond : {heap : List ℤ} {words array i at c : ℕ} → Header words array (Ok at) → Cell heap at c → c ≤ i
-    → Element heap words array i (Err 41)
+    → Element heap words array i (Err reason.IndexOutOfRange)
 unfolding element
 beyond {heap} {words} {array} {i} {at} {c} w v l =
     record {
@@ -77,7 +80,7 @@ beyond {heap} {words} {array} {i} {at} {c} w v l =
     }
 
 pub outside : {heap : List ℤ} {words array i at c : ℕ} → Header words array (Ok at) → Cell heap at c → i < c → words ≤ array + i
-    → Element heap words array i (Err 70)
+    → Element heap words array i (Err reason.FrameFault)
 unfolding element
 outside {heap} {words} {array} {i} {at} {c} w v l b =
     record {
@@ -102,10 +105,10 @@ element-is {heap} {words} {array} {i} {at} {c} w v l b =
 
 module _ {f : Machine.Does} {x : ℕ} {m : Machine} {before : List ℕ} {heap : List ℤ} where
   -- the run ends
-  pub stops : {r : Result Machine ℕ} {n : ℕ} {after : List ℕ} {heap' : List ℤ} → r ≡ Err n
-      → ((A : Around) (o : List ℤ) (g : List ℕ) → f A x (state_of m before heap o g) ≡ ends n) → OnHeap f x m before after heap heap' r
+  pub stops : {r : Result Machine (Maybe Reason)} {n : Maybe Reason} {after : List ℕ} {heap' : List ℤ} → r ≡ Err n
+      → ((A : Around) (o : List ℤ) (g : List ℕ) → f A x (state_of m before heap o g) ≡ ends (number_in n)) → OnHeap f x m before after heap heap' r
   stops {r} {n} {after} {heap'} e p =
-      record { says = λ A o g. p A o g ∙ sym (ap (λ (r : Result Machine ℕ). turn_of r after heap' o g) e) }
+      record { says = λ A o g. p A o g ∙ sym (ap (λ (r : Result Machine (Maybe Reason)). turn_of r after heap' o g) e) }
 
   -- a value in the place of n others
   pub leaves-it : {at up : ℕ} (n v : ℕ) → at ≡ 2176 + (m.height - n) → up ≡ m.height - n + 1
@@ -119,18 +122,18 @@ module _ {f : Machine.Does} {x : ℕ} {m : Machine} {before : List ℕ} {heap : 
       }
 
 module _ {x : ℕ} {m : Machine} {before : List ℕ} {heap : List ℤ} where
-  pub fetch-none : {r : Result Machine ℕ} {n : ℕ} → Value before m.height 2 (Err n) → r ≡ Err n
+  pub fetch-none : {r : Result Machine (Maybe Reason)} {n : Reason} → Value before m.height 2 (Err n) → r ≡ Err (Some n)
       → OnHeap do_fetch x m before before heap heap r
   unfolding do_fetch
   fetch-none w e = stops e λ A o g. not-two w (state_of m before heap o g) refl refl _
 
-  pub fetch-one : {r : Result Machine ℕ} {n a : ℕ} → Value before m.height 2 (Ok a) → Value before m.height 1 (Err n) → r ≡ Err n
+  pub fetch-one : {r : Result Machine (Maybe Reason)} {n : Reason} {a : ℕ} → Value before m.height 2 (Ok a) → Value before m.height 1 (Err n) → r ≡ Err (Some n)
       → OnHeap do_fetch x m before before heap heap r
   unfolding do_fetch
   fetch-one v w e = stops e λ A o g. two-is v w (state_of m before heap o g) refl refl _
 
-  pub fetch-wrong : {r : Result Machine ℕ} {n a i : ℕ} → Value before m.height 2 (Ok a) → Value before m.height 1 (Ok i)
-      → Element heap m.words a i (Err n) → r ≡ Err n
+  pub fetch-wrong : {r : Result Machine (Maybe Reason)} {n : Reason} {a i : ℕ} → Value before m.height 2 (Ok a) → Value before m.height 1 (Ok i)
+      → Element heap m.words a i (Err n) → r ≡ Err (Some n)
       → OnHeap do_fetch x m before before heap heap r
   unfolding do_fetch
   fetch-wrong v w u e =
@@ -146,12 +149,12 @@ module _ {x : ℕ} {m : Machine} {before : List ℕ} {heap : List ℤ} where
       two-is v w (state_of m before heap o g) refl refl _ ∙ u.says (state_of m before heap o g) refl refl _
       ∙ ap (λ (y : ℕ). goes (leave (state_of m before heap o g) 2 y)) (sym c.is)
 
-  pub measure-none : {r : Result Machine ℕ} {n : ℕ} → Value before m.height 1 (Err n) → r ≡ Err n
+  pub measure-none : {r : Result Machine (Maybe Reason)} {n : Reason} → Value before m.height 1 (Err n) → r ≡ Err (Some n)
       → OnHeap do_measure x m before before heap heap r
   unfolding do_measure Machine.one
   measure-none w e = stops e λ A o g. w.says (state_of m before heap o g) refl refl _
 
-  pub measure-wrong : {r : Result Machine ℕ} {n a : ℕ} → Value before m.height 1 (Ok a) → Header m.words a (Err n) → r ≡ Err n
+  pub measure-wrong : {r : Result Machine (Maybe Reason)} {n : Reason} {a : ℕ} → Value before m.height 1 (Ok a) → Header m.words a (Err n) → r ≡ Err (Some n)
       → OnHeap do_measure x m before before heap heap r
   unfolding do_measure Machine.one
   measure-wrong w u e =
@@ -166,24 +169,24 @@ module _ {x : ℕ} {m : Machine} {before : List ℕ} {heap : List ℤ} where
       ∙ ap (λ (y : ℕ). goes (leave (state_of m before heap o g) 1 y)) (ap (λ (k : ℕ). low 32 (get_or heap k (pos 0))) (sym (u.at i refl).0)
       ∙ sym c.is)
 
-  pub store-none : {r : Result Machine ℕ} {n : ℕ} → Value before m.height 3 (Err n) → r ≡ Err n
+  pub store-none : {r : Result Machine (Maybe Reason)} {n : Reason} → Value before m.height 3 (Err n) → r ≡ Err (Some n)
       → OnHeap do_store_element x m before before heap heap r
   unfolding do_store_element
   store-none w e = stops e λ A o g. not-three w (state_of m before heap o g) refl refl _
 
-  pub store-one : {r : Result Machine ℕ} {n a : ℕ} → Value before m.height 3 (Ok a) → Value before m.height 2 (Err n) → r ≡ Err n
+  pub store-one : {r : Result Machine (Maybe Reason)} {n : Reason} {a : ℕ} → Value before m.height 3 (Ok a) → Value before m.height 2 (Err n) → r ≡ Err (Some n)
       → OnHeap do_store_element x m before before heap heap r
   unfolding do_store_element
   store-one u w e = stops e λ A o g. three-not u w (state_of m before heap o g) refl refl _
 
-  pub store-two : {r : Result Machine ℕ} {n a i : ℕ} → Value before m.height 3 (Ok a) → Value before m.height 2 (Ok i)
-      → Value before m.height 1 (Err n) → r ≡ Err n
+  pub store-two : {r : Result Machine (Maybe Reason)} {n : Reason} {a i : ℕ} → Value before m.height 3 (Ok a) → Value before m.height 2 (Ok i)
+      → Value before m.height 1 (Err n) → r ≡ Err (Some n)
       → OnHeap do_store_element x m before before heap heap r
   unfolding do_store_element
   store-two u v w e = stops e λ A o g. three-is u v w (state_of m before heap o g) refl refl _
 
-  pub store-wrong : {r : Result Machine ℕ} {n a i v : ℕ} → Value before m.height 3 (Ok a) → Value before m.height 2 (Ok i)
-      → Value before m.height 1 (Ok v) → Element heap m.words a i (Err n) → r ≡ Err n
+  pub store-wrong : {r : Result Machine (Maybe Reason)} {n : Reason} {a i v : ℕ} → Value before m.height 3 (Ok a) → Value before m.height 2 (Ok i)
+      → Value before m.height 1 (Ok v) → Element heap m.words a i (Err n) → r ≡ Err (Some n)
       → OnHeap do_store_element x m before before heap heap r
   unfolding do_store_element
   store-wrong u v w d e =
@@ -217,18 +220,18 @@ shown m =
     }
 
 module _ {x : ℕ} {m : Machine} {stack : List ℕ} {output : List ℤ} where
-  pub print-none : {r : Result Machine ℕ} {n : ℕ} → Value stack m.height 1 (Err n) → r ≡ Err n
+  pub print-none : {r : Result Machine (Maybe Reason)} {n : Reason} → Value stack m.height 1 (Err n) → r ≡ Err (Some n)
       → OnOutput do_print x m stack output output r
   unfolding do_print Machine.one
   print-none w e =
       record {
         says = λ A h g.
-            w.says (state_of m stack h output g) refl refl _ ∙ sym (ap (λ (r : Result Machine ℕ). turn_of r stack h output g) e);
+            w.says (state_of m stack h output g) refl refl _ ∙ sym (ap (λ (r : Result Machine (Maybe Reason)). turn_of r stack h output g) e);
         still = λ _ _. refl;
       }
 
   pub print-full : {v : ℕ} → Value stack m.height 1 (Ok v) → length output ≤ m.printed
-      → OnOutput do_print x m stack output output (Err 53)
+      → OnOutput do_print x m stack output output (Err (Some reason.OutputFull))
   unfolding do_print Machine.one
   print-full w l =
       record {

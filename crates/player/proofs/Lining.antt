@@ -15,6 +15,8 @@ use Rattle.base.specs.Choice.{if◌then◌otherwise◌, option}
 use Rattle.base.specs.Outcome.{Outcome, accepted, refused, ◌>>=◌}
 use Rattle.frames.specs.Lines.{Line, line, digit_of, digits, line_feed_lem, single_line, no_more, lines_from, lines}
 use Rattle.frames.specs.Machine.{Turn, bad, sure, entered}
+use Rattle.base.specs.declared.refusal.Reason.{Reason}
+use Rattle.base.specs.declared.refusal.Reason.TheVariants as reason
 use Rattle.std.specs.Prelude.{Result, Ok, Err, Option as Maybe, None, Some, unwrap_or}
 use Rattle.player.specs.promises.Reading.{number_or, line_in, packed, word_at, unpacked, lines_at, lines_in, LineAt, Decoded, Form}
 use Rattle.player.specs.promises.Reading.{FrameAt, EntryAt, followed}
@@ -412,7 +414,7 @@ entered-there : (s : List ℕ) (i r : ℕ) (k : ℕ → Turn) → i < length s /
 unfolding entered
 entered-there s i r k l w = ap (λ (o : Option Line). option o bad λ e. sure (eqb e.code 22) λ _. k e.operand) (frame-line l w)
 
-pub no-entry-past : {s : List ℕ} {count i : ℕ} → count ≡ length s / 11 → count ≤ i → EntryAt s i (Err 70)
+pub no-entry-past : {s : List ℕ} {count i : ℕ} → count ≡ length s / 11 → count ≤ i → EntryAt s i (Err reason.FrameFault)
 unfolding entered
 no-entry-past {s} {count} {i} e l =
     record {
@@ -422,7 +424,7 @@ no-entry-past {s} {count} {i} e l =
     }
 
 pub no-entry : {s : List ℕ} {count i f : ℕ} → count ≡ length s / 11 → i < count → FrameAt s i f → (f / 4294967296 ≡ 22 → ⊥)
-    → EntryAt s i (Err 70)
+    → EntryAt s i (Err reason.FrameFault)
 no-entry {s} {count} {i} {f} e l w n =
     record {
       says = λ k. entered-there s i f k (omega (arith, e, l)) w ∙ sure-no (eqb (f / 4294967296) 22) _ (ne_eqb (f / 4294967296) 22 n);

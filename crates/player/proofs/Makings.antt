@@ -9,7 +9,10 @@ use lib.IntN.{ℤ, pos}
 use lib.Dec.{ltb, leb}
 use borrow.Author.Tests.{lt-ltb, le-ltb, le-leb, lt-leb}
 use borrow.Rule.Slice.PartMut.{put_mid, mid_of, mid_len, Post-is}
-use Rattle.std.specs.Prelude.{Result, Ok, Err}
+use Rattle.std.specs.Prelude.{Option as Maybe, Some, Result, Ok, Err}
+use Rattle.base.specs.declared.refusal.Reason.{Reason}
+use Rattle.base.specs.declared.refusal.Reason.TheVariants as reason
+use Rattle.base.specs.promises.Refusals.{number_of}
 use Rattle.base.specs.Word.{signed}
 use Rattle.frames.specs.Machine as Machine
 use Rattle.frames.specs.Machine.{goes, makes, do_make_array, do_make_object}
@@ -44,7 +47,7 @@ made m h w =
     record { line = m.line + 1; height = h; calls = m.calls; words = w; printed = m.printed; tape = m.tape; marks = m.marks }
 
 module _ {stack : List ℕ} {heap : List ℤ} {m : Machine} {height header n : ℕ} where
-  pub heap-full : length heap < m.words + 1 + n → Makes stack stack heap heap m height header n (Err 51)
+  pub heap-full : length heap < m.words + 1 + n → Makes stack stack heap heap m height header n (Err (Some reason.HeapFull))
   unfolding makes
   heap-full l = record { says = λ t z o g. allowed-no 51 (leb (m.words + 1 + n) (length heap)) _ (lt-leb (m.words + 1 + n) (length heap) l) }
 
@@ -60,20 +63,20 @@ module _ {stack : List ℕ} {heap : List ℤ} {m : Machine} {height header n : �
       }
 
 module _ {x : ℕ} {m : Machine} {before : List ℕ} {heap : List ℤ} where
-  pub array-none : {r : Result Machine ℕ} {n : ℕ} → Value before m.height 1 (Err n) → r ≡ Err n
+  pub array-none : {r : Result Machine (Maybe Reason)} {n : Reason} → Value before m.height 1 (Err n) → r ≡ Err (Some n)
       → OnHeap do_make_array x m before before heap heap r
   unfolding do_make_array Machine.one
   array-none w e = stops e λ A o g. w.says (state_of m before heap o g) refl refl _
 
   pub array-negative : {v : ℕ} → Value before m.height 1 (Ok v) → 2147483648 ≤ v
-      → OnHeap do_make_array x m before before heap heap (Err 42)
+      → OnHeap do_make_array x m before before heap heap (Err (Some reason.NegativeSize))
   unfolding do_make_array Machine.one
   array-negative {v} w l =
       record {
         says = λ A o g. w.says (state_of m before heap o g) refl refl _ ∙ allowed-no 42 (ltb v 2147483648) _ (le-ltb v 2147483648 l);
       }
 
-  pub makes-array : {v : ℕ} {r : Result Machine ℕ} {after : List ℕ} {heap' : List ℤ} → Value before m.height 1 (Ok v) → v < 2147483648
+  pub makes-array : {v : ℕ} {r : Result Machine (Maybe Reason)} {after : List ℕ} {heap' : List ℤ} → Value before m.height 1 (Ok v) → v < 2147483648
       → Makes before after heap heap' m (m.height - 1) v v r → OnHeap do_make_array x m before after heap heap' r
   unfolding do_make_array Machine.one
   makes-array {v} w l u =
@@ -82,15 +85,14 @@ module _ {x : ℕ} {m : Machine} {before : List ℕ} {heap : List ℤ} where
             w.says (state_of m before heap o g) refl refl _ ∙ allowed-yes 42 (ltb v 2147483648) _ (lt-ltb v 2147483648 l) ∙ u.says 1 refl o g;
       }
 
-  pub object-full : {r : Result Machine ℕ} {n : ℕ} → Room before m.height (Err n) → r ≡ Err n
+  pub object-full : {r : Result Machine (Maybe Reason)} {n : Reason} → Room before m.height (Err n) → r ≡ Err (Some n)
       → OnHeap do_make_object x m before before heap heap r
   unfolding do_make_object
   object-full t e = stops e λ A o g. t.says (state_of m before heap o g) refl refl _
 
-  pub makes-object : {top : ℕ} {r : Result Machine ℕ} {after : List ℕ} {heap' : List ℤ} → Room before m.height (Ok top)
+  pub makes-object : {top : ℕ} {r : Result Machine (Maybe Reason)} {after : List ℕ} {heap' : List ℤ} → Room before m.height (Ok top)
       → Makes before after heap heap' m m.height (x / 65536) (x % 65536) r
       → OnHeap do_make_object x m before after heap heap' r
   unfolding do_make_object
   makes-object t u =
       record { says = λ A o g. t.says (state_of m before heap o g) refl refl _ ∙ u.says 0 (omega arith) o g }
-

@@ -8,6 +8,8 @@ use mathlib.Core.Path.{◌≡◌, refl, sym, ap, ap₂, ◌∙◌, subst}
 use lib.IntN.{ℤ, pos}
 use lib.ListN.{length, replicate, length-replicate, length-drop}
 use Rattle.std.specs.Prelude.{Result, Ok, Err}
+use Rattle.base.specs.declared.refusal.Reason.{Reason}
+use Rattle.base.specs.promises.Refusals.{number_of}
 use Rattle.base.specs.Choice.{option}
 use Rattle.base.specs.Outcome.{Outcome}
 use Rattle.device.specs.promises.Holding.{held_in, registers_of}
@@ -85,7 +87,7 @@ module _ {text tape : List ℕ} {l : Limits} {p : Record} {heap output : List �
 -- THE OPERATIONS
 
 module _ {text tape : List ℕ} {l : Limits} {heap output : List ℤ} {registers stack : List ℕ} {a : Answer} where
-  pub run-refused : {n : ℕ} → Lent l (length heap) (length registers) (length stack) (Err n) → a ≡ refusal_of n 0
+  pub run-refused : {n : Reason} → Lent l (length heap) (length registers) (length stack) (Err n) → a ≡ refusal_of (number_of n) 0
       → Runs text tape l (strips_of heap output registers stack) (strips_of heap output registers stack) a
   unfolding run
   run-refused w e =
@@ -121,7 +123,7 @@ module _ {text tape : List ℕ} {l : Limits} {heap output : List ℤ} {registers
       }
 
 module _ {text tape : List ℕ} {l : Limits} {p : Record} {heap output : List ℤ} {registers stack : List ℕ} {a : Answer} where
-  pub resume-refused : {n : ℕ} → Lent l (length heap) (length registers) (length stack) (Err n) → a ≡ refusal_of n 0
+  pub resume-refused : {n : Reason} → Lent l (length heap) (length registers) (length stack) (Err n) → a ≡ refusal_of (number_of n) 0
       → Continues text tape l p (strips_of heap output registers stack) (strips_of heap output registers stack) a
   unfolding continue
   resume-refused w e =

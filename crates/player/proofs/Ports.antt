@@ -14,7 +14,10 @@ use Rattle.device.specs.promises.Holding.{held_in, registers_of, Alters, Looks}
 use Rattle.device.specs.Bits.{sample-none}
 use Rattle.device.specs.laws.Samples.{samples}
 use Rattle.device.specs.Device.{device_in}
-use Rattle.std.specs.Prelude.{Result, Ok, Err}
+use Rattle.std.specs.Prelude.{Option as Maybe, Some, Result, Ok, Err}
+use Rattle.base.specs.declared.refusal.Reason.{Reason}
+use Rattle.base.specs.declared.refusal.Reason.TheVariants as reason
+use Rattle.base.specs.promises.Refusals.{number_of}
 use Rattle.frames.specs.Machine as Machine
 use Rattle.frames.specs.Machine.{goes, do_get, do_put, do_mark}
 use Rattle.player.specs.promises.Turning.{OnPort, Sampled, Marks, Value, state_of, turn_of}
@@ -33,27 +36,27 @@ served m h t n =
     record { line = m.line + 1; height = h; calls = m.calls; words = m.words; printed = m.printed; tape = t; marks = n }
 
 module _ {x : ℕ} {m : Machine} {stack g : List ℕ} where
-  pub put-none : {r : Result Machine ℕ} {e : ℕ} → Value stack m.height 2 (Err e) → r ≡ Err e → OnPort do_put x m stack stack g g r
+  pub put-none : {r : Result Machine (Maybe Reason)} {e : Reason} → Value stack m.height 2 (Err e) → r ≡ Err (Some e) → OnPort do_put x m stack stack g g r
   unfolding do_put
   put-none w i =
       record {
         says = λ A h o.
-            not-two w (state_of m stack h o g) refl refl _ ∙ sym (ap (λ (r : Result Machine ℕ). turn_of r stack h o g) i);
+            not-two w (state_of m stack h o g) refl refl _ ∙ sym (ap (λ (r : Result Machine (Maybe Reason)). turn_of r stack h o g) i);
         still = λ _ _. refl;
       }
 
-  pub put-one : {r : Result Machine ℕ} {e n : ℕ} → Value stack m.height 2 (Ok n) → Value stack m.height 1 (Err e) → r ≡ Err e
+  pub put-one : {r : Result Machine (Maybe Reason)} {e : Reason} {n : ℕ} → Value stack m.height 2 (Ok n) → Value stack m.height 1 (Err e) → r ≡ Err (Some e)
       → OnPort do_put x m stack stack g g r
   unfolding do_put
   put-one v w i =
       record {
         says = λ A h o.
-            two-is v w (state_of m stack h o g) refl refl _ ∙ sym (ap (λ (r : Result Machine ℕ). turn_of r stack h o g) i);
+            two-is v w (state_of m stack h o g) refl refl _ ∙ sym (ap (λ (r : Result Machine (Maybe Reason)). turn_of r stack h o g) i);
         still = λ _ _. refl;
       }
 
   pub put-register : {n v : ℕ} → Value stack m.height 2 (Ok n) → Value stack m.height 1 (Ok v) → 16 ≤ n
-      → OnPort do_put x m stack stack g g (Err 63)
+      → OnPort do_put x m stack stack g g (Err (Some reason.RegisterOutOfRange))
   unfolding do_put
   put-register {n} {v} u w l =
       record {
@@ -62,7 +65,7 @@ module _ {x : ℕ} {m : Machine} {stack g : List ℕ} where
       }
 
   pub put-value : {n v : ℕ} → Value stack m.height 2 (Ok n) → Value stack m.height 1 (Ok v) → n < 16 → 256 ≤ v
-      → OnPort do_put x m stack stack g g (Err 64)
+      → OnPort do_put x m stack stack g g (Err (Some reason.ValueOutOfRange))
   unfolding do_put
   put-value {n} {v} u w k l =
       record {
@@ -86,16 +89,16 @@ module _ {x : ℕ} {m : Machine} {stack g : List ℕ} where
         still = λ e f. absurd (cc);
       }
 
-  pub get_none : {r : Result Machine ℕ} {e : ℕ} → Value stack m.height 1 (Err e) → r ≡ Err e → OnPort do_get x m stack stack g g r
+  pub get_none : {r : Result Machine (Maybe Reason)} {e : Reason} → Value stack m.height 1 (Err e) → r ≡ Err (Some e) → OnPort do_get x m stack stack g g r
   unfolding do_get Machine.one
   get_none w i =
       record {
         says = λ A h o.
-            w.says (state_of m stack h o g) refl refl _ ∙ sym (ap (λ (r : Result Machine ℕ). turn_of r stack h o g) i);
+            w.says (state_of m stack h o g) refl refl _ ∙ sym (ap (λ (r : Result Machine (Maybe Reason)). turn_of r stack h o g) i);
         still = λ _ _. refl;
       }
 
-  pub get-register : {n : ℕ} → Value stack m.height 1 (Ok n) → 16 ≤ n → OnPort do_get x m stack stack g g (Err 63)
+  pub get-register : {n : ℕ} → Value stack m.height 1 (Ok n) → 16 ≤ n → OnPort do_get x m stack stack g g (Err (Some reason.RegisterOutOfRange))
   unfolding do_get Machine.one
   get-register {n} w l =
       record {

@@ -9,7 +9,10 @@ use lib.ListN.{length, get_or, set}
 use lib.IntN.{ℤ, pos}
 use lib.Dec.{ltb, leb, eqb}
 use borrow.Author.Tests.{lt-ltb, le-ltb, le-leb, lt-leb}
-use Rattle.std.specs.Prelude.{Result, Ok, Err}
+use Rattle.std.specs.Prelude.{Option as Maybe, Some, Result, Ok, Err}
+use Rattle.base.specs.declared.refusal.Reason.{Reason}
+use Rattle.base.specs.declared.refusal.Reason.TheVariants as reason
+use Rattle.base.specs.promises.Refusals.{number_of}
 use Rattle.base.specs.Word.{low}
 use Rattle.frames.specs.Machine as Machine
 use Rattle.frames.specs.Machine.{State, Turn, goes, ends, bad, sure, word, field, leave}
@@ -24,13 +27,13 @@ use Rattle.player.proofs.Heaps.{stops, leaves-it}
 -- FIELDS
 
 module _ {words entry : ℕ} where
-  pub large-receiver : {x n : ℕ} {r : Result ℕ ℕ} → IsWord entry (Err n) → r ≡ Err n → Field words entry x r
+  pub large-receiver : {x : ℕ} {n : Reason} {r : Result ℕ Reason} → IsWord entry (Err n) → r ≡ Err n → Field words entry x r
   unfolding field
   large-receiver {x} {n} {r} w e =
       record {
         says = λ s c p q k.
             ap (λ (v : ℕ). word v λ r. sure (leb 1 r && ltb (r + (x - 32)) s.words) λ _. k (r + (x - 32))) q ∙ w.says _
-            ∙ sym (ap (λ (r : Result ℕ ℕ). followed r k) e);
+            ∙ sym (ap (λ (r : Result ℕ Reason). followed r k) e);
         within = λ j f. absurd (cc);
       }
 
@@ -41,7 +44,7 @@ module _ {words entry : ℕ} where
       ap (λ (v : ℕ). word v λ r. sure (leb 1 r && ltb (r + (x - 32)) s.words) λ _. k (r + (x - 32))) q ∙ w.says _
       ∙ ap₂ (λ (b : Bool) (n : ℕ). sure (b && ltb (r + (x - 32)) n) λ _. k (r + (x - 32))) t p
 
-  pub no_field : {x r : ℕ} → IsWord entry (Ok r) → (r < 1) ⊎ ((1 ≤ r) × (words ≤ r + (x - 32))) → Field words entry x (Err 70)
+  pub no_field : {x r : ℕ} → IsWord entry (Ok r) → (r < 1) ⊎ ((1 ≤ r) × (words ≤ r + (x - 32))) → Field words entry x (Err reason.FrameFault)
   no_field {x} {r} w (inl l) =
       record { says = λ s c p q k. tested x w false (lt-leb 1 r l) s c p q k ∙ sure-no false _ refl; within = λ j f. absurd (cc) }
   no_field {x} {r} w (inr (p, b)) =
@@ -62,19 +65,19 @@ module _ {words entry : ℕ} where
 -- PLACES
 
 module _ {stack : List ℕ} {heap : List ℤ} {words c x : ℕ} where
-  pub in_row : {r : Result ℕ ℕ} → x < 32 → IsWord (get_or stack (c + 2 + x) 0) r → Held stack heap words c x r
+  pub in_row : {r : Result ℕ Reason} → x < 32 → IsWord (get_or stack (c + 2 + x) 0) r → Held stack heap words c x r
   in_row {r} b w =
       record {
         says = λ s p q h k.
             yes-is (ltb x 32) _ _ (lt-ltb x 32 b) ∙ ap (λ (t : List ℕ). word (get_or t (c + 2 + x) 0) k) q ∙ w.says k;
       }
 
-  pub in-none : {r : Result ℕ ℕ} {n : ℕ} → 32 ≤ x → Field words (get_or stack c 0) x (Err n) → r ≡ Err n → Held stack heap words c x r
+  pub in-none : {r : Result ℕ Reason} {n : Reason} → 32 ≤ x → Field words (get_or stack c 0) x (Err n) → r ≡ Err n → Held stack heap words c x r
   in-none {r} {n} b w e =
       record {
         says = λ s p q h k.
             no-is (ltb x 32) _ _ (le-ltb x 32 b) ∙ w.says s c p (ap (λ (t : List ℕ). get_or t c 0) q) _
-            ∙ sym (ap (λ (r : Result ℕ ℕ). followed r k) e);
+            ∙ sym (ap (λ (r : Result ℕ Reason). followed r k) e);
       }
 
   pub in_field : {j v : ℕ} → 32 ≤ x → Field words (get_or stack c 0) x (Ok j) → Cell heap j v → Held stack heap words c x (Ok v)
@@ -88,19 +91,19 @@ module _ {stack : List ℕ} {heap : List ℤ} {words c x : ℕ} where
 -- LOAD AND SAVE
 
 module _ {x : ℕ} {m : Machine} {before : List ℕ} {heap : List ℤ} where
-  pub load-full : {r : Result Machine ℕ} {n : ℕ} → Room before m.height (Err n) → r ≡ Err n
+  pub load-full : {r : Result Machine (Maybe Reason)} {n : Reason} → Room before m.height (Err n) → r ≡ Err (Some n)
       → OnHeap do_load x m before before heap heap r
   unfolding do_load
   load-full t e = stops e λ A o g. t.says (state_of m before heap o g) refl refl _
 
-  pub load-outside : {r : Result Machine ℕ} {n top : ℕ} → Room before m.height (Ok top) → Inner m (Err n) → r ≡ Err n
+  pub load-outside : {r : Result Machine (Maybe Reason)} {n : Reason} {top : ℕ} → Room before m.height (Ok top) → Inner m (Err n) → r ≡ Err (Some n)
       → OnHeap do_load x m before before heap heap r
   unfolding do_load
   load-outside t i e =
       stops e λ A o g. t.says (state_of m before heap o g) refl refl _ ∙ i.says (state_of m before heap o g) refl _
 
-  pub load-none : {r : Result Machine ℕ} {n top c : ℕ} → Room before m.height (Ok top) → Inner m (Ok c)
-      → Held before heap m.words c x (Err n) → r ≡ Err n
+  pub load-none : {r : Result Machine (Maybe Reason)} {n : Reason} {top c : ℕ} → Room before m.height (Ok top) → Inner m (Ok c)
+      → Held before heap m.words c x (Err n) → r ≡ Err (Some n)
       → OnHeap do_load x m before before heap heap r
   unfolding do_load
   load-none t i w e =
@@ -116,12 +119,12 @@ module _ {x : ℕ} {m : Machine} {before : List ℕ} {heap : List ℤ} where
       t.says (state_of m before heap o g) refl refl _ ∙ i.says (state_of m before heap o g) refl _
       ∙ w.says (state_of m before heap o g) refl refl refl λ v. goes (leave (state_of m before heap o g) 0 v)
 
-  pub save-none : {r : Result Machine ℕ} {n : ℕ} → Value before m.height 1 (Err n) → r ≡ Err n
+  pub save-none : {r : Result Machine (Maybe Reason)} {n : Reason} → Value before m.height 1 (Err n) → r ≡ Err (Some n)
       → OnHeap do_save x m before before heap heap r
   unfolding do_save Machine.one
   save-none w e = stops e λ A o g. w.says (state_of m before heap o g) refl refl _
 
-  pub save-outside : {r : Result Machine ℕ} {n v : ℕ} → Value before m.height 1 (Ok v) → Inner m (Err n) → r ≡ Err n
+  pub save-outside : {r : Result Machine (Maybe Reason)} {n : Reason} {v : ℕ} → Value before m.height 1 (Ok v) → Inner m (Err n) → r ≡ Err (Some n)
       → OnHeap do_save x m before before heap heap r
   unfolding do_save Machine.one
   save-outside w i e =
@@ -137,8 +140,8 @@ module _ {x : ℕ} {m : Machine} {before : List ℕ} {heap : List ℤ} where
             ∙ yes-is (ltb x 32) _ _ (lt-ltb x 32 l);
       }
 
-  pub save-nowhere : {r : Result Machine ℕ} {n v c : ℕ} → Value before m.height 1 (Ok v) → Inner m (Ok c) → 32 ≤ x
-      → Field m.words (get_or before c 0) x (Err n) → r ≡ Err n
+  pub save-nowhere : {r : Result Machine (Maybe Reason)} {n : Reason} {v c : ℕ} → Value before m.height 1 (Ok v) → Inner m (Ok c) → 32 ≤ x
+      → Field m.words (get_or before c 0) x (Err n) → r ≡ Err (Some n)
       → OnHeap do_save x m before before heap heap r
   unfolding do_save Machine.one
   save-nowhere {r} {n} {v} {c} w i l u e =
@@ -174,24 +177,24 @@ closed m l =
     }
 
 module _ {x : ℕ} {m : Machine} {before : List ℕ} where
-  pub self-operand : {r : Result Machine ℕ} {n : ℕ} → NoOperand x (Err n) → r ≡ Err n → OnStack do_self x m before before r
+  pub self-operand : {r : Result Machine (Maybe Reason)} {n : Reason} → NoOperand x (Err n) → r ≡ Err (Some n) → OnStack do_self x m before before r
   unfolding do_self
   self-operand z e = ends-on e λ A h o g. z.says _
 
-  pub self-full : {r : Result Machine ℕ} {n : ℕ} {u : Unit {0}} → NoOperand x (Ok u) → Room before m.height (Err n) → r ≡ Err n
+  pub self-full : {r : Result Machine (Maybe Reason)} {n : Reason} {u : Unit {0}} → NoOperand x (Ok u) → Room before m.height (Err n) → r ≡ Err (Some n)
       → OnStack do_self x m before before r
   unfolding do_self
   self-full z t e = ends-on e λ A h o g. z.says _ ∙ t.says (state_of m before h o g) refl refl _
 
-  pub self-outside : {r : Result Machine ℕ} {n top : ℕ} {u : Unit {0}} → NoOperand x (Ok u) → Room before m.height (Ok top)
-      → Inner m (Err n) → r ≡ Err n
+  pub self-outside : {r : Result Machine (Maybe Reason)} {n : Reason} {top : ℕ} {u : Unit {0}} → NoOperand x (Ok u) → Room before m.height (Ok top)
+      → Inner m (Err n) → r ≡ Err (Some n)
       → OnStack do_self x m before before r
   unfolding do_self
   self-outside z t i e =
       ends-on e λ A h o g. z.says _ ∙ t.says (state_of m before h o g) refl refl _ ∙ i.says (state_of m before h o g) refl _
 
-  pub self-none : {r : Result Machine ℕ} {n top c : ℕ} {u : Unit {0}} → NoOperand x (Ok u) → Room before m.height (Ok top)
-      → Inner m (Ok c) → IsWord (get_or before c 0) (Err n) → r ≡ Err n
+  pub self-none : {r : Result Machine (Maybe Reason)} {n : Reason} {top c : ℕ} {u : Unit {0}} → NoOperand x (Ok u) → Room before m.height (Ok top)
+      → Inner m (Ok c) → IsWord (get_or before c 0) (Err n) → r ≡ Err (Some n)
       → OnStack do_self x m before before r
   unfolding do_self
   self-none z t i w e =
@@ -207,17 +210,17 @@ module _ {x : ℕ} {m : Machine} {before : List ℕ} where
       z.says _ ∙ t.says (state_of m before h o g) refl refl _ ∙ i.says (state_of m before h o g) refl _
       ∙ w.says λ v. goes (leave (state_of m before h o g) 0 v)
 
-  pub return-operand : {r : Result Machine ℕ} {n : ℕ} → NoOperand x (Err n) → r ≡ Err n → OnStack do_return x m before before r
+  pub return-operand : {r : Result Machine (Maybe Reason)} {n : Reason} → NoOperand x (Err n) → r ≡ Err (Some n) → OnStack do_return x m before before r
   unfolding do_return
   return-operand z e = ends-on e λ A h o g. z.says _
 
-  pub return-outside : {r : Result Machine ℕ} {n : ℕ} {u : Unit {0}} → NoOperand x (Ok u) → Inner m (Err n) → r ≡ Err n
+  pub return-outside : {r : Result Machine (Maybe Reason)} {n : Reason} {u : Unit {0}} → NoOperand x (Ok u) → Inner m (Err n) → r ≡ Err (Some n)
       → OnStack do_return x m before before r
   unfolding do_return
   return-outside z i e = ends-on e λ A h o g. z.says _ ∙ i.says (state_of m before h o g) refl _
 
-  pub return-none : {r : Result Machine ℕ} {n c : ℕ} {u : Unit {0}} → NoOperand x (Ok u) → Inner m (Ok c)
-      → IsWord (get_or before (c + 1) 0) (Err n) → r ≡ Err n
+  pub return-none : {r : Result Machine (Maybe Reason)} {n : Reason} {c : ℕ} {u : Unit {0}} → NoOperand x (Ok u) → Inner m (Ok c)
+      → IsWord (get_or before (c + 1) 0) (Err n) → r ≡ Err (Some n)
       → OnStack do_return x m before before r
   unfolding do_return
   return-none z i w e = ends-on e λ A h o g. z.says _ ∙ i.says (state_of m before h o g) refl _ ∙ w.says _

@@ -10,7 +10,7 @@ use crate::heap::{cell, header};
 use crate::lines::{DECODED, entry_at};
 use crate::stack::word;
 use crate::state::{CALL, Machine, PLACES, RETURN, ROW, VALUES, WORDS};
-use base::codes;
+use base::refusal::Reason;
 
 // The operand is the table's line times this, and how many arguments there are.
 const COUNTS: u32 = 256;
@@ -23,16 +23,16 @@ fn all_words(entries: &[u64]) -> bool
 }
 
 // The receiver of a call of n arguments; 70 where a value is missing, or there are more arguments than a row has places.
-fn called_on(stack: &[u64], height: usize, n: usize) -> Result<u32, u32>
+fn called_on(stack: &[u64], height: usize, n: usize) -> Result<u32, Reason>
     requires { (values_from + height ≤ length stack.now) × (n < 256) }
     ensures { CalledOn stack.now height n result }
 {
     if ROW < n || height < n + 1 {
-        return Err(codes::FRAME_FAULT);
+        return Err(Reason::FrameFault);
     }
     let first = VALUES + (height - n);
     if !all_words(&stack[first..first + n]) {
-        return Err(codes::FRAME_FAULT);
+        return Err(Reason::FrameFault);
     }
     word(stack[first - 1])
 }
@@ -46,7 +46,7 @@ fn dispatched(
     words: usize,
     receiver: u32,
     table: u32,
-) -> Result<u32, u32>
+) -> Result<u32, Reason>
     requires { Counted text.now decoded.now count × (words ≤ length heap.now) × (table < 16777216) }
     ensures { Dispatched text.now heap.now words receiver table result }
 {
@@ -77,13 +77,13 @@ fn enter(
     n: usize,
     receiver: u32,
     line: u32,
-) -> Result<Machine, u32>
+) -> Result<Machine, Option<Reason>>
     requires { Stands m stack.old × (limit ≤ calls_most) × (n ≤ 32)
         × (n + 1 ≤ m.height) }
     ensures { Enters limit m n receiver line stack.old stack.new result }
 {
     if limit <= m.calls {
-        return Err(codes::CALLS_FULL);
+        return Err(Some(Reason::CallsFull));
     }
     let from = VALUES + (m.height - n);
     open_call(
@@ -112,7 +112,7 @@ pub fn call(
     m: Machine,
     x: u32,
     limit: usize,
-) -> Result<Machine, u32>
+) -> Result<Machine, Option<Reason>>
     requires { Counted text.now decoded.now count × Stands m stack.old × (m.words ≤ length heap.now) × (limit ≤ calls_most) }
     ensures { OnCall text.now limit x m stack.old stack.new heap.now result }
 {

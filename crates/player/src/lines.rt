@@ -3,7 +3,7 @@ ghost use Rattle.std.specs.Prelude.{◌≡◌, ◌+◌, ◌/◌, ◌≤◌, ◌<
 ghost use Rattle.player.specs.promises.Reading.{digit_or, number_or, LineAt, Form, Decoded, Counted, FrameAt, EntryAt};
 
 use crate::state::WORDS;
-use base::codes;
+use base::refusal::Reason;
 
 // Bytes of a line, its digits and where they lie: two for the code, eight for the operand, then a line feed.
 pub const LINE: usize = 11;
@@ -99,16 +99,21 @@ pub fn frame_at(text: &[u8], decoded: &[u64; DECODED], i: usize) -> u64
 }
 
 // The operand of the `entry` at a line; 70 where the line is past the last or no `entry`.
-pub fn entry_at(text: &[u8], decoded: &[u64; DECODED], count: usize, i: usize) -> Result<u32, u32>
+pub fn entry_at(
+    text: &[u8],
+    decoded: &[u64; DECODED],
+    count: usize,
+    i: usize,
+) -> Result<u32, Reason>
     requires { Counted text.now decoded.now count }
     ensures { EntryAt text.now i result }
 {
     if count <= i {
-        return Err(codes::FRAME_FAULT);
+        return Err(Reason::FrameFault);
     }
     let f = frame_at(text, decoded, i);
     if f / WIDTH != ENTRY {
-        return Err(codes::FRAME_FAULT);
+        return Err(Reason::FrameFault);
     }
     Ok((f % WIDTH) as u32)
 }

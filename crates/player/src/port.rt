@@ -9,7 +9,7 @@ ghost use Rattle.frames.specs.Numbers.{values_from};
 use crate::heap::put_cell;
 use crate::stack::value;
 use crate::state::{Machine, VALUES};
-use base::codes;
+use base::refusal::Reason;
 use device::state::{catch_up, get, put, show, value as held};
 
 // How many registers there are, and how many values one can hold.
@@ -21,13 +21,18 @@ const BYTES: u32 = 256;
 const PERIOD: usize = 100;
 
 // 0f print.
-pub fn print(stack: &[u64], output: &mut [i32], m: Machine, x: u32) -> Result<Machine, u32>
+pub fn print(
+    stack: &[u64],
+    output: &mut [i32],
+    m: Machine,
+    x: u32,
+) -> Result<Machine, Option<Reason>>
     requires { Stands m stack.now × (m.printed < many_lines) }
     ensures { OnOutput do_print x m stack.now output.old output.new result }
 {
     let v = value(stack, m.height, 1)?;
     if output.len() <= m.printed {
-        return Err(codes::OUTPUT_FULL);
+        return Err(Some(Reason::OutputFull));
     }
     put_cell(output, m.printed, v);
     Ok(Machine {
@@ -39,17 +44,22 @@ pub fn print(stack: &[u64], output: &mut [i32], m: Machine, x: u32) -> Result<Ma
 }
 
 // 14 put.
-pub fn send(stack: &[u64], registers: &mut [u8], m: Machine, x: u32) -> Result<Machine, u32>
+pub fn send(
+    stack: &[u64],
+    registers: &mut [u8],
+    m: Machine,
+    x: u32,
+) -> Result<Machine, Option<Reason>>
     requires { Stands m stack.now × (length registers.old ≡ registers_count) }
     ensures { OnPort do_put x m stack.now stack.now registers.old registers.new result }
 {
     let n = value(stack, m.height, 2)?;
     let v = value(stack, m.height, 1)?;
     if REGISTERS <= n {
-        return Err(codes::REGISTER_OUT_OF_RANGE);
+        return Err(Some(Reason::RegisterOutOfRange));
     }
     if BYTES <= v {
-        return Err(codes::VALUE_OUT_OF_RANGE);
+        return Err(Some(Reason::ValueOutOfRange));
     }
     put(registers, n as usize, v as u8);
     show(registers);
@@ -61,13 +71,18 @@ pub fn send(stack: &[u64], registers: &mut [u8], m: Machine, x: u32) -> Result<M
 }
 
 // 13 get.
-pub fn receive(stack: &mut [u64], registers: &mut [u8], m: Machine, x: u32) -> Result<Machine, u32>
+pub fn receive(
+    stack: &mut [u64],
+    registers: &mut [u8],
+    m: Machine,
+    x: u32,
+) -> Result<Machine, Option<Reason>>
     requires { Stands m stack.old × (length registers.old ≡ registers_count) }
     ensures { OnPort do_get x m stack.old stack.new registers.old registers.new result }
 {
     let n = value(stack, m.height, 1)?;
     if REGISTERS <= n {
-        return Err(codes::REGISTER_OUT_OF_RANGE);
+        return Err(Some(Reason::RegisterOutOfRange));
     }
     let register = n as usize;
     let at = VALUES + (m.height - 1);

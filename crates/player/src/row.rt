@@ -8,23 +8,23 @@ ghost use Rattle.frames.specs.Numbers.{values_from, row_places};
 use crate::heap::{cell, put_cell};
 use crate::stack::{room, value, word};
 use crate::state::{Machine, PLACES, RETURN, ROW, last_call, no_operand};
-use base::codes;
+use base::refusal::Reason;
 
 // The heap word of a field of a receiver; 70 where there is none.
-fn field(receiver: u64, words: usize, x: usize) -> Result<usize, u32>
+fn field(receiver: u64, words: usize, x: usize) -> Result<usize, Reason>
     requires { (row_places ≤ x) × (x < 4294967296) }
     ensures { Field words receiver x result }
 {
     let r = word(receiver)?;
     let j = r as usize + (x - ROW);
     if r < 1 || words <= j {
-        return Err(codes::FRAME_FAULT);
+        return Err(Reason::FrameFault);
     }
     Ok(j)
 }
 
 // What a place of the call at `c` holds.
-fn held(stack: &[u64], heap: &[i32], words: usize, c: usize, x: usize) -> Result<u32, u32>
+fn held(stack: &[u64], heap: &[i32], words: usize, c: usize, x: usize) -> Result<u32, Reason>
     requires { (c + 34 ≤ length stack.now) × (words ≤ length heap.now) × (x < 4294967296) }
     ensures { Held stack.now heap.now words c x result }
 {
@@ -36,7 +36,7 @@ fn held(stack: &[u64], heap: &[i32], words: usize, c: usize, x: usize) -> Result
 }
 
 // 02 load.
-pub fn load(stack: &mut [u64], heap: &[i32], m: Machine, x: u32) -> Result<Machine, u32>
+pub fn load(stack: &mut [u64], heap: &[i32], m: Machine, x: u32) -> Result<Machine, Option<Reason>>
     requires { Stands m stack.old × (m.calls ≤ calls_most)
         × (m.words ≤ length heap.now) }
     ensures { OnHeap do_load x m stack.old stack.new heap.now heap.now result }
@@ -53,7 +53,12 @@ pub fn load(stack: &mut [u64], heap: &[i32], m: Machine, x: u32) -> Result<Machi
 }
 
 // 03 save.
-pub fn save(stack: &mut [u64], heap: &mut [i32], m: Machine, x: u32) -> Result<Machine, u32>
+pub fn save(
+    stack: &mut [u64],
+    heap: &mut [i32],
+    m: Machine,
+    x: u32,
+) -> Result<Machine, Option<Reason>>
     requires { Stands m stack.old × (m.calls ≤ calls_most)
         × (m.words ≤ length heap.old) }
     ensures { OnHeap do_save x m stack.old stack.new heap.old heap.new result }
@@ -77,7 +82,7 @@ pub fn save(stack: &mut [u64], heap: &mut [i32], m: Machine, x: u32) -> Result<M
 }
 
 // 04 self.
-pub fn receiver(stack: &mut [u64], m: Machine, x: u32) -> Result<Machine, u32>
+pub fn receiver(stack: &mut [u64], m: Machine, x: u32) -> Result<Machine, Option<Reason>>
     requires { Stands m stack.old × (m.calls ≤ calls_most) }
     ensures { OnStack do_self x m stack.old stack.new result }
 {
@@ -94,7 +99,7 @@ pub fn receiver(stack: &mut [u64], m: Machine, x: u32) -> Result<Machine, u32>
 }
 
 // 06 return.
-pub fn back(stack: &[u64], m: Machine, x: u32) -> Result<Machine, u32>
+pub fn back(stack: &[u64], m: Machine, x: u32) -> Result<Machine, Option<Reason>>
     requires { Stands m stack.now × (m.calls ≤ calls_most) }
     ensures { OnStack do_return x m stack.now stack.now result }
 {

@@ -3,15 +3,20 @@ ghost use Rattle.std.specs.Prelude.{◌≡◌, ◌+◌, ◌/◌, ◌≤◌, ◌<
 ghost use Rattle.player.specs.Answering.{Runs, Continues, strips_of};
 ghost use Rattle.player.specs.promises.Ending.{far_line, started_from, recorded_of, none_of, refusal_of, is_price, Lent, Fits, Answered};
 ghost use Rattle.player.specs.promises.Ending.{EndsAs, PartFrom, Parted, Cleared, Admitted, Begun, GoesOn};
+ghost use Rattle.base.specs.promises.Refusals.{number_of};
 ghost use Rattle.frames.specs.Numbers.{budget_most, values_from};
 
 use crate::lines::{DECODED, LINE, form};
 use crate::rounds::{Meter, rounds};
-use crate::state::{Machine, VALUES};
-use base::codes;
+use crate::state::{Machine, SUCCESS, VALUES};
+use base::bounds::{CALLS_MOST, HEAP_MOST};
+use base::refusal::Reason;
 use device::state::{REGISTERS, show};
 
 // The bounds of what is lent, and of all that a run can spend.
+// The number of a pause.
+const BUDGET_SPENT: u32 = Reason::BudgetSpent as u32;
+
 const STACK_LEAST: usize = 140000;
 
 const MARKS_MOST: usize = 99;
@@ -52,11 +57,11 @@ pub struct Answer {
 }
 
 // An answer that touches nothing.
-fn refusal(number: u32, position: u64) -> Answer
-    ensures { result ≡ refusal_of number position }
+fn refusal(reason: Reason, position: u64) -> Answer
+    ensures { result ≡ refusal_of (number_of reason) position }
 {
     Answer {
-        number,
+        number: u32::from(reason),
         position,
         ..Answer::default()
     }
@@ -70,23 +75,23 @@ fn priced(price: u32) -> bool
 }
 
 // 2, 3, 62, 72, 68.
-fn fit(limits: Limits, heap: usize, registers: usize, stack: usize) -> Result<(), u32>
+fn fit(limits: Limits, heap: usize, registers: usize, stack: usize) -> Result<(), Reason>
     ensures { Lent limits heap registers stack result }
 {
-    if limits.calls < 1 || codes::CALLS_MOST < limits.calls {
-        return Err(codes::CALL_LIMIT_OUT_OF_RANGE);
+    if limits.calls < 1 || CALLS_MOST < limits.calls {
+        return Err(Reason::CallLimitOutOfRange);
     }
-    if codes::HEAP_MOST < heap {
-        return Err(codes::HEAP_TOO_LONG);
+    if HEAP_MOST < heap {
+        return Err(Reason::HeapTooLong);
     }
     if registers != REGISTERS {
-        return Err(codes::REGISTERS_NOT_SIXTEEN);
+        return Err(Reason::RegistersNotSixteen);
     }
     if !priced(limits.price) {
-        return Err(codes::PRICE_UNFIT);
+        return Err(Reason::PriceUnfit);
     }
     if stack < STACK_LEAST {
-        return Err(codes::FRAMES_TOO_SHORT);
+        return Err(Reason::FramesTooShort);
     }
     Ok(())
 }
@@ -162,7 +167,7 @@ fn answered(e: Meter, pause: Record) -> Answer
     ensures { Answered e pause result }
 {
     let m = e.machine;
-    let position = if e.number == codes::SUCCESS {
+    let position = if e.number == SUCCESS {
         0
     } else {
         m.line as u64 * LINE as u64
@@ -182,7 +187,7 @@ fn ended(heap: &mut [i32], stack: &mut [u64], e: Meter) -> Answer
     requires { e.machine.line < far_line }
     ensures { EndsAs e stack.old stack.new heap.old heap.new result }
 {
-    if e.number == codes::BUDGET_SPENT {
+    if e.number == BUDGET_SPENT {
         return answered(e, recorded(e));
     }
     heap.fill(0);
@@ -293,7 +298,7 @@ fn go_on(
         output.len(),
         tape.len(),
     ) {
-        return refusal(codes::RECORD_UNFIT, 0);
+        return refusal(Reason::RecordUnfit, 0);
     }
     show(registers);
     part(
@@ -315,12 +320,12 @@ pub fn run(
         (strips_of heap.old output.old registers.old stack.old)
         (strips_of heap.new output.new registers.new stack.new) result }
 {
-    if let Err(number) = fit(limits, heap.len(), registers.len(), stack.len()) {
-        return refusal(number, 0);
+    if let Err(reason) = fit(limits, heap.len(), registers.len(), stack.len()) {
+        return refusal(reason, 0);
     }
     let mut decoded = [0u64; DECODED];
     if let Err(at) = form(text, &mut decoded) {
-        return refusal(codes::OTHER_FORM, at as u64);
+        return refusal(Reason::OtherForm, at as u64);
     }
     begin(text, &decoded, tape, limits, heap, output, registers, stack)
 }
@@ -340,12 +345,12 @@ pub fn resume(
         (strips_of heap.old output.old registers.old stack.old)
         (strips_of heap.new output.new registers.new stack.new) result }
 {
-    if let Err(number) = fit(limits, heap.len(), registers.len(), stack.len()) {
-        return refusal(number, 0);
+    if let Err(reason) = fit(limits, heap.len(), registers.len(), stack.len()) {
+        return refusal(reason, 0);
     }
     let mut decoded = [0u64; DECODED];
     if let Err(at) = form(text, &mut decoded) {
-        return refusal(codes::OTHER_FORM, at as u64);
+        return refusal(Reason::OtherForm, at as u64);
     }
     go_on(
         text, &decoded, tape, limits, heap, output, registers, stack, r,

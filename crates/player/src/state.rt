@@ -1,9 +1,9 @@
 // The numbers of a run, by value, and where things stand on the stack strip.
 ghost use Rattle.std.specs.Prelude.{◌≡◌, ◌≤◌, ◌<◌};
 ghost use Rattle.base.specs.Codes.{calls_most};
-ghost use Rattle.player.specs.promises.Turning.{Inner, NoOperand};
+ghost use Rattle.player.specs.promises.Turning.{number_in, Inner, NoOperand};
 
-use base::codes;
+use base::refusal::Reason;
 
 // Past every word.
 pub const WORDS: u64 = 4294967296;
@@ -33,23 +33,36 @@ pub struct Machine {
     pub marks: usize,
 }
 
+// The number of a halt.
+pub const SUCCESS: u32 = 0;
+
+// The number of what ends a run; where it halts, there is no reason.
+pub fn number(end: Option<Reason>) -> u32
+    ensures { result ≡ number_in end }
+{
+    match end {
+        Some(reason) => u32::from(reason),
+        None => SUCCESS,
+    }
+}
+
 // Where the entries of the last call begin; 70 where no call is open.
-pub fn last_call(m: Machine) -> Result<usize, u32>
+pub fn last_call(m: Machine) -> Result<usize, Reason>
     requires { m.calls ≤ calls_most }
     ensures { Inner m result }
 {
     if m.calls < 1 {
-        return Err(codes::FRAME_FAULT);
+        return Err(Reason::FrameFault);
     }
     Ok(CALL * (m.calls - 1))
 }
 
 // 70 where a frame that takes no operand has one.
-pub fn no_operand(x: u32) -> Result<(), u32>
+pub fn no_operand(x: u32) -> Result<(), Reason>
     ensures { NoOperand x result }
 {
     if 0 < x {
-        return Err(codes::FRAME_FAULT);
+        return Err(Reason::FrameFault);
     }
     Ok(())
 }

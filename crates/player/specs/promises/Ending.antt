@@ -1,6 +1,8 @@
 -- What the functions of the operations promise one another.
 use Rattle.std.specs.Prelude.{ℕ, ◌+◌, ◌*◌, ◌/◌, ◌≤◌, ◌<◌, ◌||◌, List, ◌≡◌, ℤ, pos, length, replicate, eqb, ltb, leb, Bool, true, Result, Ok, Err}
 use Rattle.std.proofs.Math.Option.{Option, none, some}
+use Rattle.base.specs.declared.refusal.Reason.{Reason}
+use Rattle.base.specs.promises.Refusals.{number_of}
 use Rattle.base.specs.Choice.{if◌then◌otherwise◌}
 use Rattle.base.specs.Outcome.{accepted}
 use Rattle.frames.specs.Lines.{Line}
@@ -66,12 +68,12 @@ recorded_of e =
 abbrev pub is_price : ℕ → Bool
 is_price p = eqb p 1 || eqb p 10
 
-abbrev pub refusal_in : Result (Unit {0}) ℕ → Option ℕ
+abbrev pub refusal_in : Result (Unit {0}) Reason → Option ℕ
 refusal_in (Ok u) = none
-refusal_in (Err n) = some n
+refusal_in (Err e) = some (number_of e)
 
 -- what is unfit; else what is lent is within its bounds
-pub record Lent (l : Limits) (heap registers stack : ℕ) (r : Result (Unit {0}) ℕ) : Type 0 where
+pub record Lent (l : Limits) (heap registers stack : ℕ) (r : Result (Unit {0}) Reason) : Type 0 where
   pub says : (m : Strips) → length m.heap ≡ heap → length m.registers ≡ registers → length m.stack ≡ stack
       → Operations.unfit (limits_of_lem l) m ≡ refusal_in r
   pub bounds : (u : Unit {0}) → r ≡ Ok u → (l.calls ≤ calls_most) × (1 ≤ l.price) × (registers ≡ registers_count) × (stack_least ≤ stack)

@@ -2,6 +2,8 @@
 use Rattle.std.specs.Prelude.{ℕ, zero, suc, ◌+◌, ◌*◌, ◌/◌, ◌%◌, ◌≤◌, ◌<◌, List, [], ◌∷◌, ◌≡◌, length, get_or, drop, ltb, Option as Maybe, Some, Result, Ok, Err, unwrap_or}
 use Rattle.std.proofs.Math.Option.{Option, none, some}
 use Rattle.base.specs.Choice.{option}
+use Rattle.base.specs.declared.refusal.Reason.{Reason}
+use Rattle.base.specs.promises.Refusals.{number_of}
 use Rattle.base.specs.Outcome.{accepted, refused}
 use Rattle.frames.specs.Lines.{Line, line, digit_of, digits, single_line, lines}
 use Rattle.frames.specs.Machine.{Turn, ends, entered}
@@ -49,10 +51,10 @@ lines_at s (suc n) at = unpacked (word_at s at) ∷ lines_at s n (at + line_byte
 abbrev pub lines_in : List ℕ → List Line
 lines_in s = lines_at s (length s / line_bytes) 0
 
--- what is read is followed by a turn; where nothing is, the run ends with a number
-abbrev pub followed : {A : Type 0} → Result A ℕ → (A → Turn) → Turn
+-- what is read is followed by a turn; where nothing is, the run ends with the number of the reason
+abbrev pub followed : {A : Type 0} → Result A Reason → (A → Turn) → Turn
 followed (Ok v) k = k v
-followed (Err n) k = ends n
+followed (Err e) k = ends (number_of e)
 
 -- the line from a place on
 pub record LineAt (s : List ℕ) (at : ℕ) (r : Maybe ℕ) : Type 0 where
@@ -81,5 +83,5 @@ pub record FrameAt (s : List ℕ) (i r : ℕ) : Type 0 where
   pub small : r < without_line
 
 -- the operand of the `entry` at a line
-pub record EntryAt (s : List ℕ) (i : ℕ) (r : Result ℕ ℕ) : Type 0 where
+pub record EntryAt (s : List ℕ) (i : ℕ) (r : Result ℕ Reason) : Type 0 where
   pub says : (k : ℕ → Turn) → entered (lines_in s) i k ≡ followed r k
