@@ -16,6 +16,8 @@ use Rattle.base.specs.Outcome.{Outcome, accepted, refused, ◌>>=◌}
 use Rattle.frames.specs.Lines.{Line, line, digit_of, digits, line_feed_lem, single_line, no_more, lines_from, lines}
 use Rattle.frames.specs.Machine.{Turn, bad, sure, entered}
 use Rattle.base.specs.declared.refusal.Reason.{Reason}
+use Rattle.base.specs.declared.refusal.Refusal.{Refusal}
+use Rattle.base.specs.promises.Refusals.{number_of}
 use Rattle.base.specs.declared.refusal.Reason.TheVariants as reason
 use Rattle.std.specs.Prelude.{Result, Ok, Err, Option as Maybe, None, Some, unwrap_or}
 use Rattle.player.specs.promises.Reading.{number_or, line_in, packed, word_at, unpacked, lines_at, lines_in, LineAt, Decoded, Form}
@@ -290,11 +292,11 @@ decoding-all {s} {words} {i} w l =
             first = λ j k b. w.first j k (omega (arith, b, n));
             small = λ j b. w.small j (omega (arith, b, n));
           };
-      other = λ at q. absurd (cc);
+      other = λ e q. absurd (cc);
     }
 
 pub decoding-other : {s words : List ℕ} {i : ℕ} → Decoding s words i → 11 * i < length s → LineAt s (11 * i) None
-    → Form s words (Err (11 * i))
+    → Form s words (Err (record { reason = reason.OtherForm; position = 11 * i }))
 unfolding lines
 decoding-other {s} {words} {i} w l r =
     let z : 0 + 11 * i ≡ 11 * i = omega arith in
@@ -305,7 +307,9 @@ decoding-other {s} {words} {i} w l r =
     (subst (λ (y : ℕ). 1099511627776 ≤ word_at s y) (sym z) o) ∙ ap (refused 69) z in
     record {
       fine = λ u q. absurd (cc);
-      other = λ at q. let e : 11 * i ≡ at = cc in (bad ∙ ap (refused 69) e, omega (arith, e, l));
+      other = λ e q.
+          let f : ◌≡◌ {A = Refusal} (record { reason = reason.OtherForm; position = 11 * i }) e = cc in
+          bad ∙ ap (λ (e : Refusal). refused (number_of e.reason) e.position) f;
     }
 
 -- THE LINE FROM A PLACE ON

@@ -3,12 +3,13 @@ use Prim.Native.Nat.{ℕ, ◌+◌, ◌/◌, ◌≤◌, ◌<◌}
 use native.Mathlib.Omega.{arith}
 use mathlib.Core.Bool.{Bool, true, false}
 use mathlib.Core.List.{List, []}
-use mathlib.Core.Option.{Option, none, some}
+use mathlib.Core.Option.{Option}
 use mathlib.Core.Path.{◌≡◌, refl, sym, ap, ap₂, ◌∙◌, subst}
 use lib.IntN.{ℤ, pos}
 use lib.ListN.{length, replicate, length-replicate, length-drop}
 use Rattle.std.specs.Prelude.{Result, Ok, Err}
 use Rattle.base.specs.declared.refusal.Reason.{Reason}
+use Rattle.base.specs.declared.refusal.Refusal.{Refusal}
 use Rattle.base.specs.promises.Refusals.{number_of}
 use Rattle.base.specs.Choice.{option}
 use Rattle.base.specs.Outcome.{Outcome}
@@ -29,7 +30,7 @@ use Rattle.player.specs.promises.Turning.{state_of}
 use Rattle.player.specs.promises.Running.{Begins, Ran, around_in}
 use Rattle.player.specs.Answering.{answer_of, strips_of, limits_of_lem, record_from, Runs, Continues}
 use Rattle.player.specs.promises.Ending.{started_from, none_of, refusal_of, Lent, Fits, EndsAs, PartFrom, Parted, Cleared}
-use Rattle.player.specs.promises.Ending.{Admitted, Begun, GoesOn}
+use Rattle.player.specs.promises.Ending.{Admitted, Admits, Begun, GoesOn}
 use Rattle.player.proofs.Lining.{lines-length}
 use Rattle.player.proofs.Tests.{yes-is, no-is}
 
@@ -86,75 +87,71 @@ module _ {text tape : List ℕ} {l : Limits} {p : Record} {heap output : List �
 
 -- THE OPERATIONS
 
-module _ {text tape : List ℕ} {l : Limits} {heap output : List ℤ} {registers stack : List ℕ} {a : Answer} where
-  pub run-refused : {n : Reason} → Lent l (length heap) (length registers) (length stack) (Err n) → a ≡ refusal_of (number_of n) 0
+pub unfit-is : {text decoded : List ℕ} {l : Limits} {heap registers stack : ℕ} {n : Reason}
+    → Lent l heap registers stack (Err n) → Admits text decoded l heap registers stack (Err (record { reason = n; position = 0 }))
+unfit-is {text} {l = l} {n = n} w =
+    record {
+      refuses = λ e q m p r s k f.
+          let z : ◌≡◌ {A = Refusal} (record { reason = n; position = 0 }) e = cc in
+          ap (λ (o : Option ℕ). option o (k (lines text)) λ n. Operations.refusal n 0 m) (w.says m p r s)
+          ∙ ap (λ (e : Refusal). Operations.refusal (number_of e.reason) e.position m) z;
+      admits = λ u q. absurd (cc);
+      given = λ u q. absurd (cc);
+    }
+
+pub form-is : {text decoded : List ℕ} {l : Limits} {heap registers stack : ℕ} {u : Unit {0}} {r : Result (Unit {0}) Refusal}
+    → Lent l heap registers stack (Ok u) → Form text decoded r → Admits text decoded l heap registers stack r
+form-is {text} {l = l} {u = u} w f =
+    record {
+      refuses = λ e q m p r s k g.
+          ap₂ (λ (o : Option ℕ) (x : Outcome (List Line)). option o (k x) λ n. Operations.refusal n 0 m) (w.says m p r s) (f.other e q)
+          ∙ g (number_of e.reason) e.position;
+      admits = λ v q m p r s k.
+          ap₂ (λ (o : Option ℕ) (x : Outcome (List Line)). option o (k x) λ n. Operations.refusal n 0 m) (w.says m p r s) (f.fine v q).lines;
+      given = λ v q. let b = w.bounds u refl in (f.fine v q, b.0, b.1, b.2, b.3);
+    }
+
+pub is-admitted : {text decoded : List ℕ} {l : Limits} {registers stack : List ℕ} {heap : ℕ} {u : Unit {0}}
+    → Admits text decoded l heap (length registers) (length stack) (Ok u) → Admitted text decoded l registers stack
+is-admitted {u = u} w =
+    let b = w.given u refl in
+    record { lines = b.0; most = b.1; paid = b.2; sixteen = b.3; long = b.4 }
+
+module _ {text tape decoded : List ℕ} {l : Limits} {heap output : List ℤ} {registers stack : List ℕ} {a : Answer} where
+  pub run-refused : {e : Refusal} → Admits text decoded l (length heap) (length registers) (length stack) (Err e)
+      → a ≡ refusal_of (number_of e.reason) e.position
       → Runs text tape l (strips_of heap output registers stack) (strips_of heap output registers stack) a
   unfolding run
-  run-refused w e =
+  run-refused {e} w q =
+      let m = strips_of heap output registers stack in
       record {
-        is = ap (λ (a : Answer). answer_of a (strips_of heap output registers stack)) e
-            ∙ sym (ap (λ (o : Option ℕ). option o (begins (lines text) tape (limits_of_lem l)
-            (strips_of heap output registers stack)) λ n. Operations.refusal n 0 (strips_of heap output registers stack))
-            (w.says (strips_of heap output registers stack) refl refl refl));
+        is = ap (λ (a : Answer). answer_of a m) q
+            ∙ sym (w.refuses e refl m refl refl refl (λ x. begins x tape (limits_of_lem l) m) λ n p. refl);
       }
 
-  pub run-form : {decoded : List ℕ} {at : ℕ} {u : Unit {0}} → Lent l (length heap) (length registers) (length stack) (Ok u)
-      → Form text decoded (Err at)
-      → a ≡ refusal_of 69 at → Runs text tape l (strips_of heap output registers stack) (strips_of heap output registers stack) a
-  unfolding run
-  run-form {at = at} w f e =
-      record {
-        is = ap (λ (a : Answer). answer_of a (strips_of heap output registers stack)) e
-            ∙ sym (ap₂ (λ (o : Option ℕ) (x : Outcome (List Line)). option o (begins x tape (limits_of_lem l)
-            (strips_of heap output registers stack)) λ n. Operations.refusal n 0 (strips_of heap output registers stack))
-            (w.says (strips_of heap output registers stack) refl refl refl) (f.other at refl).0);
-      }
-
-  pub run-begun : {decoded : List ℕ} {m : Strips} {u v : Unit {0}} → Lent l (length heap) (length registers) (length stack) (Ok u)
-      → Form text decoded (Ok v) → Begun text tape l (strips_of heap output registers stack) m a
+  pub run-begun : {m : Strips} {u : Unit {0}} → Admits text decoded l (length heap) (length registers) (length stack) (Ok u)
+      → Begun text tape l (strips_of heap output registers stack) m a
       → Runs text tape l (strips_of heap output registers stack) m a
   unfolding run
-  run-begun {v = v} w f u =
-      record {
-        is = u.is
-            ∙ sym (ap₂ (λ (o : Option ℕ) (x : Outcome (List Line)). option o (begins x tape (limits_of_lem l)
-            (strips_of heap output registers stack)) λ n. Operations.refusal n 0 (strips_of heap output registers stack))
-            (w.says (strips_of heap output registers stack) refl refl refl) (f.fine v refl).lines);
-      }
+  run-begun {m} {u} w v =
+      let b = strips_of heap output registers stack in
+      record { is = v.is ∙ sym (w.admits u refl b refl refl refl λ x. begins x tape (limits_of_lem l) b) }
 
-module _ {text tape : List ℕ} {l : Limits} {p : Record} {heap output : List ℤ} {registers stack : List ℕ} {a : Answer} where
-  pub resume-refused : {n : Reason} → Lent l (length heap) (length registers) (length stack) (Err n) → a ≡ refusal_of (number_of n) 0
+  pub resume-refused : {p : Record} {e : Refusal} → Admits text decoded l (length heap) (length registers) (length stack) (Err e)
+      → a ≡ refusal_of (number_of e.reason) e.position
       → Continues text tape l p (strips_of heap output registers stack) (strips_of heap output registers stack) a
   unfolding continue
-  resume-refused w e =
+  resume-refused {p} {e} w q =
+      let m = strips_of heap output registers stack in
       record {
-        is = ap (λ (a : Answer). answer_of a (strips_of heap output registers stack)) e
-            ∙ sym (ap (λ (o : Option ℕ). option o (going_on (lines text) tape (limits_of_lem l) (record_from p)
-            (strips_of heap output registers stack)) λ n. Operations.refusal n 0 (strips_of heap output registers stack))
-            (w.says (strips_of heap output registers stack) refl refl refl));
+        is = ap (λ (a : Answer). answer_of a m) q
+            ∙ sym (w.refuses e refl m refl refl refl (λ x. going_on x tape (limits_of_lem l) (record_from p) m) λ n p. refl);
       }
 
-  pub resume-form : {decoded : List ℕ} {at : ℕ} {u : Unit {0}} → Lent l (length heap) (length registers) (length stack) (Ok u)
-      → Form text decoded (Err at)
-      → a ≡ refusal_of 69 at → Continues text tape l p (strips_of heap output registers stack)
-      (strips_of heap output registers stack) a
-  unfolding continue
-  resume-form {at = at} w f e =
-      record {
-        is = ap (λ (a : Answer). answer_of a (strips_of heap output registers stack)) e
-            ∙ sym (ap₂ (λ (o : Option ℕ) (x : Outcome (List Line)). option o (going_on x tape (limits_of_lem l) (record_from p)
-            (strips_of heap output registers stack)) λ n. Operations.refusal n 0 (strips_of heap output registers stack))
-            (w.says (strips_of heap output registers stack) refl refl refl) (f.other at refl).0);
-      }
-
-  pub resumed : {decoded : List ℕ} {m : Strips} {u v : Unit {0}} → Lent l (length heap) (length registers) (length stack) (Ok u)
-      → Form text decoded (Ok v) → GoesOn text tape l p (strips_of heap output registers stack) m a
+  pub resumed : {p : Record} {m : Strips} {u : Unit {0}} → Admits text decoded l (length heap) (length registers) (length stack) (Ok u)
+      → GoesOn text tape l p (strips_of heap output registers stack) m a
       → Continues text tape l p (strips_of heap output registers stack) m a
   unfolding continue
-  resumed {v = v} w f u =
-      record {
-        is = u.is
-            ∙ sym (ap₂ (λ (o : Option ℕ) (x : Outcome (List Line)). option o (going_on x tape (limits_of_lem l) (record_from p)
-            (strips_of heap output registers stack)) λ n. Operations.refusal n 0 (strips_of heap output registers stack))
-            (w.says (strips_of heap output registers stack) refl refl refl) (f.fine v refl).lines);
-      }
+  resumed {p} {m} {u} w v =
+      let b = strips_of heap output registers stack in
+      record { is = v.is ∙ sym (w.admits u refl b refl refl refl λ x. going_on x tape (limits_of_lem l) (record_from p) b) }

@@ -3,7 +3,7 @@ ghost use Rattle.std.specs.Prelude.{◌≡◌, ◌+◌, ◌/◌, ◌≤◌, ◌<
 ghost use Rattle.player.specs.promises.Reading.{digit_or, number_or, LineAt, Form, Decoded, Counted, FrameAt, EntryAt};
 
 use crate::state::WORDS;
-use base::refusal::Reason;
+use base::refusal::{Reason, Refusal};
 
 // Bytes of a line, its digits and where they lie: two for the code, eight for the operand, then a line feed.
 pub const LINE: usize = 11;
@@ -73,14 +73,17 @@ fn decode(decoded: &mut [u64; DECODED], i: usize, x: u64)
 }
 
 // Whether all lines are of the form: else the first byte of the first line that is not. The first lines are decoded.
-pub fn form(text: &[u8], decoded: &mut [u64; DECODED]) -> Result<(), usize>
+pub fn form(text: &[u8], decoded: &mut [u64; DECODED]) -> Result<(), Refusal>
     requires { length decoded.old ≡ 8192 }
     ensures { Form text.now decoded.new result }
 {
     for i in 0..text.len().div_ceil(LINE) {
         let at = LINE * i;
         let Some(x) = line_at(text, at) else {
-            return Err(at);
+            return Err(Refusal {
+                reason: Reason::OtherForm,
+                position: at,
+            });
         };
         decode(decoded, i, x);
     }

@@ -1,8 +1,8 @@
 // The operations: a run from its begin, and one that goes on from a record.
-ghost use Rattle.std.specs.Prelude.{◌≡◌, ◌+◌, ◌/◌, ◌≤◌, ◌<◌, leb};
+ghost use Rattle.std.specs.Prelude.{◌≡◌, ◌+◌, ◌/◌, ◌≤◌, ◌<◌, leb, length};
 ghost use Rattle.player.specs.Answering.{Runs, Continues, strips_of};
 ghost use Rattle.player.specs.promises.Ending.{far_line, started_from, recorded_of, none_of, refusal_of, is_price, Lent, Fits, Answered};
-ghost use Rattle.player.specs.promises.Ending.{EndsAs, PartFrom, Parted, Cleared, Admitted, Begun, GoesOn};
+ghost use Rattle.player.specs.promises.Ending.{EndsAs, PartFrom, Parted, Cleared, Admits, Admitted, Begun, GoesOn};
 ghost use Rattle.base.specs.promises.Refusals.{number_of};
 ghost use Rattle.frames.specs.Numbers.{budget_most, values_from};
 
@@ -10,7 +10,7 @@ use crate::lines::{DECODED, LINE, form};
 use crate::rounds::{Meter, rounds};
 use crate::state::{Machine, SUCCESS, VALUES};
 use base::bounds::{CALLS_MOST, HEAP_MOST};
-use base::refusal::Reason;
+use base::refusal::{Reason, Refusal};
 use device::state::{REGISTERS, show};
 
 // The bounds of what is lent, and of all that a run can spend.
@@ -57,12 +57,12 @@ pub struct Answer {
 }
 
 // An answer that touches nothing.
-fn refusal(reason: Reason, position: u64) -> Answer
-    ensures { result ≡ refusal_of (number_of reason) position }
+fn refused(refusal: Refusal) -> Answer
+    ensures { result ≡ refusal_of (number_of refusal.reason) refusal.position }
 {
     Answer {
-        number: u32::from(reason),
-        position,
+        number: refusal.number(),
+        position: refusal.position as u64,
         ..Answer::default()
     }
 }
@@ -298,12 +298,36 @@ fn go_on(
         output.len(),
         tape.len(),
     ) {
-        return refusal(Reason::RecordUnfit, 0);
+        return refused(Refusal {
+            reason: Reason::RecordUnfit,
+            position: 0,
+        });
     }
     show(registers);
     part(
         text, decoded, tape, limits, heap, output, registers, stack, r,
     )
+}
+
+// What is refused before anything is touched; else the first lines are decoded.
+fn admit(
+    text: &[u8],
+    decoded: &mut [u64; DECODED],
+    limits: Limits,
+    heap: usize,
+    registers: usize,
+    stack: usize,
+) -> Result<(), Refusal>
+    requires { length decoded.old ≡ 8192 }
+    ensures { Admits text.now decoded.new limits heap registers stack result }
+{
+    if let Err(reason) = fit(limits, heap, registers, stack) {
+        return Err(Refusal {
+            reason,
+            position: 0,
+        });
+    }
+    form(text, decoded)
 }
 
 // A run from its begin.
@@ -320,12 +344,16 @@ pub fn run(
         (strips_of heap.old output.old registers.old stack.old)
         (strips_of heap.new output.new registers.new stack.new) result }
 {
-    if let Err(reason) = fit(limits, heap.len(), registers.len(), stack.len()) {
-        return refusal(reason, 0);
-    }
     let mut decoded = [0u64; DECODED];
-    if let Err(at) = form(text, &mut decoded) {
-        return refusal(Reason::OtherForm, at as u64);
+    if let Err(refusal) = admit(
+        text,
+        &mut decoded,
+        limits,
+        heap.len(),
+        registers.len(),
+        stack.len(),
+    ) {
+        return refused(refusal);
     }
     begin(text, &decoded, tape, limits, heap, output, registers, stack)
 }
@@ -345,12 +373,16 @@ pub fn resume(
         (strips_of heap.old output.old registers.old stack.old)
         (strips_of heap.new output.new registers.new stack.new) result }
 {
-    if let Err(reason) = fit(limits, heap.len(), registers.len(), stack.len()) {
-        return refusal(reason, 0);
-    }
     let mut decoded = [0u64; DECODED];
-    if let Err(at) = form(text, &mut decoded) {
-        return refusal(Reason::OtherForm, at as u64);
+    if let Err(refusal) = admit(
+        text,
+        &mut decoded,
+        limits,
+        heap.len(),
+        registers.len(),
+        stack.len(),
+    ) {
+        return refused(refusal);
     }
     go_on(
         text, &decoded, tape, limits, heap, output, registers, stack, r,

@@ -3,12 +3,12 @@ use Rattle.std.specs.Prelude.{ℕ, zero, suc, ◌+◌, ◌*◌, ◌/◌, ◌%◌
 use Rattle.std.proofs.Math.Option.{Option, none, some}
 use Rattle.base.specs.Choice.{option}
 use Rattle.base.specs.declared.refusal.Reason.{Reason}
+use Rattle.base.specs.declared.refusal.Refusal.{Refusal}
 use Rattle.base.specs.promises.Refusals.{number_of}
 use Rattle.base.specs.Outcome.{accepted, refused}
 use Rattle.frames.specs.Lines.{Line, line, digit_of, digits, single_line, lines}
 use Rattle.frames.specs.Machine.{Turn, ends, entered}
 use Rattle.base.specs.Word.{modulus}
-use Rattle.base.specs.Codes.{other_form}
 use Rattle.frames.specs.Numbers.{line_bytes}
 
 -- past every line in one word
@@ -73,9 +73,9 @@ abbrev pub Counted : (s words : List ℕ) → (count : ℕ) → Type 0
 Counted s words n = Decoded s words × (n ≡ length s / line_bytes)
 
 -- whether all lines are of the form, else the first byte of the first line that is not
-pub record Form (s words : List ℕ) (r : Result (Unit {0}) ℕ) : Type 0 where
+pub record Form (s words : List ℕ) (r : Result (Unit {0}) Refusal) : Type 0 where
   pub fine : (u : Unit {0}) → r ≡ Ok u → Decoded s words
-  pub other : (at : ℕ) → r ≡ Err at → (lines s ≡ refused other_form at) × (at < length s)
+  pub other : (e : Refusal) → r ≡ Err e → lines s ≡ refused (number_of e.reason) e.position
 
 -- line number i in one word
 pub record FrameAt (s : List ℕ) (i r : ℕ) : Type 0 where
