@@ -10,17 +10,16 @@ use lib.Seq.{sets, length-sets, sets-eq, drop-set-lt, length-take-le, paste}
 use lib.IntN.{ℤ, pos}
 use lib.Dec.{ltb, leb}
 use borrow.Author.Tests.{lt-ltb, le-ltb, le-leb, lt-leb}
-use borrow.Rule.Slice.PartMut.{put_mid, mid_of, mid_len, same_len_mid}
+use borrow.Rule.Slice.PartMut.{put_mid, mid_of, mid_len}
 use Rattle.std.specs.Prelude.{Option as Maybe, Some, Result, Ok, Err}
 use Rattle.base.specs.declared.refusal.Reason.{Reason}
 use Rattle.base.specs.declared.refusal.Reason.TheVariants as reason
-use Rattle.base.specs.promises.Refusals.{number_of}
 use Rattle.std.specs.Bool.{MatchBool}
 use Rattle.std.specs.List.{AllWithin, HoldsAt}
 use Rattle.base.specs.Word.{low, modulus}
 use Rattle.frames.specs.Lines.{Line}
-use Rattle.frames.specs.Machine.{State, Around, Turn, goes, ends, sure, allowed, word, reference, all_words_lem, last_values, value_at}
-use Rattle.frames.specs.Machine.{heap_word, opens, entered, call_on, do_call}
+use Rattle.frames.specs.Machine.{State, Around, Turn, goes, sure, allowed, word, reference, all_words_lem, last_values, value_at}
+use Rattle.frames.specs.Machine.{opens, entered, call_on, do_call}
 use Rattle.player.specs.declared.state.Machine.{Machine}
 use Rattle.player.specs.promises.Reading.{lines_in, followed, EntryAt}
 use Rattle.player.specs.promises.Turning.{CalledOn, Dispatched, Opened, Enters, OnCall, Header, IsWord, Cell, state_of, turn_of}

@@ -10,21 +10,21 @@ use mathlib.Core.Path.{◌≡◌, refl, sym, ap, ap₂, ◌∙◌, subst}
 use lib.ListN.{length, get_or, get_elem?, set, drop, length-drop, length-set}
 use lib.Seq.{set_out, drop-cons, drop-drop, get_or-set_same, get_or-set_other}
 use lib.Dec.{ltb, eqb}
-use borrow.Author.Tests.{ltb-true, ltb-false, lt-ltb, eq-eqb, ne_eqb}
+use borrow.Author.Tests.{ltb-true, ltb-false, eq-eqb, ne_eqb}
 use Rattle.base.specs.Choice.{if◌then◌otherwise◌, option}
 use Rattle.base.specs.Outcome.{Outcome, accepted, refused, ◌>>=◌}
 use Rattle.frames.specs.Lines.{Line, line, digit_of, digits, line_feed_lem, single_line, no_more, lines_from, lines}
 use Rattle.frames.specs.Machine.{Turn, bad, sure, entered}
-use Rattle.base.specs.declared.refusal.Reason.{Reason}
 use Rattle.base.specs.declared.refusal.Refusal.{Refusal}
 use Rattle.base.specs.promises.Refusals.{number_of}
 use Rattle.base.specs.declared.refusal.Reason.TheVariants as reason
-use Rattle.std.specs.Prelude.{Result, Ok, Err, Option as Maybe, None, Some, unwrap_or}
-use Rattle.player.specs.promises.Reading.{number_or, line_in, packed, word_at, unpacked, lines_at, lines_in, LineAt, Decoded, Form}
-use Rattle.player.specs.promises.Reading.{FrameAt, EntryAt, followed}
+use Rattle.std.specs.Prelude.{Ok, Err, Option as Maybe, None, Some}
+use Rattle.player.specs.declared.lines.Line.{Line as OwnLine}
+use Rattle.player.specs.promises.Reading.{number_of_line, number_of_maybe, number_or, line_in, packed, word_at, unpacked, lines_at, lines_in, LineAt, Form}
+use Rattle.player.specs.promises.Reading.{FrameAt, EntryAt}
 use Rattle.base.specs.laws.Lists.{get-past}
 use Rattle.player.proofs.Forward.{digit-small}
-use Rattle.player.proofs.Tests.{sure-yes, sure-no, yes-is}
+use Rattle.player.proofs.Tests.{sure-yes, sure-no}
 
 -- NUMBERS
 
@@ -246,24 +246,28 @@ lines-small s (suc n) at (suc i) e q = lines-small s n (at + 11) i e q
 -- THE FIRST PASS
 
 -- the lines before line i are of the form, and the first of them decoded
-pub record Decoding (s words : List ℕ) (i : ℕ) : Type 0 where
+pub record Decoding (s : List ℕ) (held : List OwnLine) (i : ℕ) : Type 0 where
   pub within : 11 * i ≤ length s
-  pub long : length words ≡ 8192
+  pub long : length held ≡ 8192
   pub small : (j : ℕ) → j < i → word_at s (11 * j) < 1099511627776
-  pub first : (j : ℕ) → j < 8192 → j < i → get_or words j 0 ≡ word_at s (11 * j)
+  pub first : (j : ℕ) (d : OwnLine) → j < 8192 → j < i
+      → (number_of_line (get_or held j d) ≡ word_at s (11 * j)) × ((get_or held j d).operand < 4294967296)
 
-pub past-the-array : {words : List ℕ} {i : ℕ} (x : ℕ) → length words ≡ 8192 → 8192 ≤ i → words ≡ set words i x
-past-the-array {words} {i} x e l = sym (set_out words i x (omega (arith, e, l)))
+pub past-the-array : {held : List OwnLine} {i : ℕ} (x : OwnLine) → length held ≡ 8192 → 8192 ≤ i → held ≡ set held i x
+past-the-array {held} {i} x e l = sym (set_out held i x (omega (arith, e, l)))
 
-pub decoding-more : {s words words' : List ℕ} {i x : ℕ} → Decoding s words i → LineAt s (11 * i) (Some x) → words' ≡ set words i x
-    → Decoding s words' (i + 1)
-decoding-more {s} {words} {words'} {i} {x} w l e =
-    let b : word_at s (11 * i) < 1099511627776 = subst (λ (y : ℕ). y < 1099511627776) l.is (l.small x refl) in
+pub decoding-more : {s : List ℕ} {held held' : List OwnLine} {i : ℕ} {x : OwnLine} → Decoding s held i → LineAt s (11 * i) (Some x)
+    → held' ≡ set held i x
+    → Decoding s held' (i + 1)
+decoding-more {s} {held} {held'} {i} {x} w l e =
+    let b : word_at s (11 * i) < 1099511627776 = subst (λ (y : ℕ). y < 1099511627776) l.is (l.small x refl).0 in
     record {
       within = omega (arith, (lined s (11 * i) b).within);
-      long = ap (λ (t : List ℕ). length t) e ∙ length-set words i x ∙ w.long;
+      long = ap (λ (t : List OwnLine). length t) e ∙ length-set held i x ∙ w.long;
       small = λ j h. older b j h (ltb j i) refl;
-      first = λ j k h. ap (λ (t : List ℕ). get_or t j 0) e ∙ stored j k h (ltb j i) refl;
+      first = λ j d k h.
+          subst (λ (t : List OwnLine). (number_of_line (get_or t j d) ≡ word_at s (11 * j)) × ((get_or t j d).operand < 4294967296)) (sym e)
+          (stored j d k h (ltb j i) refl);
     }
   where
     older : word_at s (11 * i) < 1099511627776 → (j : ℕ) → j < i + 1 → (q : Bool) → ltb j i ≡ q → word_at s (11 * j) < 1099511627776
@@ -271,14 +275,19 @@ decoding-more {s} {words} {words'} {i} {x} w l e =
     older b j h false q =
         let z : i ≡ j = omega (arith, h, ltb-false j i q) in subst (λ (y : ℕ). word_at s (11 * y) < 1099511627776) z b
 
-    stored : (j : ℕ) → j < 8192 → j < i + 1 → (q : Bool) → ltb j i ≡ q → get_or (set words i x) j 0 ≡ word_at s (11 * j)
-    stored j k h true q = get_or-set_other words i j x 0 (λ z. omega (arith, z, ltb-true j i q)) ∙ w.first j k (ltb-true j i q)
-    stored j k h false q =
+    stored : (j : ℕ) (d : OwnLine) → j < 8192 → j < i + 1 → (q : Bool) → ltb j i ≡ q
+        → (number_of_line (get_or (set held i x) j d) ≡ word_at s (11 * j)) × ((get_or (set held i x) j d).operand < 4294967296)
+    stored j d k h true q =
+        subst (λ (y : OwnLine). (number_of_line y ≡ word_at s (11 * j)) × (y.operand < 4294967296))
+        (sym (get_or-set_other held i j x d (λ z. omega (arith, z, ltb-true j i q)))) (w.first j d k (ltb-true j i q))
+    stored j d k h false q =
         let z : j ≡ i = omega (arith, h, ltb-false j i q) in
-        ap (λ (y : ℕ). get_or (set words i x) y 0) z ∙ get_or-set_same words i x 0 (omega (arith, z, k, w.long)) ∙ l.is
-        ∙ ap (λ (y : ℕ). word_at s (11 * y)) (sym z)
+        let f : get_or (set held i x) j d ≡ x
+        = ap (λ (y : ℕ). get_or (set held i x) y d) z ∙ get_or-set_same held i x d (omega (arith, z, k, w.long)) in
+        subst (λ (y : OwnLine). (number_of_line y ≡ word_at s (11 * j)) × (y.operand < 4294967296)) (sym f)
+        (l.is ∙ ap (λ (y : ℕ). word_at s (11 * y)) (sym z), (l.small x refl).1)
 
-pub decoding-all : {s words : List ℕ} {i : ℕ} → Decoding s words i → length s ≤ 11 * i → Form s words (Ok tt)
+pub decoding-all : {s : List ℕ} {words : List OwnLine} {i : ℕ} → Decoding s words i → length s ≤ 11 * i → Form s words (Ok tt)
 unfolding lines
 decoding-all {s} {words} {i} w l =
     let n : length s / 11 ≡ i = omega (arith, w.within, l) in
@@ -289,13 +298,13 @@ decoding-all {s} {words} {i} w l =
                 lines-good s (length s) (length s / 11) 0 (omega (arith, n, w.within, l)) (omega (arith, n, w.within))
                 (λ j b. subst (λ (y : ℕ). word_at s y < 1099511627776) (omega arith) (w.small j (omega (arith, b, n))));
             whole = omega (arith, n, w.within, l);
-            first = λ j k b. w.first j k (omega (arith, b, n));
+            first = λ j d k b. w.first j d k (omega (arith, b, n));
             small = λ j b. w.small j (omega (arith, b, n));
           };
       other = λ e q. absurd (cc);
     }
 
-pub decoding-other : {s words : List ℕ} {i : ℕ} → Decoding s words i → 11 * i < length s → LineAt s (11 * i) None
+pub decoding-other : {s : List ℕ} {words : List OwnLine} {i : ℕ} → Decoding s words i → 11 * i < length s → LineAt s (11 * i) None
     → Form s words (Err (record { reason = reason.OtherForm; position = 11 * i }))
 unfolding lines
 decoding-other {s} {words} {i} w l r =
@@ -363,22 +372,22 @@ module _ {s : List ℕ} {at : ℕ} where
       by none no_line = refl
       by (some x) (a-line p q n) = absurd (omega (arith, n, length-drop at s, l))
 
-  pub no_code : {r : Maybe ℕ} → at ≤ length s → 11 ≤ length s - at → 4294967296 ≡ number_or s at 2 → r ≡ None → LineAt s at r
+  pub no_code : {r : Maybe OwnLine} → at ≤ length s → 11 ≤ length s - at → 4294967296 ≡ number_or s at 2 → r ≡ None → LineAt s at r
   no_code {r} h l e q =
       record {
-        is = ap (λ (r : Maybe ℕ). unwrap_or r 1099511627776) q
+        is = ap number_of_maybe q
             ∙ sym (word-parts s at (omega (arith, h, l))
             ∙ ap (λ (o : Option ℕ). packed (parts s at o (value 8 0 (drop (at + 2) s)))) (number-none s at 2 4294967296 (omega arith) e
             (omega arith)));
         small = λ v p. absurd (cc);
       }
 
-  pub no_operand : {code : ℕ} {r : Maybe ℕ} → at ≤ length s → 11 ≤ length s - at → code ≡ number_or s at 2 → code < 4294967296
+  pub no_operand : {code : ℕ} {r : Maybe OwnLine} → at ≤ length s → 11 ≤ length s - at → code ≡ number_or s at 2 → code < 4294967296
       → 4294967296 ≡ number_or s (at + 2) 8 → r ≡ None
       → LineAt s at r
   no_operand {code} {r} h l e b f q =
       record {
-        is = ap (λ (r : Maybe ℕ). unwrap_or r 1099511627776) q
+        is = ap number_of_maybe q
             ∙ sym (word-parts s at (omega (arith, h, l))
             ∙ ap₂ (λ (o p : Option ℕ). packed (parts s at o p)) (number-some s at 2 code e b)
             (number-none s (at + 2) 8 4294967296 (omega arith) f (omega arith)));
@@ -397,24 +406,34 @@ module _ {s : List ℕ} {at : ℕ} where
 
   pub a-feed : {code operand : ℕ} → at ≤ length s → 11 ≤ length s - at → code ≡ number_or s at 2 → code < 4294967296
       → operand ≡ number_or s (at + 2) 8 → operand < 4294967296 → get_or s (at + 10) 0 ≡ 10
-      → LineAt s at (Some (code * 4294967296 + operand))
+      → LineAt s at (Some (record { code = code; operand = operand }))
   a-feed {code} {operand} h l e b f c o =
       let k : code < 256 = value-small 2 0 (drop at s) code (number-some s at 2 code e b) in
       record {
         is = sym (whole s at code operand (at + 2) h l e b refl f c
             ∙ ap (λ (q : Bool). packed (if q then (λ _. some (line code operand)) otherwise λ _. none)) (eq-eqb (get_or s (at + 10) 0) 10 o));
-        small = λ v p. let z : code * 4294967296 + operand ≡ v = cc in omega (arith, z, k, c);
+        small = λ v p.
+            subst (λ (y : OwnLine). (number_of_line y < 1099511627776) × (y.operand < 4294967296)) (let z : ◌≡◌ {A = OwnLine} (record { code = code; operand = operand }) v = cc in z)
+            (omega (arith, k, c), c);
       }
+
+-- the code of a line is a byte
+pub code-small : (s : List ℕ) (at code : ℕ) → code ≡ number_or s at 2 → code < 4294967296 → code < 256
+code-small s at code e b = value-small 2 0 (drop at s) code (number-some s at 2 code e b)
 
 -- A LINE BY ITS NUMBER
 
-pub frame-line : {s : List ℕ} {i r : ℕ} → i < length s / 11 → FrameAt s i r → get_elem? (lines_in s) i ≡ some (unpacked r)
-frame-line {s} {i} {r} l w = lines-get s (length s / 11) 0 i l ∙ ap (λ (y : ℕ). some (unpacked y)) (ap (word_at s) (omega arith)
-    ∙ sym w.is)
+pub frame-line : {s : List ℕ} {i : ℕ} {r : OwnLine} → i < length s / 11 → FrameAt s i r
+    → get_elem? (lines_in s) i ≡ some (line r.code r.operand)
+frame-line {s} {i} {r} l w =
+    let p : (r.code * 4294967296 + r.operand) / 4294967296 ≡ r.code = omega (arith, w.fits) in
+    let q : (r.code * 4294967296 + r.operand) % 4294967296 ≡ r.operand = omega (arith, w.fits) in
+    lines-get s (length s / 11) 0 i l ∙ ap (λ (y : ℕ). some (unpacked y)) (ap (word_at s) (omega arith) ∙ sym w.is)
+    ∙ ap₂ (λ (u v : ℕ). some (line u v)) p q
 
 -- what `entered` makes of a line that is there
-entered-there : (s : List ℕ) (i r : ℕ) (k : ℕ → Turn) → i < length s / 11 → FrameAt s i r
-    → entered (lines_in s) i k ≡ sure (eqb (r / 4294967296) 22) λ _. k (r % 4294967296)
+entered-there : (s : List ℕ) (i : ℕ) (r : OwnLine) (k : ℕ → Turn) → i < length s / 11 → FrameAt s i r
+    → entered (lines_in s) i k ≡ sure (eqb r.code 22) λ _. k r.operand
 unfolding entered
 entered-there s i r k l w = ap (λ (o : Option Line). option o bad λ e. sure (eqb e.code 22) λ _. k e.operand) (frame-line l w)
 
@@ -427,17 +446,17 @@ no-entry-past {s} {count} {i} e l =
           (get-past (lines_in s) i (omega (arith, lines-length s (length s / 11) 0, e, l)));
     }
 
-pub no-entry : {s : List ℕ} {count i f : ℕ} → count ≡ length s / 11 → i < count → FrameAt s i f → (f / 4294967296 ≡ 22 → ⊥)
+pub no-entry : {s : List ℕ} {count i : ℕ} {f : OwnLine} → count ≡ length s / 11 → i < count → FrameAt s i f → (f.code ≡ 22 → ⊥)
     → EntryAt s i (Err reason.FrameFault)
 no-entry {s} {count} {i} {f} e l w n =
     record {
-      says = λ k. entered-there s i f k (omega (arith, e, l)) w ∙ sure-no (eqb (f / 4294967296) 22) _ (ne_eqb (f / 4294967296) 22 n);
+      says = λ k. entered-there s i f k (omega (arith, e, l)) w ∙ sure-no (eqb f.code 22) _ (ne_eqb f.code 22 n);
     }
 
-pub an-entry : {s : List ℕ} {count i f : ℕ} → count ≡ length s / 11 → i < count → FrameAt s i f → f / 4294967296 ≡ 22
-    → EntryAt s i (Ok (f % 4294967296))
+pub an-entry : {s : List ℕ} {count i : ℕ} {f : OwnLine} → count ≡ length s / 11 → i < count → FrameAt s i f → f.code ≡ 22
+    → EntryAt s i (Ok f.operand)
 an-entry {s} {count} {i} {f} e l w n =
     record {
       says = λ k.
-          entered-there s i f k (omega (arith, e, l)) w ∙ sure-yes (eqb (f / 4294967296) 22) _ (eq-eqb (f / 4294967296) 22 n);
+          entered-there s i f k (omega (arith, e, l)) w ∙ sure-yes (eqb f.code 22) _ (eq-eqb f.code 22 n);
     }

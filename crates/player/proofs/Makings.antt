@@ -1,7 +1,7 @@
 -- Words made on the heap strip: a header and zeros, and a reference to them in the place of values.
 use Prim.Native.Nat.{ℕ, ◌+◌, ◌-◌, ◌/◌, ◌%◌, ◌≤◌, ◌<◌}
 use native.Mathlib.Omega.{arith}
-use mathlib.Core.List.{List, ◌∷◌, ◌++◌, append_assoc}
+use mathlib.Core.List.{List, ◌++◌, append_assoc}
 use mathlib.Core.Path.{◌≡◌, refl, sym, ap, ap₂, ◌∙◌}
 use lib.ListN.{length, set, take, drop, replicate, length-set, length-replicate}
 use lib.Seq.{sets, sets-eq}
@@ -12,11 +12,10 @@ use borrow.Rule.Slice.PartMut.{put_mid, mid_of, mid_len, Post-is}
 use Rattle.std.specs.Prelude.{Option as Maybe, Some, Result, Ok, Err}
 use Rattle.base.specs.declared.refusal.Reason.{Reason}
 use Rattle.base.specs.declared.refusal.Reason.TheVariants as reason
-use Rattle.base.specs.promises.Refusals.{number_of}
 use Rattle.base.specs.Word.{signed}
 use Rattle.frames.specs.Machine as Machine
 use Rattle.frames.specs.Machine.{goes, makes, do_make_array, do_make_object}
-use Rattle.player.specs.promises.Turning.{OnHeap, Value, Room, Stored, Filled, Makes, state_of, turn_of}
+use Rattle.player.specs.promises.Turning.{OnHeap, Value, Room, Stored, Filled, Makes, state_of}
 use Rattle.player.specs.declared.state.Machine.{Machine}
 use Rattle.player.proofs.Tests.{allowed-yes, allowed-no}
 use Rattle.player.proofs.Heaps.{stops}

@@ -1,12 +1,11 @@
 -- Parts and operations: a part is a run from what a record says, over the lines of a text that is of the form.
-use Prim.Native.Nat.{ℕ, ◌+◌, ◌/◌, ◌≤◌, ◌<◌}
-use native.Mathlib.Omega.{arith}
+use Prim.Native.Nat.{ℕ, ◌+◌, ◌/◌}
 use mathlib.Core.Bool.{Bool, true, false}
-use mathlib.Core.List.{List, []}
+use mathlib.Core.List.{List}
 use mathlib.Core.Option.{Option}
-use mathlib.Core.Path.{◌≡◌, refl, sym, ap, ap₂, ◌∙◌, subst}
-use lib.IntN.{ℤ, pos}
-use lib.ListN.{length, replicate, length-replicate, length-drop}
+use mathlib.Core.Path.{◌≡◌, refl, sym, ap, ap₂, ◌∙◌}
+use lib.IntN.{ℤ}
+use lib.ListN.{length}
 use Rattle.std.specs.Prelude.{Result, Ok, Err}
 use Rattle.base.specs.declared.refusal.Reason.{Reason}
 use Rattle.base.specs.declared.refusal.Refusal.{Refusal}
@@ -14,12 +13,11 @@ use Rattle.base.specs.promises.Refusals.{number_of}
 use Rattle.base.specs.Choice.{option}
 use Rattle.base.specs.Outcome.{Outcome}
 use Rattle.device.specs.promises.Holding.{held_in, registers_of}
-use Rattle.device.specs.Device.{device_in}
 use Rattle.frames.specs.Lines.{Line, lines}
 use Rattle.frames.specs.Operations as Operations
 use Rattle.frames.specs.Operations.{Strips, answer, begins, going_on, run, continue}
 use Rattle.frames.specs.Parts.{run_frames}
-use Rattle.frames.proofs.laws.Turns.{Within, Normal, registers-normal}
+use Rattle.player.specs.declared.lines.Line.{Line as OwnLine}
 use Rattle.player.specs.declared.rounds.Meter.{Meter}
 use Rattle.player.specs.declared.run.Answer.{Answer}
 use Rattle.player.specs.declared.run.Limits.{Limits}
@@ -27,9 +25,9 @@ use Rattle.player.specs.declared.run.Record.{Record}
 use Rattle.player.specs.declared.state.Machine.{Machine}
 use Rattle.player.specs.promises.Reading.{lines_in, Form}
 use Rattle.player.specs.promises.Turning.{state_of}
-use Rattle.player.specs.promises.Running.{Begins, Ran, around_in}
+use Rattle.player.specs.promises.Running.{Ran, around_in}
 use Rattle.player.specs.Answering.{answer_of, strips_of, limits_of_lem, record_from, Runs, Continues}
-use Rattle.player.specs.promises.Ending.{started_from, none_of, refusal_of, Lent, Fits, EndsAs, PartFrom, Parted, Cleared}
+use Rattle.player.specs.promises.Ending.{started_from, refusal_of, Lent, Fits, EndsAs, Parted}
 use Rattle.player.specs.promises.Ending.{Admitted, Admits, Begun, GoesOn}
 use Rattle.player.proofs.Lining.{lines-length}
 use Rattle.player.proofs.Tests.{yes-is, no-is}
@@ -87,7 +85,7 @@ module _ {text tape : List ℕ} {l : Limits} {p : Record} {heap output : List �
 
 -- THE OPERATIONS
 
-pub unfit-is : {text decoded : List ℕ} {l : Limits} {heap registers stack : ℕ} {n : Reason}
+pub unfit-is : {text : List ℕ} {decoded : List OwnLine} {l : Limits} {heap registers stack : ℕ} {n : Reason}
     → Lent l heap registers stack (Err n) → Admits text decoded l heap registers stack (Err (record { reason = n; position = 0 }))
 unfit-is {text} {l = l} {n = n} w =
     record {
@@ -99,7 +97,7 @@ unfit-is {text} {l = l} {n = n} w =
       given = λ u q. absurd (cc);
     }
 
-pub form-is : {text decoded : List ℕ} {l : Limits} {heap registers stack : ℕ} {u : Unit {0}} {r : Result (Unit {0}) Refusal}
+pub form-is : {text : List ℕ} {decoded : List OwnLine} {l : Limits} {heap registers stack : ℕ} {u : Unit {0}} {r : Result (Unit {0}) Refusal}
     → Lent l heap registers stack (Ok u) → Form text decoded r → Admits text decoded l heap registers stack r
 form-is {text} {l = l} {u = u} w f =
     record {
@@ -111,13 +109,13 @@ form-is {text} {l = l} {u = u} w f =
       given = λ v q. let b = w.bounds u refl in (f.fine v q, b.0, b.1, b.2, b.3);
     }
 
-pub is-admitted : {text decoded : List ℕ} {l : Limits} {registers stack : List ℕ} {heap : ℕ} {u : Unit {0}}
+pub is-admitted : {text : List ℕ} {decoded : List OwnLine} {l : Limits} {registers stack : List ℕ} {heap : ℕ} {u : Unit {0}}
     → Admits text decoded l heap (length registers) (length stack) (Ok u) → Admitted text decoded l registers stack
 is-admitted {u = u} w =
     let b = w.given u refl in
     record { lines = b.0; most = b.1; paid = b.2; sixteen = b.3; long = b.4 }
 
-module _ {text tape decoded : List ℕ} {l : Limits} {heap output : List ℤ} {registers stack : List ℕ} {a : Answer} where
+module _ {text tape : List ℕ} {decoded : List OwnLine} {l : Limits} {heap output : List ℤ} {registers stack : List ℕ} {a : Answer} where
   pub run-refused : {e : Refusal} → Admits text decoded l (length heap) (length registers) (length stack) (Err e)
       → a ≡ refusal_of (number_of e.reason) e.position
       → Runs text tape l (strips_of heap output registers stack) (strips_of heap output registers stack) a

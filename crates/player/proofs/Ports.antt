@@ -17,7 +17,6 @@ use Rattle.device.specs.Device.{device_in}
 use Rattle.std.specs.Prelude.{Option as Maybe, Some, Result, Ok, Err}
 use Rattle.base.specs.declared.refusal.Reason.{Reason}
 use Rattle.base.specs.declared.refusal.Reason.TheVariants as reason
-use Rattle.base.specs.promises.Refusals.{number_of}
 use Rattle.frames.specs.Machine as Machine
 use Rattle.frames.specs.Machine.{goes, do_get, do_put, do_mark}
 use Rattle.player.specs.promises.Turning.{OnPort, Sampled, Marks, Value, state_of, turn_of}

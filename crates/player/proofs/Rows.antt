@@ -1,24 +1,23 @@
 -- Frames over the row of the last call and its receiver.
-use Prim.Native.Nat.{ℕ, ◌+◌, ◌-◌, ◌*◌, ◌≤◌, ◌<◌}
+use Prim.Native.Nat.{ℕ, ◌+◌, ◌-◌, ◌≤◌, ◌<◌}
 use native.Mathlib.Omega.{arith}
 use mathlib.Core.Bool.{Bool, true, false, ◌&&◌}
 use mathlib.Core.List.{List}
 use mathlib.Core.Logic.{◌⊎◌, inl, inr}
 use mathlib.Core.Path.{◌≡◌, refl, sym, ap, ap₂, ◌∙◌}
-use lib.ListN.{length, get_or, set}
+use lib.ListN.{get_or, set}
 use lib.IntN.{ℤ, pos}
-use lib.Dec.{ltb, leb, eqb}
+use lib.Dec.{ltb, leb}
 use borrow.Author.Tests.{lt-ltb, le-ltb, le-leb, lt-leb}
 use Rattle.std.specs.Prelude.{Option as Maybe, Some, Result, Ok, Err}
 use Rattle.base.specs.declared.refusal.Reason.{Reason}
 use Rattle.base.specs.declared.refusal.Reason.TheVariants as reason
-use Rattle.base.specs.promises.Refusals.{number_of}
 use Rattle.base.specs.Word.{low}
 use Rattle.frames.specs.Machine as Machine
 use Rattle.frames.specs.Machine.{State, Turn, goes, ends, bad, sure, word, field, leave}
 use Rattle.frames.specs.Machine.{do_load, do_save, do_self, do_return}
 use Rattle.player.specs.promises.Reading.{followed}
-use Rattle.player.specs.promises.Turning.{OnStack, OnHeap, IsWord, Value, Room, NoOperand, Inner, Cell, Stored, Field, Held, state_of, turn_of}
+use Rattle.player.specs.promises.Turning.{OnStack, OnHeap, IsWord, Value, Room, NoOperand, Inner, Cell, Stored, Field, Held, state_of}
 use Rattle.player.specs.declared.state.Machine.{Machine}
 use Rattle.player.proofs.Tests.{sure-yes, sure-no, yes-is, no-is}
 use Rattle.player.proofs.Stacks.{next, ends-on, leaves}

@@ -7,7 +7,7 @@ ghost use Rattle.frames.specs.Machine.{all_words_lem};
 ghost use Rattle.frames.specs.Numbers.{values_from};
 
 use crate::heap::{cell, header};
-use crate::lines::{DECODED, entry_at};
+use crate::lines::{DECODED, Line, entry_at};
 use crate::stack::word;
 use crate::state::{CALL, Machine, PLACES, RETURN, ROW, VALUES, WORDS};
 use base::refusal::Reason;
@@ -40,7 +40,7 @@ fn called_on(stack: &[u64], height: usize, n: usize) -> Result<u32, Reason>
 // The line that a call of this receiver goes to: its class is its header, and the table has a line for each class.
 fn dispatched(
     text: &[u8],
-    decoded: &[u64; DECODED],
+    decoded: &[Line; DECODED],
     count: usize,
     heap: &[i32],
     words: usize,
@@ -105,7 +105,7 @@ fn enter(
 // 12 call.
 pub fn call(
     text: &[u8],
-    decoded: &[u64; DECODED],
+    decoded: &[Line; DECODED],
     count: usize,
     stack: &mut [u64],
     heap: &[i32],

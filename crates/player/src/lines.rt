@@ -2,7 +2,6 @@
 ghost use Rattle.std.specs.Prelude.{◌≡◌, ◌+◌, ◌/◌, ◌≤◌, ◌<◌, length, set, unwrap_or, IfSome};
 ghost use Rattle.player.specs.promises.Reading.{digit_or, number_or, LineAt, Form, Decoded, Counted, FrameAt, EntryAt};
 
-use crate::state::WORDS;
 use base::refusal::{Reason, Refusal};
 
 // Bytes of a line, its digits and where they lie: two for the code, eight for the operand, then a line feed.
@@ -17,11 +16,15 @@ const FEED: usize = 10;
 // How many lines are decoded once.
 pub const DECODED: usize = 8192;
 
-// A line in one word is its code times this, and its operand.
-pub const WIDTH: u64 = WORDS;
+// A line.
+#[derive(Clone, Copy, Default)]
+pub struct Line {
+    pub code: u8,
+    pub operand: u32,
+}
 
 // The code of `entry`.
-const ENTRY: u64 = 22;
+const ENTRY: u8 = 22;
 
 // What a lower-case hexadecimal digit stands for.
 fn digit(b: u8) -> Option<u8>
@@ -47,7 +50,7 @@ fn digits(text: &[u8], at: usize, count: usize) -> Option<u32>
 }
 
 // The line from a byte on, where it is of the form.
-fn line_at(text: &[u8], at: usize) -> Option<u64>
+fn line_at(text: &[u8], at: usize) -> Option<Line>
     requires { at ≤ length text.now }
     ensures { LineAt text.now at result }
 {
@@ -59,39 +62,42 @@ fn line_at(text: &[u8], at: usize) -> Option<u64>
     if text[at + FEED] != b'\n' {
         return None;
     }
-    Some(code as u64 * WIDTH + operand as u64)
+    Some(Line {
+        code: code as u8,
+        operand,
+    })
 }
 
 // Keeps a line where there is room for it.
-fn decode(decoded: &mut [u64; DECODED], i: usize, x: u64)
+fn decode(decoded: &mut [Line; DECODED], i: usize, line: Line)
     requires { length decoded.old ≡ 8192 }
-    ensures { decoded.new ≡ set decoded.old i x }
+    ensures { decoded.new ≡ set decoded.old i line }
 {
     if i < DECODED {
-        decoded[i] = x;
+        decoded[i] = line;
     }
 }
 
 // Whether all lines are of the form: else the first byte of the first line that is not. The first lines are decoded.
-pub fn form(text: &[u8], decoded: &mut [u64; DECODED]) -> Result<(), Refusal>
+pub fn form(text: &[u8], decoded: &mut [Line; DECODED]) -> Result<(), Refusal>
     requires { length decoded.old ≡ 8192 }
     ensures { Form text.now decoded.new result }
 {
     for i in 0..text.len().div_ceil(LINE) {
         let at = LINE * i;
-        let Some(x) = line_at(text, at) else {
+        let Some(line) = line_at(text, at) else {
             return Err(Refusal {
                 reason: Reason::OtherForm,
                 position: at,
             });
         };
-        decode(decoded, i, x);
+        decode(decoded, i, line);
     }
     Ok(())
 }
 
 // Line number i.
-pub fn frame_at(text: &[u8], decoded: &[u64; DECODED], i: usize) -> u64
+pub fn frame_at(text: &[u8], decoded: &[Line; DECODED], i: usize) -> Line
     requires { Decoded text.now decoded.now × (i < length text.now / 11) }
     ensures { FrameAt text.now i result }
 {
@@ -104,7 +110,7 @@ pub fn frame_at(text: &[u8], decoded: &[u64; DECODED], i: usize) -> u64
 // The operand of the `entry` at a line; 70 where the line is past the last or no `entry`.
 pub fn entry_at(
     text: &[u8],
-    decoded: &[u64; DECODED],
+    decoded: &[Line; DECODED],
     count: usize,
     i: usize,
 ) -> Result<u32, Reason>
@@ -114,9 +120,9 @@ pub fn entry_at(
     if count <= i {
         return Err(Reason::FrameFault);
     }
-    let f = frame_at(text, decoded, i);
-    if f / WIDTH != ENTRY {
+    let line = frame_at(text, decoded, i);
+    if line.code != ENTRY {
         return Err(Reason::FrameFault);
     }
-    Ok((f % WIDTH) as u32)
+    Ok(line.operand)
 }

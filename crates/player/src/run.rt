@@ -6,7 +6,7 @@ ghost use Rattle.player.specs.promises.Ending.{EndsAs, PartFrom, Parted, Cleared
 ghost use Rattle.base.specs.promises.Refusals.{number_of};
 ghost use Rattle.frames.specs.Numbers.{budget_most, values_from};
 
-use crate::lines::{DECODED, LINE, form};
+use crate::lines::{DECODED, LINE, Line, form};
 use crate::rounds::{Meter, rounds};
 use crate::state::{Machine, SUCCESS, VALUES};
 use base::bounds::{CALLS_MOST, HEAP_MOST};
@@ -198,7 +198,7 @@ fn ended(heap: &mut [i32], stack: &mut [u64], e: Meter) -> Answer
 // A part from a record on.
 fn part(
     text: &[u8],
-    decoded: &[u64; DECODED],
+    decoded: &[Line; DECODED],
     tape: &[u8],
     limits: Limits,
     heap: &mut [i32],
@@ -244,7 +244,7 @@ fn clear(heap: &mut [i32], registers: &mut [u8], stack: &mut [u64])
 // The first part, over a text of the form.
 fn begin(
     text: &[u8],
-    decoded: &[u64; DECODED],
+    decoded: &[Line; DECODED],
     tape: &[u8],
     limits: Limits,
     heap: &mut [i32],
@@ -274,7 +274,7 @@ fn begin(
 // A further part, over a text of the form.
 fn go_on(
     text: &[u8],
-    decoded: &[u64; DECODED],
+    decoded: &[Line; DECODED],
     tape: &[u8],
     limits: Limits,
     heap: &mut [i32],
@@ -312,7 +312,7 @@ fn go_on(
 // What is refused before anything is touched; else the first lines are decoded.
 fn admit(
     text: &[u8],
-    decoded: &mut [u64; DECODED],
+    decoded: &mut [Line; DECODED],
     limits: Limits,
     heap: usize,
     registers: usize,
@@ -344,7 +344,7 @@ pub fn run(
         (strips_of heap.old output.old registers.old stack.old)
         (strips_of heap.new output.new registers.new stack.new) result }
 {
-    let mut decoded = [0u64; DECODED];
+    let mut decoded = [Line::default(); DECODED];
     if let Err(refusal) = admit(
         text,
         &mut decoded,
@@ -373,7 +373,7 @@ pub fn resume(
         (strips_of heap.old output.old registers.old stack.old)
         (strips_of heap.new output.new registers.new stack.new) result }
 {
-    let mut decoded = [0u64; DECODED];
+    let mut decoded = [Line::default(); DECODED];
     if let Err(refusal) = admit(
         text,
         &mut decoded,

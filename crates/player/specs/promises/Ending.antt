@@ -1,5 +1,5 @@
 -- What the functions of the operations promise one another.
-use Rattle.std.specs.Prelude.{ℕ, ◌+◌, ◌*◌, ◌/◌, ◌≤◌, ◌<◌, ◌||◌, List, ◌≡◌, ℤ, pos, length, replicate, eqb, ltb, leb, Bool, true, Result, Ok, Err}
+use Rattle.std.specs.Prelude.{ℕ, ◌+◌, ◌*◌, ◌/◌, ◌≤◌, ◌<◌, ◌||◌, List, ◌≡◌, ℤ, pos, length, replicate, eqb, Bool, true, Result, Ok, Err}
 use Rattle.std.proofs.Math.Option.{Option, none, some}
 use Rattle.base.specs.declared.refusal.Reason.{Reason}
 use Rattle.base.specs.declared.refusal.Refusal.{Refusal}
@@ -11,6 +11,7 @@ use Rattle.frames.specs.Operations as Operations
 use Rattle.frames.specs.Operations.{Strips, answer, begins, going_on}
 use Rattle.frames.specs.Parts.{Report, run_frames}
 use Rattle.frames.proofs.laws.Turns.{Within}
+use Rattle.player.specs.declared.lines.Line.{Line as OwnLine}
 use Rattle.player.specs.declared.rounds.Meter.{Meter}
 use Rattle.player.specs.declared.run.Answer.{Answer}
 use Rattle.player.specs.declared.run.Limits.{Limits}
@@ -115,7 +116,7 @@ pub record EndsAs (e : Meter) (stack stack' : List ℕ) (heap heap' : List ℤ) 
 -- PARTS
 
 -- what a part asks of its begin
-pub record PartFrom (text decoded tape : List ℕ) (l : Limits) (p : Record) (heap output : List ℤ) (registers stack : List ℕ) : Type 0 where
+pub record PartFrom (text : List ℕ) (decoded : List OwnLine) (tape : List ℕ) (l : Limits) (p : Record) (heap output : List ℤ) (registers stack : List ℕ) : Type 0 where
   pub lines : Decoded text decoded
   pub most : l.calls ≤ calls_most
   pub paid : 1 ≤ l.price
@@ -134,7 +135,7 @@ pub record Cleared (heap heap' : List ℤ) (registers registers' stack stack' : 
   pub stack_is : stack' ≡ replicate (length stack) 0
 
 -- what is not refused
-pub record Admitted (text decoded : List ℕ) (l : Limits) (registers stack : List ℕ) : Type 0 where
+pub record Admitted (text : List ℕ) (decoded : List OwnLine) (l : Limits) (registers stack : List ℕ) : Type 0 where
   pub lines : Decoded text decoded
   pub most : l.calls ≤ calls_most
   pub paid : 1 ≤ l.price
@@ -142,7 +143,7 @@ pub record Admitted (text decoded : List ℕ) (l : Limits) (registers stack : Li
   pub long : stack_least ≤ length stack
 
 -- what is refused before anything is touched, whatever is done with the lines; else what is not refused
-pub record Admits (text decoded : List ℕ) (l : Limits) (heap registers stack : ℕ) (r : Result (Unit {0}) Refusal) : Type 0 where
+pub record Admits (text : List ℕ) (decoded : List OwnLine) (l : Limits) (heap registers stack : ℕ) (r : Result (Unit {0}) Refusal) : Type 0 where
   pub refuses : (e : Refusal) → r ≡ Err e → (m : Strips) → length m.heap ≡ heap → length m.registers ≡ registers → length m.stack ≡ stack
       → (k : Outcome (List Line) → Operations.Answer) → ((n p : ℕ) → k (refused n p) ≡ Operations.refusal n p m)
       → (option (Operations.unfit (limits_of_lem l) m) (k (lines text)) λ n. Operations.refusal n 0 m)

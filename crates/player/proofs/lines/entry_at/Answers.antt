@@ -6,8 +6,8 @@ use Rattle.player.proofs.lines.entry_at.Goals as goal
 pub returns-then-count-i : goal.returns-then-count-i
 returns-then-count-i c = search (rules, no-entry-past)
 
-pub returns-then-f-ne-ENTRY : goal.returns-then-f-ne-ENTRY
-returns-then-f-ne-ENTRY c = search (rules, no-entry)
+pub returns-then-line-ne-ENTRY : goal.returns-then-line-ne-ENTRY
+returns-then-line-ne-ENTRY c = search (rules, no-entry)
 
 pub returns : goal.returns
 returns c = search (rules, an-entry)
