@@ -1,4 +1,4 @@
--- Digits that are read forward by an index.
+-- Digits that are read forward.
 use Prim.Native.Nat.{ℕ, suc, ◌+◌, ◌-◌, ◌*◌, ◌^◌, ◌≤◌, ◌<◌}
 use native.Mathlib.Nat.{pow-suc, pow-le-pow_right}
 use native.Mathlib.Omega.{arith}
@@ -12,6 +12,7 @@ use lib.Dec.{leb}
 use borrow.Author.Tests.{le-leb, lt-leb, leb-true}
 use Rattle.base.specs.laws.Tests.{and-true}
 use Rattle.base.specs.Choice.{if◌then◌otherwise◌, option}
+use Rattle.std.specs.Prelude.{Option as Maybe, None, unwrap_or}
 use Rattle.frames.specs.Lines.{digit_of, digits}
 use Rattle.player.specs.promises.Reading.{digit_or, number_or}
 
@@ -25,32 +26,28 @@ digit-is : (w x y z : Bool) (b : ℕ) → leb 48 b ≡ w → leb b 57 ≡ x → 
 unfolding digit_or
 digit-is w x y z b p q r t = rw (p, q, r, t) refl
 
-module _ {x b : ℕ} (e : x ≡ b) where
-  pub below : x < 48 → 16 ≡ digit_or b
-  below h = sym (digit-is false true false true b (lt-leb 48 b (omega (arith, e))) (le-leb b 57
-      (omega (arith, e))) (lt-leb 97 b (omega (arith, e))) (le-leb b 102 (omega (arith, e))))
+module _ {b : ℕ} where
+  pub below : b < 48 → 16 ≡ digit_or b
+  below h = sym (digit-is false true false true b (lt-leb 48 b h) (le-leb b 57 (omega (arith, h))) (lt-leb 97 b (omega (arith, h)))
+      (le-leb b 102 (omega (arith, h))))
 
-  pub figure : 48 ≤ x → x ≤ 57 → x - 48 ≡ digit_or b
-  figure h k =
-      ap (λ (n : ℕ). n - 48) e
-      ∙ sym (digit-is true true false true b (le-leb 48 b (omega (arith, e))) (le-leb b 57 (omega (arith, e))) (lt-leb 97 b
-      (omega (arith, e))) (le-leb b 102 (omega (arith, e))))
+  pub figure : 48 ≤ b → b ≤ 57 → b - 48 ≡ digit_or b
+  figure h k = sym (digit-is true true false true b (le-leb 48 b h) (le-leb b 57 k) (lt-leb 97 b (omega (arith, k)))
+      (le-leb b 102 (omega (arith, k))))
 
-  pub between : 57 < x → x < 97 → 16 ≡ digit_or b
-  between h k =
-      sym (digit-is true false false true b (le-leb 48 b (omega (arith, e))) (lt-leb b 57 (omega (arith, e))) (lt-leb 97 b
-      (omega (arith, e))) (le-leb b 102 (omega (arith, e))))
+  pub between : 57 < b → b < 97 → 16 ≡ digit_or b
+  between h k = sym (digit-is true false false true b (le-leb 48 b (omega (arith, h))) (lt-leb b 57 h) (lt-leb 97 b k)
+      (le-leb b 102 (omega (arith, k))))
 
-  pub letter : 97 ≤ x → x ≤ 102 → x - 87 ≡ digit_or b
+  pub letter : 97 ≤ b → b ≤ 102 → b - 97 + 10 ≡ digit_or b
   letter h k =
-      ap (λ (n : ℕ). n - 87) e
-      ∙ sym (digit-is true false true true b (le-leb 48 b (omega (arith, e))) (lt-leb b 57 (omega (arith, e))) (le-leb 97 b
-      (omega (arith, e))) (le-leb b 102 (omega (arith, e))))
+      let z : b - 97 + 10 ≡ b - 87 = omega (arith, h) in
+      z ∙ sym (digit-is true false true true b (le-leb 48 b (omega (arith, h))) (lt-leb b 57 (omega (arith, h))) (le-leb 97 b h)
+      (le-leb b 102 k))
 
-  pub above : 102 < x → 16 ≡ digit_or b
-  above h =
-      sym (digit-is true false true false b (le-leb 48 b (omega (arith, e))) (lt-leb b 57 (omega (arith, e))) (le-leb 97 b
-      (omega (arith, e))) (lt-leb b 102 (omega (arith, e))))
+  pub above : 102 < b → 16 ≡ digit_or b
+  above h = sym (digit-is true false true false b (le-leb 48 b (omega (arith, h))) (lt-leb b 57 (omega (arith, h))) (le-leb 97 b
+      (omega (arith, h))) (lt-leb b 102 h))
 
 -- DIGITS, one after another
 
@@ -117,15 +114,24 @@ value_of : (b d : ℕ) (o : Option ℕ) → digit_of b ≡ o → d ≡ digit_or 
 unfolding digit_or
 value_of b d o e q = q ∙ ap (λ (o : Option ℕ). option o 16 λ d. d) e
 
-pub no_digit : {s : List ℕ} {at count end i v : ℕ} (d : ℕ) → Reading s at count end i v → i < end → d ≡ digit_or (get_or s i 0) → 15 < d
-    → 4294967296 ≡ number_or s at count
-no_digit {s} {at} {count} {end} {i} {v} d r l q h = by (digit_of (get_or s i 0)) refl
+pub no_digit : {s : List ℕ} {at count end i v : ℕ} {r : Maybe ℕ} → Reading s at count end i v → i < end → 16 ≡ digit_or (get_or s i 0)
+    → r ≡ None → unwrap_or r 4294967296 ≡ number_or s at count
+no_digit {s} {at} {count} {end} {i} {v} {r} w l q p =
+    ap (λ (r : Maybe ℕ). unwrap_or r 4294967296) p ∙ by (digit_of (get_or s i 0)) refl
   where
     by : (o : Option ℕ) → digit_of (get_or s i 0) ≡ o → 4294967296 ≡ number_or s at count
-    by none e = sym (onward r l none e)
-    by (some n) e = absurd (omega (arith, value_of (get_or s i 0) d (some n) e q, digit-small (get_or s i 0) n e))
+    by none e = sym (onward w l none e)
+    by (some n) e = absurd (omega (arith, value_of (get_or s i 0) 16 (some n) e q, digit-small (get_or s i 0) n e))
 
-pub a-digit : {s : List ℕ} {at count end i v d : ℕ} → Reading s at count end i v → i < end → d ≡ digit_or (get_or s i 0) → d ≤ 15
+-- a digit more fits a word
+pub room-more : {s : List ℕ} {at count end i v : ℕ} → Reading s at count end i v → i < end → v * 16 + 15 < 4294967296
+room-more {s} {at} {count} {end} {i} {v} r l =
+    let p : v * 16 + 15 < 16 ^ suc (i - at) = omega (arith, pow-suc 16 (i - at), r.small) in
+    let o : 0 < 16 = omega arith in
+    let t : suc (i - at) ≤ 8 = omega (arith, r.end_is, r.from, r.eight, l) in
+    omega (arith, p, pow-le-pow_right o t)
+
+pub a-digit : {s : List ℕ} {at count end i v d : ℕ} → Reading s at count end i v → i < end → d ≡ digit_or (get_or s i 0) → d < 16
     → Reading s at count end (i + 1) (v * 16 + d)
 a-digit {s} {at} {count} {end} {i} {v} {d} r l q h = by (digit_of (get_or s i 0)) refl
   where

@@ -1,15 +1,13 @@
 -- What the proofs use.
-pub mod Forward
 pub mod Tests
 pub mod Stacks
-pub mod Rows
 pub mod Heaps
-pub mod Ports
+pub mod Rows
 pub mod Makings
+pub mod Ports
+pub mod Forward
 pub mod Lining
 pub mod Calls
 pub mod Acting
 pub mod Looping
-pub mod Refusing
-pub mod Ends
 pub mod Parts

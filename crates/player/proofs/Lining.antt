@@ -10,16 +10,21 @@ use mathlib.Core.Path.{◌≡◌, refl, sym, ap, ap₂, ◌∙◌, subst}
 use lib.ListN.{length, get_or, get_elem?, set, drop, length-drop, length-set}
 use lib.Seq.{set_out, drop-cons, drop-drop, get_or-set_same, get_or-set_other}
 use lib.Dec.{ltb, eqb}
-use borrow.Author.Tests.{ltb-true, ltb-false, lt-ltb, eq-eqb, ne_eqb}
+use borrow.Author.Tests.{ltb-true, ltb-false, eq-eqb, ne_eqb}
 use Rattle.base.specs.Choice.{if◌then◌otherwise◌, option}
 use Rattle.base.specs.Outcome.{Outcome, accepted, refused, ◌>>=◌}
 use Rattle.frames.specs.Lines.{Line, line, digit_of, digits, line_feed_lem, single_line, no_more, lines_from, lines}
 use Rattle.frames.specs.Machine.{Turn, bad, sure, entered}
-use Rattle.player.specs.promises.Reading.{number_or, line_in, packed, word_at, unpacked, lines_at, lines_in, LineAt, Decoded, Form}
+use Rattle.base.specs.declared.refusal.Refusal.{Refusal}
+use Rattle.base.specs.promises.Refusals.{number_of}
+use Rattle.base.specs.declared.refusal.Reason.TheVariants as reason
+use Rattle.std.specs.Prelude.{Ok, Err, Option as Maybe, None, Some}
+use Rattle.player.specs.declared.lines.Line.{Line as OwnLine}
+use Rattle.player.specs.promises.Reading.{number_of_line, number_of_maybe, number_or, line_in, packed, word_at, unpacked, lines_at, lines_in, LineAt, Form}
 use Rattle.player.specs.promises.Reading.{FrameAt, EntryAt}
 use Rattle.base.specs.laws.Lists.{get-past}
 use Rattle.player.proofs.Forward.{digit-small}
-use Rattle.player.proofs.Tests.{sure-yes, sure-no, yes-is}
+use Rattle.player.proofs.Tests.{sure-yes, sure-no}
 
 -- NUMBERS
 
@@ -56,17 +61,6 @@ value-small (suc n) v (b ∷ s) r e = by (digit_of b) (λ d f. value-small n (v 
         let p : (v + 1) * 16 * 16 ^ n ≡ (v + 1) * 16 ^ suc n = mul_assoc (v + 1) 16 (16 ^ n)
         ∙ ap (λ (y : ℕ). (v + 1) * y) (omega (arith, pow-suc 16 n)) in
         omega (arith, h d f, mul-le-mul_right (16 ^ n) m, p)
-
-value-long : (n v : ℕ) (s : List ℕ) (r : ℕ) → value n v s ≡ some r → n ≤ length s
-unfolding value
-value-long zero v s r e = omega arith
-value-long (suc n) v [] r e = absurd (let z : ◌≡◌ {A = ℕ} 0 1 = cc in omega arith)
-value-long (suc n) v (b ∷ s) r e = by (digit_of b) (λ d f. value-long n (v * 16 + d) s r f) e
-  where
-    by : (o : Option ℕ) → ((d : ℕ) → value n (v * 16 + d) s ≡ some r → n ≤ length s) → (option o none λ d. value n (v * 16 + d) s) ≡ some r
-        → suc n ≤ suc (length s)
-    by none h f = absurd (let z : ◌≡◌ {A = ℕ} 0 1 = cc in omega arith)
-    by (some d) h f = omega (arith, h d f)
 
 -- A LINE
 
@@ -252,87 +246,82 @@ lines-small s (suc n) at (suc i) e q = lines-small s n (at + 11) i e q
 -- THE FIRST PASS
 
 -- the lines before line i are of the form, and the first of them decoded
-pub record Decoding (s words : List ℕ) (at i : ℕ) : Type 0 where
-  pub place : at ≡ 11 * i
-  pub within : at ≤ length s
-  pub long : length words ≡ 8192
+pub record Decoding (s : List ℕ) (held : List OwnLine) (i : ℕ) : Type 0 where
+  pub within : 11 * i ≤ length s
+  pub long : length held ≡ 8192
   pub small : (j : ℕ) → j < i → word_at s (11 * j) < 1099511627776
-  pub first : (j : ℕ) → j < 8192 → j < i → get_or words j 0 ≡ word_at s (11 * j)
+  pub first : (j : ℕ) (d : OwnLine) → j < 8192 → j < i
+      → (number_of_line (get_or held j d) ≡ word_at s (11 * j)) × ((get_or held j d).operand < 4294967296)
 
-pub past-the-array : {words : List ℕ} {i : ℕ} (x : ℕ) → length words ≡ 8192 → 8192 ≤ i → words ≡ set words i x
-past-the-array {words} {i} x e l = sym (set_out words i x (omega (arith, e, l)))
+pub past-the-array : {held : List OwnLine} {i : ℕ} (x : OwnLine) → length held ≡ 8192 → 8192 ≤ i → held ≡ set held i x
+past-the-array {held} {i} x e l = sym (set_out held i x (omega (arith, e, l)))
 
-pub decoding-starts : {s words : List ℕ} → length words ≡ 8192 → Decoding s words 0 0
-decoding-starts e =
+pub decoding-more : {s : List ℕ} {held held' : List OwnLine} {i : ℕ} {x : OwnLine} → Decoding s held i → LineAt s (11 * i) (Some x)
+    → held' ≡ set held i x
+    → Decoding s held' (i + 1)
+decoding-more {s} {held} {held'} {i} {x} w l e =
+    let b : word_at s (11 * i) < 1099511627776 = subst (λ (y : ℕ). y < 1099511627776) l.is (l.small x refl).0 in
     record {
-      place = refl;
-      within = omega arith;
-      long = e;
-      small = λ j h. absurd
-          (omega (arith, h));
-      first = λ j k h. absurd (omega (arith, h));
-    }
-
-pub decoding-more : {s words words' : List ℕ} {at i x : ℕ} → Decoding s words at i → LineAt s at x → x < 1099511627776
-    → words' ≡ set words i x
-    → Decoding s words' (at + 11) (i + 1)
-decoding-more {s} {words} {words'} {at} {i} {x} w l b e =
-    let v : word_at s (11 * i) ≡ x = ap (word_at s) (sym w.place) ∙ sym l.is in
-    record {
-      place = omega (arith, w.place);
-      within = (lined s at (subst (λ (y : ℕ). y < 1099511627776) l.is b)).within;
-      long = ap (λ (t : List ℕ). length t) e ∙ length-set words i x ∙ w.long;
-      small = λ j h. older j h (ltb j i) refl;
-      first = λ j k h. ap (λ (t : List ℕ). get_or t j 0) e ∙ stored v j k h (ltb j i) refl;
+      within = omega (arith, (lined s (11 * i) b).within);
+      long = ap (λ (t : List OwnLine). length t) e ∙ length-set held i x ∙ w.long;
+      small = λ j h. older b j h (ltb j i) refl;
+      first = λ j d k h.
+          subst (λ (t : List OwnLine). (number_of_line (get_or t j d) ≡ word_at s (11 * j)) × ((get_or t j d).operand < 4294967296)) (sym e)
+          (stored j d k h (ltb j i) refl);
     }
   where
-    older : (j : ℕ) → j < i + 1 → (q : Bool) → ltb j i ≡ q → word_at s (11 * j) < 1099511627776
-    older j h true q = w.small j (ltb-true j i q)
-    older j h false q =
-        let z : i ≡ j = omega (arith, h, ltb-false j i q) in
-        subst (λ (y : ℕ). word_at s (11 * y) < 1099511627776) z (subst (λ (y : ℕ). word_at s y < 1099511627776) w.place (subst (λ
-        (y : ℕ). y < 1099511627776) l.is b))
+    older : word_at s (11 * i) < 1099511627776 → (j : ℕ) → j < i + 1 → (q : Bool) → ltb j i ≡ q → word_at s (11 * j) < 1099511627776
+    older b j h true q = w.small j (ltb-true j i q)
+    older b j h false q =
+        let z : i ≡ j = omega (arith, h, ltb-false j i q) in subst (λ (y : ℕ). word_at s (11 * y) < 1099511627776) z b
 
-    stored : word_at s (11 * i) ≡ x → (j : ℕ) → j < 8192 → j < i + 1 → (q : Bool) → ltb j i ≡ q
-        → get_or (set words i x) j 0 ≡ word_at s (11 * j)
-    stored v j k h true q = get_or-set_other words i j x 0 (λ z. omega (arith, z, ltb-true j i q)) ∙ w.first j k (ltb-true j i q)
-    stored v j k h false q =
+    stored : (j : ℕ) (d : OwnLine) → j < 8192 → j < i + 1 → (q : Bool) → ltb j i ≡ q
+        → (number_of_line (get_or (set held i x) j d) ≡ word_at s (11 * j)) × ((get_or (set held i x) j d).operand < 4294967296)
+    stored j d k h true q =
+        subst (λ (y : OwnLine). (number_of_line y ≡ word_at s (11 * j)) × (y.operand < 4294967296))
+        (sym (get_or-set_other held i j x d (λ z. omega (arith, z, ltb-true j i q)))) (w.first j d k (ltb-true j i q))
+    stored j d k h false q =
         let z : j ≡ i = omega (arith, h, ltb-false j i q) in
-        ap (λ (y : ℕ). get_or (set words i x) y 0) z ∙ get_or-set_same words i x 0 (omega (arith, z, k, w.long)) ∙ sym v
-        ∙ ap (λ (y : ℕ). word_at s (11 * y)) (sym z)
+        let f : get_or (set held i x) j d ≡ x
+        = ap (λ (y : ℕ). get_or (set held i x) y d) z ∙ get_or-set_same held i x d (omega (arith, z, k, w.long)) in
+        subst (λ (y : OwnLine). (number_of_line y ≡ word_at s (11 * j)) × (y.operand < 4294967296)) (sym f)
+        (l.is ∙ ap (λ (y : ℕ). word_at s (11 * y)) (sym z), (l.small x refl).1)
 
-pub decoding-all : {s words : List ℕ} {at i : ℕ} → Decoding s words at i → length s ≤ at → Form s words at
+pub decoding-all : {s : List ℕ} {words : List OwnLine} {i : ℕ} → Decoding s words i → length s ≤ 11 * i → Form s words (Ok tt)
 unfolding lines
-decoding-all {s} {words} {at} {i} w l =
-    let n : length s / 11 ≡ i = omega (arith, w.place, w.within, l) in
+decoding-all {s} {words} {i} w l =
+    let n : length s / 11 ≡ i = omega (arith, w.within, l) in
     record {
-      fine = λ _.
+      fine = λ _ _.
           record {
             lines =
-                lines-good s (length s) (length s / 11) 0 (omega (arith, n, w.place, w.within, l)) (omega (arith, n, w.place, w.within))
+                lines-good s (length s) (length s / 11) 0 (omega (arith, n, w.within, l)) (omega (arith, n, w.within))
                 (λ j b. subst (λ (y : ℕ). word_at s y < 1099511627776) (omega arith) (w.small j (omega (arith, b, n))));
-            whole = omega (arith, n, w.place, w.within, l);
-            first = λ j k b. w.first j k (omega (arith, b, n));
+            whole = omega (arith, n, w.within, l);
+            first = λ j d k b. w.first j d k (omega (arith, b, n));
             small = λ j b. w.small j (omega (arith, b, n));
           };
-      other = λ h. absurd (omega (arith, h, l));
+      other = λ e q. absurd (cc);
     }
 
-pub decoding-other : {s words : List ℕ} {at i x : ℕ} → Decoding s words at i → at < length s → LineAt s at x → 1099511627776 ≤ x
-    → Form s words at
+pub decoding-other : {s : List ℕ} {words : List OwnLine} {i : ℕ} → Decoding s words i → 11 * i < length s → LineAt s (11 * i) None
+    → Form s words (Err (record { reason = reason.OtherForm; position = 11 * i }))
 unfolding lines
-decoding-other {s} {words} {at} {i} {x} w l r b =
-    let z : 0 + 11 * i ≡ at = omega (arith, w.place) in
+decoding-other {s} {words} {i} w l r =
+    let z : 0 + 11 * i ≡ 11 * i = omega arith in
+    let o : 1099511627776 ≤ word_at s (11 * i) = omega (arith, r.is) in
+    let bad : lines_from (length s) 0 s ≡ refused 69 (11 * i)
+    = lines-bad s (length s) i 0 (omega (arith, l)) (omega (arith, l))
+    (λ j b. subst (λ (y : ℕ). word_at s y < 1099511627776) (omega arith) (w.small j b))
+    (subst (λ (y : ℕ). 1099511627776 ≤ word_at s y) (sym z) o) ∙ ap (refused 69) z in
     record {
-      fine = λ h. absurd (omega (arith, h, l));
-      other = λ _.
-          lines-bad s (length s) i 0 (omega (arith, z, l)) (omega (arith, w.place, l))
-          (λ j b. subst (λ (y : ℕ). word_at s y < 1099511627776) (omega arith) (w.small j b))
-          (subst (λ (y : ℕ). 1099511627776 ≤ word_at s y) (sym z) (subst (λ (y : ℕ). 1099511627776 ≤ y) r.is b))
-          ∙ ap (refused 69) z;
+      fine = λ u q. absurd (cc);
+      other = λ e q.
+          let f : ◌≡◌ {A = Refusal} (record { reason = reason.OtherForm; position = 11 * i }) e = cc in
+          bad ∙ ap (λ (e : Refusal). refused (number_of e.reason) e.position) f;
     }
 
--- ONE LINE BY ITS PARTS
+-- THE LINE FROM A PLACE ON
 
 number-some : (s : List ℕ) (at n r : ℕ) → r ≡ number_or s at n → r < 4294967296 → value n 0 (drop at s) ≡ some r
 unfolding number_or
@@ -375,75 +364,80 @@ whole s at code operand two h l e b t f c =
     (number-some s (at + 2) 8 operand (f ∙ ap (λ (k : ℕ). number_or s k 8) t) c)
 
 module _ {s : List ℕ} {at : ℕ} where
-  pub too_short : at ≤ length s → length s - at < 11 → LineAt s at 1099511627776
+  pub too_short : at ≤ length s → length s - at < 11 → LineAt s at None
   unfolding word_at
-  too_short h l = record { is = by (line_in (drop at s)) (view (drop at s)) }
+  too_short h l = record { is = by (line_in (drop at s)) (view (drop at s)); small = λ v q. absurd (cc) }
     where
       by : (o : Option Line) → Line? (drop at s) o → 1099511627776 ≡ packed o
       by none no_line = refl
       by (some x) (a-line p q n) = absurd (omega (arith, n, length-drop at s, l))
 
-  pub no_code : {code : ℕ} → at ≤ length s → 11 ≤ length s - at → code ≡ number_or s at 2 → 4294967296 ≤ code → LineAt s at 1099511627776
-  no_code {code} h l e b =
+  pub no_code : {r : Maybe OwnLine} → at ≤ length s → 11 ≤ length s - at → 4294967296 ≡ number_or s at 2 → r ≡ None → LineAt s at r
+  no_code {r} h l e q =
       record {
-        is = sym (word-parts s at (omega (arith, h, l))
-            ∙ ap (λ (o : Option ℕ). packed (parts s at o (value 8 0 (drop (at + 2) s)))) (number-none s at 2 code (omega arith) e b));
+        is = ap number_of_maybe q
+            ∙ sym (word-parts s at (omega (arith, h, l))
+            ∙ ap (λ (o : Option ℕ). packed (parts s at o (value 8 0 (drop (at + 2) s)))) (number-none s at 2 4294967296 (omega arith) e
+            (omega arith)));
+        small = λ v p. absurd (cc);
       }
 
-  pub no_operand : {code operand two : ℕ} → at ≤ length s → 11 ≤ length s - at → code ≡ number_or s at 2 → code < 4294967296 → two ≡ at + 2
-      → operand ≡ number_or s two 8 → 4294967296 ≤ operand → LineAt s at 1099511627776
-  no_operand {code} {operand} {two} h l e b t f c =
+  pub no_operand : {code : ℕ} {r : Maybe OwnLine} → at ≤ length s → 11 ≤ length s - at → code ≡ number_or s at 2 → code < 4294967296
+      → 4294967296 ≡ number_or s (at + 2) 8 → r ≡ None
+      → LineAt s at r
+  no_operand {code} {r} h l e b f q =
       record {
-        is = sym (word-parts s at (omega (arith, h, l))
+        is = ap number_of_maybe q
+            ∙ sym (word-parts s at (omega (arith, h, l))
             ∙ ap₂ (λ (o p : Option ℕ). packed (parts s at o p)) (number-some s at 2 code e b)
-            (number-none s (at + 2) 8 operand (omega arith) (f ∙ ap (λ (k : ℕ). number_or s k 8) t) c));
+            (number-none s (at + 2) 8 4294967296 (omega arith) f (omega arith)));
+        small = λ v p. absurd (cc);
       }
 
-  pub no-feed : {code operand two feed end : ℕ} → at ≤ length s → 11 ≤ length s - at → code ≡ number_or s at 2 → code < 4294967296
-      → two ≡ at + 2
-      → operand ≡ number_or s two 8 → operand < 4294967296 → end ≡ at + 10 → feed ≡ get_or s end 0 → (feed ≡ 10 → ⊥)
-      → LineAt s at 1099511627776
-  no-feed {code} {operand} {two} {feed} {end} h l e b t f c i j o =
-      let z : get_or s (at + 10) 0 ≡ feed = ap (λ (k : ℕ). get_or s k 0) (sym i) ∙ sym j in
+  pub no-feed : {code operand : ℕ} → at ≤ length s → 11 ≤ length s - at → code ≡ number_or s at 2 → code < 4294967296
+      → operand ≡ number_or s (at + 2) 8 → operand < 4294967296 → (get_or s (at + 10) 0 ≡ 10 → ⊥)
+      → LineAt s at None
+  no-feed {code} {operand} h l e b f c o =
       record {
-        is = sym (whole s at code operand two h l e b t f c
-            ∙ ap (λ (q : Bool). packed (if q then (λ _. some (line code operand)) otherwise λ _. none)) (ne_eqb (get_or s (at + 10) 0) 10 λ y. o
-            (sym z ∙ y)));
+        is = sym (whole s at code operand (at + 2) h l e b refl f c
+            ∙ ap (λ (q : Bool). packed (if q then (λ _. some (line code operand)) otherwise λ _. none)) (ne_eqb (get_or s (at + 10) 0) 10 o));
+        small = λ v p. absurd (cc);
       }
 
-  pub a-feed : {code operand two feed end : ℕ} → at ≤ length s → 11 ≤ length s - at → code ≡ number_or s at 2 → code < 4294967296
-      → two ≡ at + 2
-      → operand ≡ number_or s two 8 → operand < 4294967296 → end ≡ at + 10 → feed ≡ get_or s end 0 → feed ≡ 10
-      → LineAt s at (code * 4294967296 + operand)
-  a-feed {code} {operand} {two} {feed} {end} h l e b t f c i j o =
-      let z : get_or s (at + 10) 0 ≡ feed = ap (λ (k : ℕ). get_or s k 0) (sym i) ∙ sym j in
+  pub a-feed : {code operand : ℕ} → at ≤ length s → 11 ≤ length s - at → code ≡ number_or s at 2 → code < 4294967296
+      → operand ≡ number_or s (at + 2) 8 → operand < 4294967296 → get_or s (at + 10) 0 ≡ 10
+      → LineAt s at (Some (record { code = code; operand = operand }))
+  a-feed {code} {operand} h l e b f c o =
+      let k : code < 256 = value-small 2 0 (drop at s) code (number-some s at 2 code e b) in
       record {
-        is = sym (whole s at code operand two h l e b t f c
-            ∙ ap (λ (q : Bool). packed (if q then (λ _. some (line code operand)) otherwise λ _. none)) (eq-eqb (get_or s (at + 10) 0) 10 (z
-            ∙ o)));
+        is = sym (whole s at code operand (at + 2) h l e b refl f c
+            ∙ ap (λ (q : Bool). packed (if q then (λ _. some (line code operand)) otherwise λ _. none)) (eq-eqb (get_or s (at + 10) 0) 10 o));
+        small = λ v p.
+            subst (λ (y : OwnLine). (number_of_line y < 1099511627776) × (y.operand < 4294967296)) (let z : ◌≡◌ {A = OwnLine} (record { code = code; operand = operand }) v = cc in z)
+            (omega (arith, k, c), c);
       }
+
+-- the code of a line is a byte
+pub code-small : (s : List ℕ) (at code : ℕ) → code ≡ number_or s at 2 → code < 4294967296 → code < 256
+code-small s at code e b = value-small 2 0 (drop at s) code (number-some s at 2 code e b)
 
 -- A LINE BY ITS NUMBER
 
-pub frame-first : {s words : List ℕ} {i : ℕ} → Decoded s words → i < length s / 11 → i < 8192 → FrameAt s i (get_or words i 0)
-frame-first {s} {words} {i} w l h =
-    let e = w.first i h l in record { is = e; small = omega (arith, e, w.small i l) }
-
-pub frame-later : {s words : List ℕ} {i at r : ℕ} → Decoded s words → i < length s / 11 → at ≡ 11 * i → LineAt s at r → FrameAt s i r
-frame-later {s} {words} {i} {at} {r} w l a u =
-    let e : r ≡ word_at s (11 * i) = u.is ∙ ap (word_at s) a in record { is = e; small = omega (arith, e, w.small i l) }
-
-pub frame-line : {s : List ℕ} {i r : ℕ} → i < length s / 11 → FrameAt s i r → get_elem? (lines_in s) i ≡ some (unpacked r)
-frame-line {s} {i} {r} l w = lines-get s (length s / 11) 0 i l ∙ ap (λ (y : ℕ). some (unpacked y)) (ap (word_at s) (omega arith)
-    ∙ sym w.is)
+pub frame-line : {s : List ℕ} {i : ℕ} {r : OwnLine} → i < length s / 11 → FrameAt s i r
+    → get_elem? (lines_in s) i ≡ some (line r.code r.operand)
+frame-line {s} {i} {r} l w =
+    let p : (r.code * 4294967296 + r.operand) / 4294967296 ≡ r.code = omega (arith, w.fits) in
+    let q : (r.code * 4294967296 + r.operand) % 4294967296 ≡ r.operand = omega (arith, w.fits) in
+    lines-get s (length s / 11) 0 i l ∙ ap (λ (y : ℕ). some (unpacked y)) (ap (word_at s) (omega arith) ∙ sym w.is)
+    ∙ ap₂ (λ (u v : ℕ). some (line u v)) p q
 
 -- what `entered` makes of a line that is there
-entered-there : (s : List ℕ) (i r : ℕ) (k : ℕ → Turn) → i < length s / 11 → FrameAt s i r
-    → entered (lines_in s) i k ≡ sure (eqb (r / 4294967296) 22) λ _. k (r % 4294967296)
+entered-there : (s : List ℕ) (i : ℕ) (r : OwnLine) (k : ℕ → Turn) → i < length s / 11 → FrameAt s i r
+    → entered (lines_in s) i k ≡ sure (eqb r.code 22) λ _. k r.operand
 unfolding entered
 entered-there s i r k l w = ap (λ (o : Option Line). option o bad λ e. sure (eqb e.code 22) λ _. k e.operand) (frame-line l w)
 
-pub no-entry-past : {s : List ℕ} {count i : ℕ} → count ≡ length s / 11 → count ≤ i → EntryAt s i 4294967296
+pub no-entry-past : {s : List ℕ} {count i : ℕ} → count ≡ length s / 11 → count ≤ i → EntryAt s i (Err reason.FrameFault)
 unfolding entered
 no-entry-past {s} {count} {i} e l =
     record {
@@ -452,18 +446,17 @@ no-entry-past {s} {count} {i} e l =
           (get-past (lines_in s) i (omega (arith, lines-length s (length s / 11) 0, e, l)));
     }
 
-pub no-entry : {s : List ℕ} {count i f : ℕ} → count ≡ length s / 11 → i < count → FrameAt s i f → (f / 4294967296 ≡ 22 → ⊥)
-    → EntryAt s i 4294967296
+pub no-entry : {s : List ℕ} {count i : ℕ} {f : OwnLine} → count ≡ length s / 11 → i < count → FrameAt s i f → (f.code ≡ 22 → ⊥)
+    → EntryAt s i (Err reason.FrameFault)
 no-entry {s} {count} {i} {f} e l w n =
     record {
-      says = λ k. entered-there s i f k (omega (arith, e, l)) w ∙ sure-no (eqb (f / 4294967296) 22) _ (ne_eqb (f / 4294967296) 22 n);
+      says = λ k. entered-there s i f k (omega (arith, e, l)) w ∙ sure-no (eqb f.code 22) _ (ne_eqb f.code 22 n);
     }
 
-pub an-entry : {s : List ℕ} {count i f code r : ℕ} → count ≡ length s / 11 → i < count → FrameAt s i f → code ≡ f / 4294967296 → code ≡ 22
-    → r ≡ f % 4294967296 → EntryAt s i r
-an-entry {s} {count} {i} {f} {code} {r} e l w c n q =
+pub an-entry : {s : List ℕ} {count i : ℕ} {f : OwnLine} → count ≡ length s / 11 → i < count → FrameAt s i f → f.code ≡ 22
+    → EntryAt s i (Ok f.operand)
+an-entry {s} {count} {i} {f} e l w n =
     record {
       says = λ k.
-          entered-there s i f k (omega (arith, e, l)) w ∙ sure-yes (eqb (f / 4294967296) 22) _ (eq-eqb (f / 4294967296) 22 (sym c ∙ n))
-          ∙ ap k (sym q) ∙ sym (yes-is (ltb r 4294967296) _ _ (lt-ltb r 4294967296 (omega (arith, q))));
+          entered-there s i f k (omega (arith, e, l)) w ∙ sure-yes (eqb f.code 22) _ (eq-eqb f.code 22 n);
     }

@@ -1,7 +1,7 @@
 -- Words made on the heap strip: a header and zeros, and a reference to them in the place of values.
 use Prim.Native.Nat.{ℕ, ◌+◌, ◌-◌, ◌/◌, ◌%◌, ◌≤◌, ◌<◌}
 use native.Mathlib.Omega.{arith}
-use mathlib.Core.List.{List, ◌∷◌, ◌++◌, append_assoc}
+use mathlib.Core.List.{List, ◌++◌, append_assoc}
 use mathlib.Core.Path.{◌≡◌, refl, sym, ap, ap₂, ◌∙◌}
 use lib.ListN.{length, set, take, drop, replicate, length-set, length-replicate}
 use lib.Seq.{sets, sets-eq}
@@ -9,12 +9,16 @@ use lib.IntN.{ℤ, pos}
 use lib.Dec.{ltb, leb}
 use borrow.Author.Tests.{lt-ltb, le-ltb, le-leb, lt-leb}
 use borrow.Rule.Slice.PartMut.{put_mid, mid_of, mid_len, Post-is}
+use Rattle.std.specs.Prelude.{Option as Maybe, Some, Result, Ok, Err}
+use Rattle.base.specs.declared.refusal.Reason.{Reason}
+use Rattle.base.specs.declared.refusal.Reason.TheVariants as reason
 use Rattle.base.specs.Word.{signed}
+use Rattle.frames.specs.Machine as Machine
 use Rattle.frames.specs.Machine.{goes, makes, do_make_array, do_make_object}
-use Rattle.player.specs.promises.Turning.{OnHeap, Last, Stored, Filled, Makes, state_of, turn_of, made_to, stopped_by}
+use Rattle.player.specs.promises.Turning.{OnHeap, Value, Room, Stored, Filled, Makes, state_of}
 use Rattle.player.specs.declared.state.Machine.{Machine}
-use Rattle.player.proofs.Tests.{allowed-yes, allowed-no, word-yes, word-no, room-yes, room-no}
-use Rattle.player.proofs.Rows.{stops}
+use Rattle.player.proofs.Tests.{allowed-yes, allowed-no}
+use Rattle.player.proofs.Heaps.{stops}
 
 -- a part that is replaced is so many stores
 pub stored-part : {X : Type 0} (a n : ℕ) (xs ys : List X) → length ys ≡ n → a + n ≤ length xs → put_mid a (a + n - a) xs ys ≡ sets xs a ys
@@ -36,76 +40,58 @@ fills {heap} {heap'} {part} {at} {header} {n} h w e =
           ∙ ap (λ (i : ℕ). sets (set heap at (signed header)) i (replicate n (pos 0))) (omega arith);
     }
 
-module _ {stack : List ℕ} {heap : List ℤ} {m : Machine} {height header n : ℕ} where
-  pub heap-full : {r : Machine} {end : ℕ} → end ≡ m.words + 1 + n → length heap < end → r ≡ stopped_by m 51
-      → Makes stack stack heap heap m height header n r
-  unfolding makes
-  heap-full {r} {end} q l e =
-      record {
-        says = λ t z o g.
-            allowed-no 51 (leb (m.words + 1 + n) (length heap)) _ (lt-leb (m.words + 1 + n) (length heap) (omega (arith, q, l)))
-            ∙ sym (ap (λ (r : Machine). turn_of r stack heap o g) e);
-      }
+-- so many words made
+abbrev pub made : Machine → (height words : ℕ) → Machine
+made m h w =
+    record { line = m.line + 1; height = h; calls = m.calls; words = w; printed = m.printed; tape = m.tape; marks = m.marks }
 
-  pub makes-there : {r : Machine} {words end at v : ℕ} {heap' : List ℤ} → words ≡ m.words → end ≡ words + 1 + n → end ≤ length heap
-      → Filled heap words header n heap' → at ≡ 2176 + height → v ≡ words + 1 → r ≡ made_to m (height + 1) end
-      → Makes stack (set stack at v) heap heap' m height header n r
+module _ {stack : List ℕ} {heap : List ℤ} {m : Machine} {height header n : ℕ} where
+  pub heap-full : length heap < m.words + 1 + n → Makes stack stack heap heap m height header n (Err (Some reason.HeapFull))
   unfolding makes
-  makes-there {r} {words} {end} {at} {v} {heap'} p q l w a i e =
-      let u : m.words + 1 + n ≡ end = omega (arith, p, q) in
+  heap-full l = record { says = λ t z o g. allowed-no 51 (leb (m.words + 1 + n) (length heap)) _ (lt-leb (m.words + 1 + n) (length heap) l) }
+
+  pub makes-there : {heap' : List ℤ} → m.words + 1 + n ≤ length heap → Filled heap m.words header n heap'
+      → Makes stack (set stack (2176 + height) (m.words + 1)) heap heap' m height header n (Ok (made m (height + 1) (m.words + 1 + n)))
+  unfolding makes
+  makes-there {heap'} l w =
       record {
         says = λ t z o g.
-            allowed-yes 51 (leb (m.words + 1 + n) (length heap)) _ (le-leb (m.words + 1 + n) (length heap) (omega (arith, u, l)))
-            ∙ ap₂ (λ (h y : ℕ). goes (state_of (made_to m (h + 1) y) (set stack (2176 + h) (m.words + 1)) (sets heap m.words
-            (signed header ∷ replicate n (pos 0))) o g)) (sym z) u
-            ∙ ap₂ (λ (j y : ℕ). goes (state_of (made_to m (height + 1) end) (set stack j (y + 1)) (sets heap y (signed header ∷ replicate n
-            (pos 0))) o g)) (sym a) (sym p)
-            ∙ ap₂ (λ (y : ℕ) (t : List ℤ). goes (state_of (made_to m (height + 1) end) (set stack at y) t o g)) (sym i) (sym w.is)
-            ∙ sym (ap (λ (r : Machine). turn_of r (set stack at v) heap' o g) e);
+            allowed-yes 51 (leb (m.words + 1 + n) (length heap)) _ (le-leb (m.words + 1 + n) (length heap) l)
+            ∙ ap₂ (λ (h : ℕ) (t : List ℤ). goes (state_of (made m (h + 1) (m.words + 1 + n)) (set stack (2176 + h) (m.words + 1)) t o g)) (sym z)
+            (sym w.is);
       }
 
 module _ {x : ℕ} {m : Machine} {before : List ℕ} {heap : List ℤ} where
-  pub array-none : {r : Machine} {v : ℕ} → Last before m.height v → 4294967296 ≤ v → r ≡ stopped_by m 70
+  pub array-none : {r : Result Machine (Maybe Reason)} {n : Reason} → Value before m.height 1 (Err n) → r ≡ Err (Some n)
       → OnHeap do_make_array x m before before heap heap r
-  unfolding do_make_array
-  array-none {r} {v} w b e = stops e (omega arith) λ A o g. w.says (state_of m before heap o g) refl refl _ ∙ word-no v _ b
+  unfolding do_make_array Machine.one
+  array-none w e = stops e λ A o g. w.says (state_of m before heap o g) refl refl _
 
-  pub array-negative : {r : Machine} {v : ℕ} → Last before m.height v → v < 4294967296 → 2147483648 ≤ v → r ≡ stopped_by m 42
-      → OnHeap do_make_array x m before before heap heap r
-  unfolding do_make_array
-  array-negative {r} {v} w b l e =
-      stops e (omega arith) λ A o g.
-      w.says (state_of m before heap o g) refl refl _ ∙ word-yes v _ b ∙ allowed-no 42 (ltb v 2147483648) _ (le-ltb v 2147483648 l)
-
-  pub makes-array : {r : Machine} {v height n : ℕ} {after : List ℕ} {heap' : List ℤ} → Last before m.height v → v < 4294967296
-      → v < 2147483648
-      → height ≡ m.height - 1 → n ≡ v → Makes before after heap heap' m height v n r → OnHeap do_make_array x m before after heap heap' r
-  unfolding do_make_array
-  makes-array {r} {v} {height} {n} {after} {heap'} w b l i j u =
+  pub array-negative : {v : ℕ} → Value before m.height 1 (Ok v) → 2147483648 ≤ v
+      → OnHeap do_make_array x m before before heap heap (Err (Some reason.NegativeSize))
+  unfolding do_make_array Machine.one
+  array-negative {v} w l =
       record {
-        says = λ A o g.
-            w.says (state_of m before heap o g) refl refl _ ∙ word-yes v _ b ∙ allowed-yes 42 (ltb v 2147483648) _ (lt-ltb v 2147483648 l)
-            ∙ ap (λ (y : ℕ). makes (state_of m before heap o g) 1 v y) (sym j) ∙ u.says 1 i o g;
+        says = λ A o g. w.says (state_of m before heap o g) refl refl _ ∙ allowed-no 42 (ltb v 2147483648) _ (le-ltb v 2147483648 l);
       }
 
-  pub object-full : {r : Machine} {top : ℕ} → top ≡ 2176 + m.height → length before ≤ top → r ≡ stopped_by m 70
+  pub makes-array : {v : ℕ} {r : Result Machine (Maybe Reason)} {after : List ℕ} {heap' : List ℤ} → Value before m.height 1 (Ok v) → v < 2147483648
+      → Makes before after heap heap' m (m.height - 1) v v r → OnHeap do_make_array x m before after heap heap' r
+  unfolding do_make_array Machine.one
+  makes-array {v} w l u =
+      record {
+        says = λ A o g.
+            w.says (state_of m before heap o g) refl refl _ ∙ allowed-yes 42 (ltb v 2147483648) _ (lt-ltb v 2147483648 l) ∙ u.says 1 refl o g;
+      }
+
+  pub object-full : {r : Result Machine (Maybe Reason)} {n : Reason} → Room before m.height (Err n) → r ≡ Err (Some n)
       → OnHeap do_make_object x m before before heap heap r
   unfolding do_make_object
-  object-full t l e = stops e (omega arith) λ A o g. room-no (state_of m before heap o g) _ (omega (arith, t, l))
+  object-full t e = stops e λ A o g. t.says (state_of m before heap o g) refl refl _
 
-  pub makes-object : {r : Machine} {top header n height : ℕ} {after : List ℕ} {heap' : List ℤ} → top ≡ 2176 + m.height
-      → top < length before
-      → header ≡ x / 65536 → n ≡ x % 65536 → height ≡ m.height → Makes before after heap heap' m height header n r
+  pub makes-object : {top : ℕ} {r : Result Machine (Maybe Reason)} {after : List ℕ} {heap' : List ℤ} → Room before m.height (Ok top)
+      → Makes before after heap heap' m m.height (x / 65536) (x % 65536) r
       → OnHeap do_make_object x m before after heap heap' r
   unfolding do_make_object
-  makes-object {r} {top} {header} {n} {height} {after} {heap'} t l p q i u =
-      record {
-        says = λ A o g.
-            room-yes (state_of m before heap o g) _ (omega (arith, t, l))
-            ∙ ap₂ (λ (a b : ℕ). makes (state_of m before heap o g) 0 a b) (sym p) (sym q) ∙ u.says 0 (omega (arith, i)) o g;
-      }
-
--- the room of a value that is taken
-pub below_top : {stack : List ℕ} {height v low n : ℕ} → Last stack height v → v < 4294967296 → low ≡ height - 1 → 2176 + height ≤ n
-    → 2176 + low < n
-below_top w b e l = omega (arith, w.some b, e, l)
+  makes-object t u =
+      record { says = λ A o g. t.says (state_of m before heap o g) refl refl _ ∙ u.says 0 (omega arith) o g }

@@ -2,7 +2,6 @@
 #![tactic(auto)]
 
 pub mod call;
-pub mod fill;
 pub mod heap;
 pub mod lines;
 pub mod port;

@@ -1,146 +1,128 @@
 // Lines of the text: their form, their codes and operands.
-ghost use Rattle.std.specs.Prelude.{◌≡◌, ◌+◌, ◌/◌, ◌≤◌, ◌<◌, length, set};
-ghost use Rattle.player.specs.promises.Reading.{digit_or, number_or, LineAt, Form, Decoded, FrameAt, EntryAt};
+ghost use Rattle.std.specs.Prelude.{◌≡◌, ◌+◌, ◌/◌, ◌≤◌, ◌<◌, length, set, unwrap_or, IfSome};
+ghost use Rattle.player.specs.promises.Reading.{digit_or, number_or, LineAt, Form, Decoded, Counted, FrameAt, EntryAt};
 
-// Past every operand: no number.
-pub const NONE: u64 = 4294967296;
+use base::refusal::{Reason, Refusal};
 
-// A byte among operands, which have 64 bits.
-fn wide(x: u8) -> u64
-    ensures { result ≡ x }
-{
-    x as u64
+// Bytes of a line, its digits and where they lie: two for the code, eight for the operand, then a line feed.
+pub const LINE: usize = 11;
+
+const CODE_DIGITS: usize = 2;
+
+const OPERAND_DIGITS: usize = 8;
+
+const FEED: usize = 10;
+
+// How many lines are decoded once.
+pub const DECODED: usize = 8192;
+
+// A line.
+#[derive(Clone, Copy, Default)]
+pub struct Line {
+    pub code: u8,
+    pub operand: u32,
 }
 
-// What a lower-case hexadecimal digit stands for; 16 where a byte is none.
-pub fn digit(b: u8) -> u64
-    ensures { result ≡ digit_or b }
+// The code of `entry`.
+const ENTRY: u8 = 22;
+
+// What a lower-case hexadecimal digit stands for.
+fn digit(b: u8) -> Option<u8>
+    ensures { (unwrap_or result 16 ≡ digit_or b) × IfSome result (λ d. d < 16) }
 {
-    let x = wide(b);
-    if x < 48 {
-        return 16;
+    match b {
+        b'0'..=b'9' => Some(b - b'0'),
+        b'a'..=b'f' => Some(b - b'a' + 10),
+        _ => None,
     }
-    if x <= 57 {
-        return x - 48;
-    }
-    if x < 97 {
-        return 16;
-    }
-    if x <= 102 {
-        return x - 87;
-    }
-    16
 }
 
 // The number that `count` digits from `at` on say, highest first.
-pub fn digits(text: &[u8], at: usize, count: usize) -> u64
+fn digits(text: &[u8], at: usize, count: usize) -> Option<u32>
     requires { (at + count ≤ length text.now) × (count ≤ 8) }
-    ensures { result ≡ number_or text.now at count }
+    ensures { unwrap_or result 4294967296 ≡ number_or text.now at count }
 {
-    let end = at + count;
-    let mut i = at;
-    let mut v: u64 = 0;
-    while i < end {
-        let d = digit(text[i]);
-        if d > 15 {
-            return NONE;
-        }
-        v = v * 16 + d;
-        i += 1;
+    let mut v: u32 = 0;
+    for i in at..at + count {
+        v = v * 16 + digit(text[i])? as u32;
     }
-    v
+    Some(v)
 }
 
-// Bytes of a line, and how many lines are decoded once.
-pub const LINE: usize = 11;
-
-pub const DECODED: usize = 8192;
-
-// A line in one word is its code times this, and its operand.
-pub const WIDTH: u64 = 4294967296;
-
-// Past every line in one word.
-pub const NO_LINE: u64 = 1099511627776;
-
-// The code of `entry`.
-const ENTRY: u64 = 22;
-
-// The line from a byte on; NO_LINE where it is of another form.
-pub fn line_at(text: &[u8], at: usize) -> u64
+// The line from a byte on, where it is of the form.
+fn line_at(text: &[u8], at: usize) -> Option<Line>
     requires { at ≤ length text.now }
     ensures { LineAt text.now at result }
 {
     if text.len() - at < LINE {
-        return NO_LINE;
+        return None;
     }
-    let code = digits(text, at, 2);
-    if NONE <= code {
-        return NO_LINE;
+    let code = digits(text, at, CODE_DIGITS)?;
+    let operand = digits(text, at + CODE_DIGITS, OPERAND_DIGITS)?;
+    if text[at + FEED] != b'\n' {
+        return None;
     }
-    let operand = digits(text, at + 2, 8);
-    if NONE <= operand {
-        return NO_LINE;
-    }
-    let end = at + 10;
-    let feed = wide(text[end]);
-    if feed != 10 {
-        return NO_LINE;
-    }
-    code * WIDTH + operand
+    Some(Line {
+        code: code as u8,
+        operand,
+    })
 }
 
 // Keeps a line where there is room for it.
-fn decode(decoded: &mut [u64; 8192], i: usize, x: u64)
+fn decode(decoded: &mut [Line; DECODED], i: usize, line: Line)
     requires { length decoded.old ≡ 8192 }
-    ensures { decoded.new ≡ set decoded.old i x }
+    ensures { decoded.new ≡ set decoded.old i line }
 {
     if i < DECODED {
-        decoded[i] = x;
+        decoded[i] = line;
     }
 }
 
-// Whether all lines are of the form: the text's length; else the first byte of the first line that is not. The first lines are decoded.
-pub fn form(text: &[u8], decoded: &mut [u64; 8192]) -> usize
+// Whether all lines are of the form: else the first byte of the first line that is not. The first lines are decoded.
+pub fn form(text: &[u8], decoded: &mut [Line; DECODED]) -> Result<(), Refusal>
     requires { length decoded.old ≡ 8192 }
     ensures { Form text.now decoded.new result }
 {
-    let mut at: usize = 0;
-    let mut i: usize = 0;
-    while at < text.len() {
-        let x = line_at(text, at);
-        if NO_LINE <= x {
-            return at;
-        }
-        decode(decoded, i, x);
-        at += LINE;
-        i += 1;
+    for i in 0..text.len().div_ceil(LINE) {
+        let at = LINE * i;
+        let Some(line) = line_at(text, at) else {
+            return Err(Refusal {
+                reason: Reason::OtherForm,
+                position: at,
+            });
+        };
+        decode(decoded, i, line);
     }
-    at
+    Ok(())
 }
 
 // Line number i.
-pub fn frame_at(text: &[u8], decoded: &[u64; 8192], i: usize) -> u64
+pub fn frame_at(text: &[u8], decoded: &[Line; DECODED], i: usize) -> Line
     requires { Decoded text.now decoded.now × (i < length text.now / 11) }
     ensures { FrameAt text.now i result }
 {
     if i < DECODED {
         return decoded[i];
     }
-    line_at(text, LINE * i)
+    line_at(text, LINE * i).unwrap()
 }
 
-// The operand of the `entry` at a line; NONE where the line is past the last or no `entry`.
-pub fn entry_at(text: &[u8], decoded: &[u64; 8192], count: usize, i: usize) -> u64
-    requires { Decoded text.now decoded.now × (count ≡ length text.now / 11) }
+// The operand of the `entry` at a line; 70 where the line is past the last or no `entry`.
+pub fn entry_at(
+    text: &[u8],
+    decoded: &[Line; DECODED],
+    count: usize,
+    i: usize,
+) -> Result<u32, Reason>
+    requires { Counted text.now decoded.now count }
     ensures { EntryAt text.now i result }
 {
     if count <= i {
-        return NONE;
+        return Err(Reason::FrameFault);
     }
-    let f = frame_at(text, decoded, i);
-    let code = f / WIDTH;
-    if code != ENTRY {
-        return NONE;
+    let line = frame_at(text, decoded, i);
+    if line.code != ENTRY {
+        return Err(Reason::FrameFault);
     }
-    f % WIDTH
+    Ok(line.operand)
 }

@@ -2,80 +2,98 @@
 ghost use Rattle.std.specs.Prelude.{◌≡◌, ◌+◌, ◌≤◌, ◌<◌, length};
 ghost use Rattle.device.specs.promises.Holding.{held_in, registers_of};
 ghost use Rattle.frames.specs.Machine.{do_print, do_get, do_put};
-ghost use Rattle.player.specs.promises.Turning.{many_lines, OnOutput, OnPort, Sampled, Marks};
+ghost use Rattle.player.specs.promises.Turning.{many_lines, Stands, OnOutput, OnPort, Sampled, Marks};
 ghost use Rattle.base.specs.Codes.{registers_count};
 ghost use Rattle.frames.specs.Numbers.{values_from};
 
 use crate::heap::put_cell;
-use crate::stack::{last, last_two};
-use crate::state::{LAST, Machine, WORDS, served, shown, stopped};
-use base::codes;
-use device::state::{catch_up, get, put, show, value};
+use crate::stack::value;
+use crate::state::{Machine, VALUES};
+use base::refusal::Reason;
+use device::state::{catch_up, get, put, show, value as held};
 
 // How many registers there are, and how many values one can hold.
-const REGISTERS: u64 = 16;
+const REGISTERS: u32 = device::state::REGISTERS as u32;
 
-const BYTES: u64 = 256;
-
-// 0f print.
-pub fn print(stack: &[u64], output: &mut [i32], m: Machine, x: u64) -> Machine
-    requires { (m.line < many_lines) × (values_from + m.height ≤ length stack.now) × (m.printed < many_lines) }
-    ensures { OnOutput do_print x m stack.now output.old output.new result }
-{
-    let v = last(stack, m.height);
-    if WORDS <= v {
-        return stopped(m, codes::FRAME_FAULT);
-    }
-    let at = m.printed;
-    if output.len() <= at {
-        return stopped(m, codes::OUTPUT_FULL);
-    }
-    put_cell(output, at, v);
-    shown(m)
-}
-
-// 14 put.
-pub fn send(stack: &[u64], registers: &mut [u8], m: Machine, x: u64) -> Machine
-    requires { (m.line < many_lines) × (values_from + m.height ≤ length stack.now) × (length registers.old ≡ registers_count) }
-    ensures { OnPort do_put x m stack.now stack.now registers.old registers.new result }
-{
-    let p = last_two(stack, m.height);
-    if p.fine < 1 {
-        return stopped(m, codes::FRAME_FAULT);
-    }
-    if REGISTERS <= p.a {
-        return stopped(m, codes::REGISTER_OUT_OF_RANGE);
-    }
-    if BYTES <= p.b {
-        return stopped(m, codes::VALUE_OUT_OF_RANGE);
-    }
-    put(registers, p.a as usize, p.b as u8);
-    show(registers);
-    served(m, m.height - 2, m.tape, m.marks)
-}
-
-// 13 get.
-pub fn receive(stack: &mut [u64], registers: &mut [u8], m: Machine, x: u64) -> Machine
-    requires { (m.line < many_lines) × (values_from + m.height ≤ length stack.old) × (length registers.old ≡ registers_count) }
-    ensures { OnPort do_get x m stack.old stack.new registers.old registers.new result }
-{
-    let n = last(stack, m.height);
-    if WORDS <= n {
-        return stopped(m, codes::FRAME_FAULT);
-    }
-    if REGISTERS <= n {
-        return stopped(m, codes::REGISTER_OUT_OF_RANGE);
-    }
-    let register = n as usize;
-    let at = LAST + m.height;
-    stack[at] = value(registers, register) as u64;
-    get(registers, register);
-    show(registers);
-    served(m, m.height, m.tape, m.marks)
-}
+const BYTES: u32 = 256;
 
 // Marks from one sample to the next.
 const PERIOD: usize = 100;
+
+// 0f print.
+pub fn print(
+    stack: &[u64],
+    output: &mut [i32],
+    m: Machine,
+    x: u32,
+) -> Result<Machine, Option<Reason>>
+    requires { Stands m stack.now × (m.printed < many_lines) }
+    ensures { OnOutput do_print x m stack.now output.old output.new result }
+{
+    let v = value(stack, m.height, 1)?;
+    if output.len() <= m.printed {
+        return Err(Some(Reason::OutputFull));
+    }
+    put_cell(output, m.printed, v);
+    Ok(Machine {
+        line: m.line + 1,
+        height: m.height - 1,
+        printed: m.printed + 1,
+        ..m
+    })
+}
+
+// 14 put.
+pub fn send(
+    stack: &[u64],
+    registers: &mut [u8],
+    m: Machine,
+    x: u32,
+) -> Result<Machine, Option<Reason>>
+    requires { Stands m stack.now × (length registers.old ≡ registers_count) }
+    ensures { OnPort do_put x m stack.now stack.now registers.old registers.new result }
+{
+    let n = value(stack, m.height, 2)?;
+    let v = value(stack, m.height, 1)?;
+    if REGISTERS <= n {
+        return Err(Some(Reason::RegisterOutOfRange));
+    }
+    if BYTES <= v {
+        return Err(Some(Reason::ValueOutOfRange));
+    }
+    put(registers, n as usize, v as u8);
+    show(registers);
+    Ok(Machine {
+        line: m.line + 1,
+        height: m.height - 2,
+        ..m
+    })
+}
+
+// 13 get.
+pub fn receive(
+    stack: &mut [u64],
+    registers: &mut [u8],
+    m: Machine,
+    x: u32,
+) -> Result<Machine, Option<Reason>>
+    requires { Stands m stack.old × (length registers.old ≡ registers_count) }
+    ensures { OnPort do_get x m stack.old stack.new registers.old registers.new result }
+{
+    let n = value(stack, m.height, 1)?;
+    if REGISTERS <= n {
+        return Err(Some(Reason::RegisterOutOfRange));
+    }
+    let register = n as usize;
+    let at = VALUES + (m.height - 1);
+    stack[at] = held(registers, register) as u64;
+    get(registers, register);
+    show(registers);
+    Ok(Machine {
+        line: m.line + 1,
+        ..m
+    })
+}
 
 // A sample comes, where the tape has one more: how many were taken then.
 fn sampled(tape: &[u8], registers: &mut [u8], taken: usize) -> usize
@@ -91,15 +109,24 @@ fn sampled(tape: &[u8], registers: &mut [u8], taken: usize) -> usize
 }
 
 // 00 mark.
-pub fn mark(tape: &[u8], registers: &mut [u8], m: Machine, x: u64) -> Machine
+pub fn mark(tape: &[u8], registers: &mut [u8], m: Machine, x: u32) -> Machine
     requires { (m.line < many_lines) × (m.marks ≤ 99) × (length registers.old ≡ registers_count)
         × (registers_of (held_in registers.old 0) ≡ registers.old) }
     ensures { Marks x tape.now m registers.old registers.new result }
 {
     let marks = m.marks + 1;
     if marks < PERIOD {
-        return served(m, m.height, m.tape, marks);
+        return Machine {
+            line: m.line + 1,
+            marks,
+            ..m
+        };
     }
     let taken = sampled(tape, registers, m.tape);
-    served(m, m.height, taken, 0)
+    Machine {
+        line: m.line + 1,
+        tape: taken,
+        marks: 0,
+        ..m
+    }
 }

@@ -1,23 +1,21 @@
 // The operations: a run from its begin, and one that goes on from a record.
-ghost use Rattle.std.specs.Prelude.{◌≡◌, ◌+◌, ◌/◌, ◌≤◌, ◌<◌};
+ghost use Rattle.std.specs.Prelude.{◌≡◌, ◌+◌, ◌/◌, ◌≤◌, ◌<◌, leb, length};
 ghost use Rattle.player.specs.Answering.{Runs, Continues, strips_of};
-ghost use Rattle.player.specs.promises.Ending.{far_line, started_from, recorded_of, none_of, refusal_of, IsPrice, Unfit, Affords, Fits, Answered};
-ghost use Rattle.player.specs.promises.Ending.{EndsAs, PartFrom, Parted, Cleared, Admitted, Begun, GoesOn};
-ghost use Rattle.frames.specs.Numbers.{values_from};
+ghost use Rattle.player.specs.promises.Ending.{far_line, started_from, recorded_of, none_of, refusal_of, is_price, Lent, Fits, Answered};
+ghost use Rattle.player.specs.promises.Ending.{EndsAs, PartFrom, Parted, Cleared, Admits, Admitted, Begun, GoesOn};
+ghost use Rattle.base.specs.promises.Refusals.{number_of};
+ghost use Rattle.frames.specs.Numbers.{budget_most, values_from};
 
-use crate::fill::zero_entries;
-use crate::lines::{DECODED, LINE, form};
+use crate::lines::{DECODED, LINE, Line, form};
 use crate::rounds::{Meter, rounds};
-use crate::state::{GOES, Machine, VALUES};
-use base::codes;
-use base::fill::{zero_bytes, zero_numbers};
-use device::state::show;
-
-// Bytes of a line: a position takes 64 bits, whatever a line takes.
-const LINE_BYTES: u64 = 11;
+use crate::state::{Machine, SUCCESS, VALUES};
+use base::bounds::{CALLS_MOST, HEAP_MOST};
+use base::refusal::{Reason, Refusal};
+use device::state::{REGISTERS, show};
 
 // The bounds of what is lent, and of all that a run can spend.
-const REGISTERS: usize = 16;
+// The number of a pause.
+const BUDGET_SPENT: u32 = Reason::BudgetSpent as u32;
 
 const STACK_LEAST: usize = 140000;
 
@@ -33,8 +31,8 @@ pub struct Limits {
     pub price: u32,
 }
 
-// Where a run is.
-#[derive(Clone, Copy)]
+// Where a run is. At its begin, and after every end but 50, all of it is 0.
+#[derive(Clone, Copy, Default)]
 pub struct Record {
     pub line: usize,
     pub height: usize,
@@ -48,7 +46,7 @@ pub struct Record {
 }
 
 // Number, position, frames, heap words, printed count, and where the run is.
-#[derive(Drop)]
+#[derive(Drop, Default)]
 pub struct Answer {
     pub number: u32,
     pub position: u64,
@@ -58,93 +56,56 @@ pub struct Answer {
     pub pause: Record,
 }
 
-// A run at its begin, and after every end but 50.
-fn no_record() -> Record
-    ensures { result ≡ none_of }
-{
-    Record {
-        line: 0,
-        height: 0,
-        calls: 0,
-        words: 0,
-        printed: 0,
-        tape: 0,
-        marks: 0,
-        frames: 0,
-        unspent: 0,
-    }
-}
-
 // An answer that touches nothing.
-fn refusal(number: u32, position: u64) -> Answer
-    ensures { result ≡ refusal_of number position }
+fn refused(refusal: Refusal) -> Answer
+    ensures { result ≡ refusal_of (number_of refusal.reason) refusal.position }
 {
-    let pause = no_record();
     Answer {
-        number,
-        position,
-        frames: 0,
-        words: 0,
-        printed: 0,
-        pause,
+        number: refusal.number(),
+        position: refusal.position as u64,
+        ..Answer::default()
     }
 }
 
-// 1 for a price of a call, else 0.
-fn priced(price: u32) -> u64
-    ensures { IsPrice price result }
+// Whether this is a price of a call.
+fn priced(price: u32) -> bool
+    ensures { result ≡ is_price price }
 {
-    if price == 1 {
-        return 1;
-    }
-    if price == 10 {
-        return 1;
-    }
-    0
+    price == 1 || price == 10
 }
 
-// 2, 3, 62, 72, 68; else 0.
-fn unfit(limits: Limits, heap: usize, registers: usize, stack: usize) -> u32
-    ensures { Unfit limits heap registers stack result }
+// 2, 3, 62, 72, 68.
+fn fit(limits: Limits, heap: usize, registers: usize, stack: usize) -> Result<(), Reason>
+    ensures { Lent limits heap registers stack result }
 {
-    if limits.calls < 1 {
-        return codes::CALL_LIMIT_OUT_OF_RANGE;
+    if limits.calls < 1 || CALLS_MOST < limits.calls {
+        return Err(Reason::CallLimitOutOfRange);
     }
-    if codes::CALLS_MOST < limits.calls {
-        return codes::CALL_LIMIT_OUT_OF_RANGE;
-    }
-    if codes::HEAP_MOST < heap {
-        return codes::HEAP_TOO_LONG;
+    if HEAP_MOST < heap {
+        return Err(Reason::HeapTooLong);
     }
     if registers != REGISTERS {
-        return codes::REGISTERS_NOT_SIXTEEN;
+        return Err(Reason::RegistersNotSixteen);
     }
-    if priced(limits.price) < 1 {
-        return codes::PRICE_UNFIT;
+    if !priced(limits.price) {
+        return Err(Reason::PriceUnfit);
     }
     if stack < STACK_LEAST {
-        return codes::FRAMES_TOO_SHORT;
+        return Err(Reason::FramesTooShort);
     }
-    0
+    Ok(())
 }
 
-// 1 where the counts of a record and a budget are together at most 4294967295, else 0.
-fn affordable(frames: u64, unspent: u64, budget: u64) -> u64
-    ensures { Affords frames unspent budget result }
+// Whether the counts of a record and a budget are together at most 4294967295.
+fn affordable(frames: u64, unspent: u64, budget: u64) -> bool
+    ensures { result ≡ leb (frames + unspent + budget) budget_most }
 {
-    if BUDGET_MOST < frames {
-        return 0;
-    }
-    if BUDGET_MOST - frames < unspent {
-        return 0;
-    }
-    if BUDGET_MOST - frames - unspent < budget {
-        return 0;
-    }
-    1
+    frames <= BUDGET_MOST
+        && unspent <= BUDGET_MOST - frames
+        && budget <= BUDGET_MOST - frames - unspent
 }
 
-// 1 where a record fits, else 0.
+// Whether a record fits.
 fn fits(
     r: Record,
     limits: Limits,
@@ -153,35 +114,18 @@ fn fits(
     heap: usize,
     output: usize,
     tape: usize,
-) -> u64
+) -> bool
     requires { values_from ≤ stack }
     ensures { Fits r limits count stack heap output tape result }
 {
-    if count <= r.line {
-        return 0;
-    }
-    if stack - VALUES < r.height {
-        return 0;
-    }
-    if limits.calls < r.calls {
-        return 0;
-    }
-    if heap < r.words {
-        return 0;
-    }
-    if output < r.printed {
-        return 0;
-    }
-    if tape < r.tape {
-        return 0;
-    }
-    if affordable(r.frames, r.unspent, limits.budget as u64) < 1 {
-        return 0;
-    }
-    if MARKS_MOST < r.marks {
-        return 0;
-    }
-    1
+    r.line < count
+        && r.height <= stack - VALUES
+        && r.calls <= limits.calls
+        && r.words <= heap
+        && r.printed <= output
+        && r.tape <= tape
+        && affordable(r.frames, r.unspent, limits.budget as u64)
+        && r.marks <= MARKS_MOST
 }
 
 // The numbers that a record says.
@@ -189,7 +133,6 @@ fn started(r: Record) -> Machine
     ensures { result ≡ started_from r }
 {
     Machine {
-        number: GOES,
         line: r.line,
         height: r.height,
         calls: r.calls,
@@ -224,21 +167,14 @@ fn answered(e: Meter, pause: Record) -> Answer
     ensures { Answered e pause result }
 {
     let m = e.machine;
-    if m.number < 1 {
-        return Answer {
-            number: 0,
-            position: 0,
-            frames: e.frames,
-            words: m.words,
-            printed: m.printed,
-            pause,
-        };
-    }
-    let line = m.line as u64;
-    let at = line * LINE_BYTES;
+    let position = if e.number == SUCCESS {
+        0
+    } else {
+        m.line as u64 * LINE as u64
+    };
     Answer {
-        number: m.number,
-        position: at,
+        number: e.number,
+        position,
         frames: e.frames,
         words: m.words,
         printed: m.printed,
@@ -251,19 +187,18 @@ fn ended(heap: &mut [i32], stack: &mut [u64], e: Meter) -> Answer
     requires { e.machine.line < far_line }
     ensures { EndsAs e stack.old stack.new heap.old heap.new result }
 {
-    let m = e.machine;
-    if m.number == codes::BUDGET_SPENT {
+    if e.number == BUDGET_SPENT {
         return answered(e, recorded(e));
     }
-    zero_numbers(heap);
-    zero_entries(stack);
-    answered(e, no_record())
+    heap.fill(0);
+    stack.fill(0);
+    answered(e, Record::default())
 }
 
 // A part from a record on.
 fn part(
     text: &[u8],
-    decoded: &[u64; 8192],
+    decoded: &[Line; DECODED],
     tape: &[u8],
     limits: Limits,
     heap: &mut [i32],
@@ -301,15 +236,15 @@ fn clear(heap: &mut [i32], registers: &mut [u8], stack: &mut [u64])
     ensures { Cleared heap.old heap.new registers.old registers.new stack.old
         stack.new }
 {
-    zero_numbers(heap);
-    zero_bytes(registers);
-    zero_entries(stack);
+    heap.fill(0);
+    registers.fill(0);
+    stack.fill(0);
 }
 
 // The first part, over a text of the form.
 fn begin(
     text: &[u8],
-    decoded: &[u64; 8192],
+    decoded: &[Line; DECODED],
     tape: &[u8],
     limits: Limits,
     heap: &mut [i32],
@@ -323,16 +258,23 @@ fn begin(
         (strips_of heap.new output.new registers.new stack.new) result }
 {
     clear(heap, registers, stack);
-    let none = no_record();
     part(
-        text, decoded, tape, limits, heap, output, registers, stack, none,
+        text,
+        decoded,
+        tape,
+        limits,
+        heap,
+        output,
+        registers,
+        stack,
+        Record::default(),
     )
 }
 
 // A further part, over a text of the form.
 fn go_on(
     text: &[u8],
-    decoded: &[u64; 8192],
+    decoded: &[Line; DECODED],
     tape: &[u8],
     limits: Limits,
     heap: &mut [i32],
@@ -346,22 +288,46 @@ fn go_on(
         (strips_of heap.old output.old registers.old stack.old)
         (strips_of heap.new output.new registers.new stack.new) result }
 {
-    let fine = fits(
+    let count = text.len() / LINE;
+    if !fits(
         r,
         limits,
-        text.len() / LINE,
+        count,
         stack.len(),
         heap.len(),
         output.len(),
         tape.len(),
-    );
-    if fine < 1 {
-        return refusal(codes::RECORD_UNFIT, 0);
+    ) {
+        return refused(Refusal {
+            reason: Reason::RecordUnfit,
+            position: 0,
+        });
     }
     show(registers);
     part(
         text, decoded, tape, limits, heap, output, registers, stack, r,
     )
+}
+
+// What is refused before anything is touched; else the first lines are decoded.
+fn admit(
+    text: &[u8],
+    decoded: &mut [Line; DECODED],
+    limits: Limits,
+    heap: usize,
+    registers: usize,
+    stack: usize,
+) -> Result<(), Refusal>
+    requires { length decoded.old ≡ 8192 }
+    ensures { Admits text.now decoded.new limits heap registers stack result }
+{
+    if let Err(reason) = fit(limits, heap, registers, stack) {
+        return Err(Refusal {
+            reason,
+            position: 0,
+        });
+    }
+    form(text, decoded)
 }
 
 // A run from its begin.
@@ -378,14 +344,16 @@ pub fn run(
         (strips_of heap.old output.old registers.old stack.old)
         (strips_of heap.new output.new registers.new stack.new) result }
 {
-    let number = unfit(limits, heap.len(), registers.len(), stack.len());
-    if 0 < number {
-        return refusal(number, 0);
-    }
-    let mut decoded = [0u64; DECODED];
-    let at = form(text, &mut decoded);
-    if at < text.len() {
-        return refusal(codes::OTHER_FORM, at as u64);
+    let mut decoded = [Line::default(); DECODED];
+    if let Err(refusal) = admit(
+        text,
+        &mut decoded,
+        limits,
+        heap.len(),
+        registers.len(),
+        stack.len(),
+    ) {
+        return refused(refusal);
     }
     begin(text, &decoded, tape, limits, heap, output, registers, stack)
 }
@@ -405,14 +373,16 @@ pub fn resume(
         (strips_of heap.old output.old registers.old stack.old)
         (strips_of heap.new output.new registers.new stack.new) result }
 {
-    let number = unfit(limits, heap.len(), registers.len(), stack.len());
-    if 0 < number {
-        return refusal(number, 0);
-    }
-    let mut decoded = [0u64; DECODED];
-    let at = form(text, &mut decoded);
-    if at < text.len() {
-        return refusal(codes::OTHER_FORM, at as u64);
+    let mut decoded = [Line::default(); DECODED];
+    if let Err(refusal) = admit(
+        text,
+        &mut decoded,
+        limits,
+        heap.len(),
+        registers.len(),
+        stack.len(),
+    ) {
+        return refused(refusal);
     }
     go_on(
         text, &decoded, tape, limits, heap, output, registers, stack, r,

@@ -1,31 +1,29 @@
-// The numbers of a run, by value.
-ghost use Rattle.std.specs.Prelude.{◌≡◌, ◌<◌};
-ghost use Rattle.player.specs.promises.Turning.{many_lines, stepped_to, called_to, made_to, served_to, shown_to, stopped_by};
+// The numbers of a run, by value, and where things stand on the stack strip.
+ghost use Rattle.std.specs.Prelude.{◌≡◌, ◌≤◌, ◌<◌};
+ghost use Rattle.base.specs.Codes.{calls_most};
+ghost use Rattle.player.specs.promises.Turning.{number_in, Inner, NoOperand};
 
-// What a frame comes to where the run goes on; else a number of the documents.
-pub const GOES: u32 = 255;
+use base::refusal::Reason;
 
 // Past every word.
 pub const WORDS: u64 = 4294967296;
 
-// The places of a row, and the entries of a call.
+// The places of a row, and the entries of a call: its receiver, its return line, its row.
 pub const ROW: usize = 32;
 
 pub const CALL: usize = 34;
 
-// Where the values begin on the stack strip. With the height added: where one more goes, and where the last, the one under it and the third lie.
+// Where the return line and the row of a call begin.
+pub const RETURN: usize = 1;
+
+pub const PLACES: usize = 2;
+
+// Where the values begin on the stack strip, behind the calls.
 pub const VALUES: usize = 2176;
 
-pub const LAST: usize = 2175;
-
-pub const UNDER: usize = 2174;
-
-pub const THIRD: usize = 2173;
-
-// The record's numbers without the counts, and what the last frame came to.
+// The record's numbers without the counts.
 #[derive(Clone, Copy)]
 pub struct Machine {
-    pub number: u32,
     pub line: usize,
     pub height: usize,
     pub calls: usize,
@@ -35,101 +33,36 @@ pub struct Machine {
     pub marks: usize,
 }
 
-// Another line and height.
-pub fn stepped(m: Machine, line: usize, height: usize) -> Machine
-    ensures { result ≡ stepped_to m line height }
+// The number of a halt.
+pub const SUCCESS: u32 = 0;
+
+// The number of what ends a run; where it halts, there is no reason.
+pub fn number(end: Option<Reason>) -> u32
+    ensures { result ≡ number_in end }
 {
-    Machine {
-        number: GOES,
-        line,
-        height,
-        calls: m.calls,
-        words: m.words,
-        printed: m.printed,
-        tape: m.tape,
-        marks: m.marks,
+    match end {
+        Some(reason) => u32::from(reason),
+        None => SUCCESS,
     }
 }
 
-// Another number of open calls too.
-pub fn called(m: Machine, line: usize, height: usize, calls: usize) -> Machine
-    ensures { result ≡ called_to m line height calls }
+// Where the entries of the last call begin; 70 where no call is open.
+pub fn last_call(m: Machine) -> Result<usize, Reason>
+    requires { m.calls ≤ calls_most }
+    ensures { Inner m result }
 {
-    Machine {
-        number: GOES,
-        line,
-        height,
-        calls,
-        words: m.words,
-        printed: m.printed,
-        tape: m.tape,
-        marks: m.marks,
+    if m.calls < 1 {
+        return Err(Reason::FrameFault);
     }
+    Ok(CALL * (m.calls - 1))
 }
 
-// So many words made.
-pub fn made(m: Machine, height: usize, words: usize) -> Machine
-    requires { m.line < many_lines }
-    ensures { result ≡ made_to m height words }
+// 70 where a frame that takes no operand has one.
+pub fn no_operand(x: u32) -> Result<(), Reason>
+    ensures { NoOperand x result }
 {
-    Machine {
-        number: GOES,
-        line: m.line + 1,
-        height,
-        calls: m.calls,
-        words,
-        printed: m.printed,
-        tape: m.tape,
-        marks: m.marks,
+    if 0 < x {
+        return Err(Reason::FrameFault);
     }
-}
-
-// Other counts of the device.
-pub fn served(m: Machine, height: usize, tape: usize, marks: usize) -> Machine
-    requires { m.line < many_lines }
-    ensures { result ≡ served_to m height tape marks }
-{
-    Machine {
-        number: GOES,
-        line: m.line + 1,
-        height,
-        calls: m.calls,
-        words: m.words,
-        printed: m.printed,
-        tape,
-        marks,
-    }
-}
-
-// A number more is printed.
-pub fn shown(m: Machine) -> Machine
-    requires { (m.line < many_lines) × (0 < m.height) × (m.printed < many_lines) }
-    ensures { result ≡ shown_to m }
-{
-    Machine {
-        number: GOES,
-        line: m.line + 1,
-        height: m.height - 1,
-        calls: m.calls,
-        words: m.words,
-        printed: m.printed + 1,
-        tape: m.tape,
-        marks: m.marks,
-    }
-}
-
-// The run ends.
-pub fn stopped(m: Machine, number: u32) -> Machine
-    ensures { result ≡ stopped_by m number }
-{
-    Machine {
-        number,
-        line: m.line,
-        height: m.height,
-        calls: m.calls,
-        words: m.words,
-        printed: m.printed,
-        tape: m.tape,
-        marks: m.marks,
-    }
+    Ok(())
 }

@@ -1,20 +1,24 @@
 -- What the functions of the operations promise one another.
-use Rattle.std.specs.Prelude.{ℕ, ◌+◌, ◌*◌, ◌/◌, ◌≤◌, ◌<◌, ◌||◌, List, ◌≡◌, ℤ, pos, length, replicate, eqb, ltb, leb}
-use Rattle.std.proofs.Math.Option.{none, some}
-use Rattle.base.specs.Choice.{if◌then◌otherwise◌}
-use Rattle.base.specs.Outcome.{accepted}
-use Rattle.frames.specs.Lines.{Line}
+use Rattle.std.specs.Prelude.{ℕ, ◌+◌, ◌*◌, ◌/◌, ◌≤◌, ◌<◌, ◌||◌, List, ◌≡◌, ℤ, pos, length, replicate, eqb, Bool, true, Result, Ok, Err}
+use Rattle.std.proofs.Math.Option.{Option, none, some}
+use Rattle.base.specs.declared.refusal.Reason.{Reason}
+use Rattle.base.specs.declared.refusal.Refusal.{Refusal}
+use Rattle.base.specs.promises.Refusals.{number_of}
+use Rattle.base.specs.Choice.{if◌then◌otherwise◌, option}
+use Rattle.base.specs.Outcome.{Outcome, accepted, refused}
+use Rattle.frames.specs.Lines.{Line, lines}
 use Rattle.frames.specs.Operations as Operations
 use Rattle.frames.specs.Operations.{Strips, answer, begins, going_on}
 use Rattle.frames.specs.Parts.{Report, run_frames}
 use Rattle.frames.proofs.laws.Turns.{Within}
+use Rattle.player.specs.declared.lines.Line.{Line as OwnLine}
 use Rattle.player.specs.declared.rounds.Meter.{Meter}
 use Rattle.player.specs.declared.run.Answer.{Answer}
 use Rattle.player.specs.declared.run.Limits.{Limits}
 use Rattle.player.specs.declared.run.Record.{Record}
 use Rattle.player.specs.declared.state.Machine.{Machine}
 use Rattle.player.specs.promises.Reading.{lines_in, Decoded}
-use Rattle.player.specs.promises.Turning.{going, state_of}
+use Rattle.player.specs.promises.Turning.{state_of}
 use Rattle.player.specs.promises.Running.{Ran, around_in}
 use Rattle.base.specs.Word.{modulus}
 use Rattle.frames.specs.Numbers.{stack_least, budget_most, line_bytes, values_from}
@@ -36,7 +40,6 @@ refusal_of n p = record { number = n; position = p; frames = 0; words = 0; print
 abbrev pub started_from : Record → Machine
 started_from r =
     record {
-      number = going;
       line = r.line;
       height = r.height;
       calls = r.calls;
@@ -64,23 +67,18 @@ recorded_of e =
 -- REFUSALS
 
 -- 1 or 10
-pub record IsPrice (p r : ℕ) : Type 0 where
-  pub says : (eqb p 1 || eqb p 10) ≡ ltb 0 r
-  pub some : 1 ≤ r → 1 ≤ p
+abbrev pub is_price : ℕ → Bool
+is_price p = eqb p 1 || eqb p 10
 
--- what is unfit, or 0; else what is lent is within its bounds
-pub record Unfit (l : Limits) (heap registers stack r : ℕ) : Type 0 where
+abbrev pub refusal_in : Result (Unit {0}) Reason → Option ℕ
+refusal_in (Ok u) = none
+refusal_in (Err e) = some (number_of e)
+
+-- what is unfit; else what is lent is within its bounds
+pub record Lent (l : Limits) (heap registers stack : ℕ) (r : Result (Unit {0}) Reason) : Type 0 where
   pub says : (m : Strips) → length m.heap ≡ heap → length m.registers ≡ registers → length m.stack ≡ stack
-      → Operations.unfit (limits_of_lem l) m ≡ (if ltb 0 r then (λ _. some r) otherwise λ _. none)
-  pub few : r < 1 → l.calls ≤ calls_most
-  pub paid : r < 1 → 1 ≤ l.price
-  pub sixteen : r < 1 → registers ≡ registers_count
-  pub long : r < 1 → stack_least ≤ stack
-
--- whether counts and a budget are together at most 4294967295
-pub record Affords (f u b r : ℕ) : Type 0 where
-  pub says : leb (f + u + b) budget_most ≡ ltb 0 r
-  pub most : 1 ≤ r → f + u + b ≤ budget_most
+      → Operations.unfit (limits_of_lem l) m ≡ refusal_in r
+  pub bounds : (u : Unit {0}) → r ≡ Ok u → (l.calls ≤ calls_most) × (1 ≤ l.price) × (registers ≡ registers_count) × (stack_least ≤ stack)
 
 -- what a record that fits is
 pub record Fit (p : Record) (l : Limits) (count stack heap output samples : ℕ) : Type 0 where
@@ -93,18 +91,18 @@ pub record Fit (p : Record) (l : Limits) (count stack heap output samples : ℕ)
   pub most : p.frames + p.unspent + l.budget ≤ budget_most
   pub marks : p.marks ≤ 99
 
-pub record Fits (p : Record) (l : Limits) (count stack heap output tape r : ℕ) : Type 0 where
+pub record Fits (p : Record) (l : Limits) (count stack heap output tape : ℕ) (r : Bool) : Type 0 where
   pub says : (ls : List Line) (t : List ℕ) (m : Strips) → length ls ≡ count → length t ≡ tape → length m.heap ≡ heap
       → length m.output ≡ output
-      → length m.stack ≡ stack → Operations.fits ls t (limits_of_lem l) m (record_from p) ≡ ltb 0 r
-  pub fit : 1 ≤ r → Fit p l count stack heap output tape
+      → length m.stack ≡ stack → Operations.fits ls t (limits_of_lem l) m (record_from p) ≡ r
+  pub fit : r ≡ true → Fit p l count stack heap output tape
 
 -- ENDS
 
 pub record Answered (e : Meter) (q : Record) (r : Answer) : Type 0 where
   pub is : r ≡ record {
-    number = e.machine.number;
-    position = if eqb e.machine.number success then (λ _. 0) otherwise λ _. line_bytes * e.machine.line;
+    number = e.number;
+    position = if eqb e.number success then (λ _. 0) otherwise λ _. line_bytes * e.machine.line;
     frames = e.frames;
     words = e.machine.words;
     printed = e.machine.printed;
@@ -118,7 +116,7 @@ pub record EndsAs (e : Meter) (stack stack' : List ℕ) (heap heap' : List ℤ) 
 -- PARTS
 
 -- what a part asks of its begin
-pub record PartFrom (text decoded tape : List ℕ) (l : Limits) (p : Record) (heap output : List ℤ) (registers stack : List ℕ) : Type 0 where
+pub record PartFrom (text : List ℕ) (decoded : List OwnLine) (tape : List ℕ) (l : Limits) (p : Record) (heap output : List ℤ) (registers stack : List ℕ) : Type 0 where
   pub lines : Decoded text decoded
   pub most : l.calls ≤ calls_most
   pub paid : 1 ≤ l.price
@@ -137,12 +135,24 @@ pub record Cleared (heap heap' : List ℤ) (registers registers' stack stack' : 
   pub stack_is : stack' ≡ replicate (length stack) 0
 
 -- what is not refused
-pub record Admitted (text decoded : List ℕ) (l : Limits) (registers stack : List ℕ) : Type 0 where
+pub record Admitted (text : List ℕ) (decoded : List OwnLine) (l : Limits) (registers stack : List ℕ) : Type 0 where
   pub lines : Decoded text decoded
   pub most : l.calls ≤ calls_most
   pub paid : 1 ≤ l.price
   pub sixteen : length registers ≡ registers_count
   pub long : stack_least ≤ length stack
+
+-- what is refused before anything is touched, whatever is done with the lines; else what is not refused
+pub record Admits (text : List ℕ) (decoded : List OwnLine) (l : Limits) (heap registers stack : ℕ) (r : Result (Unit {0}) Refusal) : Type 0 where
+  pub refuses : (e : Refusal) → r ≡ Err e → (m : Strips) → length m.heap ≡ heap → length m.registers ≡ registers → length m.stack ≡ stack
+      → (k : Outcome (List Line) → Operations.Answer) → ((n p : ℕ) → k (refused n p) ≡ Operations.refusal n p m)
+      → (option (Operations.unfit (limits_of_lem l) m) (k (lines text)) λ n. Operations.refusal n 0 m)
+      ≡ Operations.refusal (number_of e.reason) e.position m
+  pub admits : (u : Unit {0}) → r ≡ Ok u → (m : Strips) → length m.heap ≡ heap → length m.registers ≡ registers → length m.stack ≡ stack
+      → (k : Outcome (List Line) → Operations.Answer)
+      → (option (Operations.unfit (limits_of_lem l) m) (k (lines text)) λ n. Operations.refusal n 0 m) ≡ k (accepted (lines_in text))
+  pub given : (u : Unit {0}) → r ≡ Ok u
+      → Decoded text decoded × (l.calls ≤ calls_most) × (1 ≤ l.price) × (registers ≡ registers_count) × (stack_least ≤ stack)
 
 pub record Begun (text tape : List ℕ) (l : Limits) (m m' : Strips) (a : Answer) : Type 0 where
   pub is : answer_of a m' ≡ begins (accepted (lines_in text)) tape (limits_of_lem l) m

@@ -1,15 +1,18 @@
 -- Digits and lines of a text, as the code reads them.
-use Rattle.std.specs.Prelude.{ℕ, zero, suc, ◌+◌, ◌*◌, ◌/◌, ◌%◌, ◌≤◌, ◌<◌, List, [], ◌∷◌, ◌≡◌, length, get_or, drop, ltb}
+use Rattle.std.specs.Prelude.{ℕ, zero, suc, ◌+◌, ◌*◌, ◌/◌, ◌%◌, ◌<◌, List, [], ◌∷◌, ◌≡◌, length, get_or, drop, Option as Maybe, None, Some, Result, Ok, Err}
 use Rattle.std.proofs.Math.Option.{Option, none, some}
-use Rattle.base.specs.Choice.{if◌then◌otherwise◌, option}
+use Rattle.base.specs.Choice.{option}
+use Rattle.base.specs.declared.refusal.Reason.{Reason}
+use Rattle.base.specs.declared.refusal.Refusal.{Refusal}
+use Rattle.base.specs.promises.Refusals.{number_of}
 use Rattle.base.specs.Outcome.{accepted, refused}
 use Rattle.frames.specs.Lines.{Line, line, digit_of, digits, single_line, lines}
-use Rattle.frames.specs.Machine.{Turn, bad, entered}
+use Rattle.frames.specs.Machine.{Turn, ends, entered}
 use Rattle.base.specs.Word.{modulus}
-use Rattle.base.specs.Codes.{other_form}
+use Rattle.player.specs.declared.lines.Line.{Line as OwnLine}
 use Rattle.frames.specs.Numbers.{line_bytes}
 
--- past every line in one word
+-- past every line in one number
 abbrev pub without_line : ℕ
 without_line = 1099511627776
 
@@ -29,7 +32,15 @@ number_or s i n = digits n 0 (drop i s) modulus λ v _. v
 unfoldable pub line_in : List ℕ → Option Line
 line_in s = single_line s none λ x _. some x
 
--- a line in one word; 2^40 where there is none
+-- a line in one number
+abbrev pub number_of_line : OwnLine → ℕ
+number_of_line x = x.code * modulus + x.operand
+
+abbrev pub number_of_maybe : Maybe OwnLine → ℕ
+number_of_maybe None = without_line
+number_of_maybe (Some x) = number_of_line x
+
+-- the same of a text; 2^40 where there is none
 abbrev pub packed : Option Line → ℕ
 packed none = without_line
 packed (some x) = x.code * modulus + x.operand
@@ -49,27 +60,38 @@ lines_at s (suc n) at = unpacked (word_at s at) ∷ lines_at s n (at + line_byte
 abbrev pub lines_in : List ℕ → List Line
 lines_in s = lines_at s (length s / line_bytes) 0
 
--- the line from a place on
-pub record LineAt (s : List ℕ) (at r : ℕ) : Type 0 where
-  pub is : r ≡ word_at s at
+-- what is read is followed by a turn; where nothing is, the run ends with the number of the reason
+abbrev pub followed : {A : Type 0} → Result A Reason → (A → Turn) → Turn
+followed (Ok v) k = k v
+followed (Err e) k = ends (number_of e)
 
--- a text of the form, and its first lines in words
-pub record Decoded (s words : List ℕ) : Type 0 where
+-- the line from a place on
+pub record LineAt (s : List ℕ) (at : ℕ) (r : Maybe OwnLine) : Type 0 where
+  pub is : number_of_maybe r ≡ word_at s at
+  pub small : (x : OwnLine) → r ≡ Some x → (number_of_line x < without_line) × (x.operand < modulus)
+
+-- a text of the form, and its first lines
+pub record Decoded (s : List ℕ) (first_lines : List OwnLine) : Type 0 where
   pub lines : lines s ≡ accepted (lines_in s)
   pub whole : line_bytes * (length s / line_bytes) ≡ length s
-  pub first : (i : ℕ) → i < decoded_lines → i < length s / line_bytes → get_or words i 0 ≡ word_at s (line_bytes * i)
+  pub first : (i : ℕ) (d : OwnLine) → i < decoded_lines → i < length s / line_bytes
+      → (number_of_line (get_or first_lines i d) ≡ word_at s (line_bytes * i)) × ((get_or first_lines i d).operand < modulus)
   pub small : (i : ℕ) → i < length s / line_bytes → word_at s (line_bytes * i) < without_line
 
--- the text's length where all of it is of the form, else the first byte of the first line that is not
-pub record Form (s words : List ℕ) (r : ℕ) : Type 0 where
-  pub fine : length s ≤ r → Decoded s words
-  pub other : r < length s → lines s ≡ refused other_form r
+-- the same, and how many lines there are
+abbrev pub Counted : (s : List ℕ) → (words : List OwnLine) → (count : ℕ) → Type 0
+Counted s words n = Decoded s words × (n ≡ length s / line_bytes)
 
--- line number i in one word
-pub record FrameAt (s : List ℕ) (i r : ℕ) : Type 0 where
-  pub is : r ≡ word_at s (line_bytes * i)
-  pub small : r < without_line
+-- whether all lines are of the form, else the first byte of the first line that is not
+pub record Form (s : List ℕ) (words : List OwnLine) (r : Result (Unit {0}) Refusal) : Type 0 where
+  pub fine : (u : Unit {0}) → r ≡ Ok u → Decoded s words
+  pub other : (e : Refusal) → r ≡ Err e → lines s ≡ refused (number_of e.reason) e.position
 
--- the operand of the `entry` at a line, or 4294967296
-pub record EntryAt (s : List ℕ) (i r : ℕ) : Type 0 where
-  pub says : (k : ℕ → Turn) → entered (lines_in s) i k ≡ if ltb r modulus then (λ _. k r) otherwise λ _. bad
+-- line number i
+pub record FrameAt (s : List ℕ) (i : ℕ) (r : OwnLine) : Type 0 where
+  pub is : number_of_line r ≡ word_at s (line_bytes * i)
+  pub fits : r.operand < modulus
+
+-- the operand of the `entry` at a line
+pub record EntryAt (s : List ℕ) (i : ℕ) (r : Result ℕ Reason) : Type 0 where
+  pub says : (k : ℕ → Turn) → entered (lines_in s) i k ≡ followed r k

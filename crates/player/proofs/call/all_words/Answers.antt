@@ -1,15 +1,13 @@
--- `player::call::all_words` meets its contract: the entries before i are words.
-use Rattle.player.proofs.Calls.{scan-starts, scan-more, scan-fails, scan-all}
+-- `player::call::all_words` meets its contract.
+use Prim.Native.Nat.{◌≤◌, ◌<◌}
+use borrow.Author.Rules.{rules}
+use borrow.Author.Tests.{tests}
+use Rattle.std.proofs.lemmas.Iterator.{cases_from_all, YieldsList-from_slice}
+use Rattle.player.proofs.Calls.{words-are}
 use Rattle.player.proofs.call.all_words.Goals as goal
 
-pub loop-i-init : goal.loop-i-init
-loop-i-init c = search scan-starts
-
-pub returns-then-stack-i-ge-WORDS : goal.returns-then-stack-i-ge-WORDS
-returns-then-stack-i-ge-WORDS c = search scan-fails
-
-pub loop-i-preserved : goal.loop-i-preserved
-loop-i-preserved c = search scan-more
-
 pub returns : goal.returns
-returns c = search scan-all
+returns c =
+    words-are c.args.entries.now c.all.result
+    (cases_from_all _ _ _ (λ x. x < 4294967296) (λ x. 4294967296 ≤ x) c.all.ensures.ran (YieldsList-from_slice c.args.entries.now cc)
+    (λ x q k. search (rules, tests)) (λ x q k. search (rules, tests)))

@@ -1,16 +1,13 @@
 -- `player::call::call` meets its contract.
 use borrow.Author.Rules.{rules}
-use Rattle.player.proofs.Calls.{call_none, call-wrong, calls, few-arguments, enough-values}
+use Rattle.player.proofs.Calls.{call_none, call-wrong, calls}
 use Rattle.player.proofs.call.call.Goals as goal
 
-pub returns-then-r-ge-WORDS : goal.returns-then-r-ge-WORDS
-returns-then-r-ge-WORDS c = search call_none
+pub returns-in_err-r : goal.returns-in_err-r
+returns-in_err-r c = search (rules, call_none)
 
-pub returns-then-t-gt0 : goal.returns-then-t-gt0
-returns-then-t-gt0 c = search call-wrong
-
-pub enter-requires : goal.enter-requires
-enter-requires c = (search rules, search rules, search rules, search few-arguments, search enough-values)
+pub returns-in_err-line : goal.returns-in_err-line
+returns-in_err-line c = search (rules, call-wrong, c.in_ok-r.ensures)
 
 pub returns : goal.returns
-returns c = search calls
+returns c = calls c.in_ok-r.ensures c.in_ok-line.ensures c.enter.ensures

@@ -1,15 +1,18 @@
 -- `player::call::called_on` meets its contract.
-use Rattle.player.proofs.Calls.{too_many, too_few, no_words, a-receiver}
+use mathlib.Core.Logic.{inl, inr}
+use Rattle.player.proofs.Calls.{unfit_count, no_words, a-receiver}
+use Rattle.player.proofs.call.called_on.Goals.{then-n-gt-ROW-via-then-n-gt-ROW, then-n-gt-ROW-via-else-n-gt-ROW+then-height-n}
 use Rattle.player.proofs.call.called_on.Goals as goal
 
 pub returns-then-n-gt-ROW : goal.returns-then-n-gt-ROW
-returns-then-n-gt-ROW c = search too_many
+returns-then-n-gt-ROW c =
+    elim c.then-n-gt-ROW.branch [
+      | then-n-gt-ROW-via-then-n-gt-ROW w ↦ unfit_count (inl w.if-n-gt-ROW.true)
+      | then-n-gt-ROW-via-else-n-gt-ROW+then-height-n w ↦ unfit_count (inr (w.if-n-gt-ROW.false, w.if-height-n.true))
+    ]
 
-pub returns-then-height-n : goal.returns-then-height-n
-returns-then-height-n c = search too_few
-
-pub returns-then-all_words-lt1 : goal.returns-then-all_words-lt1
-returns-then-all_words-lt1 c = search no_words
+pub returns-then-not-all_words : goal.returns-then-not-all_words
+returns-then-not-all_words c = no_words c.if-n-gt-ROW.false c.if-height-n.false c.all_words.ensures c.if-not-all_words.true
 
 pub returns : goal.returns
-returns c = search a-receiver
+returns c = a-receiver c.if-n-gt-ROW.false c.if-height-n.false c.all_words.ensures c.if-not-all_words.false c.word.ensures

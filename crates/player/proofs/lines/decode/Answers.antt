@@ -1,4 +1,4 @@
--- `player::lines::decode` meets its contract: a store past the end changes nothing.
+-- `player::lines::decode` meets its contract.
 use Rattle.player.proofs.Lining.{past-the-array}
 use Rattle.player.proofs.lines.decode.Goals as goal
 

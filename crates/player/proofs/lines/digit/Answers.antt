@@ -1,18 +1,19 @@
--- `player::digit` meets its contract, range by range.
-use Rattle.player.proofs.Forward.{below, figure, between, letter, above}
+-- `player::lines::digit` meets its contract.
+use borrow.Author.Rules.{rules}
+use Rattle.player.proofs.Forward.{figure, letter, below, above, between}
 use Rattle.player.proofs.lines.digit.Goals as goal
 
-pub returns-then-x-lt48 : goal.returns-then-x-lt48
-returns-then-x-lt48 c = search below
+pub returns-in-48-to-57 : goal.returns-in-48-to-57
+returns-in-48-to-57 c = search (rules, figure)
 
-pub returns-then-x-le57 : goal.returns-then-x-le57
-returns-then-x-le57 c = search figure
+pub returns-in-97-to-102 : goal.returns-in-97-to-102
+returns-in-97-to-102 c = search (rules, letter)
 
-pub returns-then-x-lt97 : goal.returns-then-x-lt97
-returns-then-x-lt97 c = search between
+pub returns-in_default : goal.returns-in_default
+returns-in_default c = search (rules, below)
 
-pub returns-then-x-le102 : goal.returns-then-x-le102
-returns-then-x-le102 c = search letter
+pub returns-in_default-2 : goal.returns-in_default-2
+returns-in_default-2 c = search (rules, above, between, below)
 
-pub returns : goal.returns
-returns c = search above
+pub returns-in_default-3 : goal.returns-in_default-3
+returns-in_default-3 c = search (rules, above, between, below)

@@ -1,12 +1,13 @@
 -- `player::lines::entry_at` meets its contract.
+use borrow.Author.Rules.{rules}
 use Rattle.player.proofs.Lining.{no-entry-past, no-entry, an-entry}
 use Rattle.player.proofs.lines.entry_at.Goals as goal
 
 pub returns-then-count-i : goal.returns-then-count-i
-returns-then-count-i c = search no-entry-past
+returns-then-count-i c = search (rules, no-entry-past)
 
-pub returns-then-code-ne-ENTRY : goal.returns-then-code-ne-ENTRY
-returns-then-code-ne-ENTRY c = search no-entry
+pub returns-then-line-ne-ENTRY : goal.returns-then-line-ne-ENTRY
+returns-then-line-ne-ENTRY c = search (rules, no-entry)
 
 pub returns : goal.returns
-returns c = search an-entry
+returns c = search (rules, an-entry)

@@ -1,15 +1,14 @@
 -- `player::lines::form` meets its contract: the lines before line i are of the form.
-use Rattle.player.proofs.Lining.{decoding-starts, decoding-more, decoding-all, decoding-other}
+use native.Mathlib.Omega.{arith}
+use Rattle.player.proofs.Lining.{decoding-more, decoding-other, decoding-all}
 use Rattle.player.proofs.lines.form.Goals as goal
 
-pub loop-at-init : goal.loop-at-init
-loop-at-init c = search decoding-starts
+pub returns-in_default : goal.returns-in_default
+returns-in_default c =
+    decoding-other c.loop-i.invariant (omega (arith, c.div_ceil-i-end.ensures, c.loop-i-test.true)) c.in_default.ensures
 
-pub returns-then-x-ge-NO_LINE : goal.returns-then-x-ge-NO_LINE
-returns-then-x-ge-NO_LINE c = search decoding-other
-
-pub loop-at-preserved : goal.loop-at-preserved
-loop-at-preserved c = search decoding-more
+pub loop-i-preserved : goal.loop-i-preserved
+loop-i-preserved c = decoding-more c.loop-i.invariant c.in-Some.ensures c.decode.ensures
 
 pub returns : goal.returns
-returns c = search decoding-all
+returns c = decoding-all c.loop-i.invariant (omega (arith, c.div_ceil-i-end.ensures, c.loop-i-test.false))

@@ -1,9 +1,10 @@
 -- `player::port::sampled` meets its contract.
-use Rattle.player.proofs.Ports.{takes_none, takes_one}
+use borrow.Author.Rules.{rules}
+use Rattle.player.proofs.Ports.{takes_one, takes_none}
 use Rattle.player.proofs.port.sampled.Goals as goal
 
 pub returns-then-taken-tape : goal.returns-then-taken-tape
-returns-then-taken-tape c = search takes_one
+returns-then-taken-tape c = search (rules, takes_one)
 
 pub returns : goal.returns
-returns c = search takes_none
+returns c = search (rules, takes_none)

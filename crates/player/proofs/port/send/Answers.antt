@@ -1,18 +1,19 @@
 -- `player::port::send` meets its contract.
-use Rattle.player.proofs.Ports.{has_both, put-none, put-register, put-value, puts}
+use borrow.Author.Rules.{rules}
+use Rattle.player.proofs.Ports.{put-none, put-one, put-register, put-value, puts}
 use Rattle.player.proofs.port.send.Goals as goal
 
-pub returns-then-p-lt1 : goal.returns-then-p-lt1
-returns-then-p-lt1 c = search put-none
+pub returns-in_err-n : goal.returns-in_err-n
+returns-in_err-n c = search (rules, put-none)
 
-pub returns-then-p-ge-REGISTERS : goal.returns-then-p-ge-REGISTERS
-returns-then-p-ge-REGISTERS c = search put-register
+pub returns-in_err-v : goal.returns-in_err-v
+returns-in_err-v c = search (rules, put-one, c.in_ok-n.ensures)
 
-pub returns-then-p-ge-BYTES : goal.returns-then-p-ge-BYTES
-returns-then-p-ge-BYTES c = search put-value
+pub returns-then-n-ge-REGISTERS : goal.returns-then-n-ge-REGISTERS
+returns-then-n-ge-REGISTERS c = put-register c.in_ok-n.ensures c.in_ok-v.ensures c.if-n-ge-REGISTERS.true
 
-pub overflow_sub-m : goal.overflow_sub-m
-overflow_sub-m c = search has_both
+pub returns-then-v-ge-BYTES : goal.returns-then-v-ge-BYTES
+returns-then-v-ge-BYTES c = put-value c.in_ok-n.ensures c.in_ok-v.ensures c.if-n-ge-REGISTERS.false c.if-v-ge-BYTES.true
 
 pub returns : goal.returns
-returns c = search puts
+returns c = puts c.in_ok-n.ensures c.in_ok-v.ensures c.if-n-ge-REGISTERS.false c.if-v-ge-BYTES.false c.put.ensures c.show.ensures

@@ -1,15 +1,17 @@
 -- `player::row::back` meets its contract.
-use Rattle.player.proofs.Rows.{back-large, back-operand, back-out, backs}
+use borrow.Author.Rules.{rules}
+use Rattle.player.proofs.Rows.{return-operand, return-outside, return-none}
+use Rattle.player.proofs.Rows as Rows
 use Rattle.player.proofs.row.back.Goals as goal
 
-pub returns-then-x-gt0 : goal.returns-then-x-gt0
-returns-then-x-gt0 c = search back-operand
+pub returns-in_err-no_operand : goal.returns-in_err-no_operand
+returns-in_err-no_operand c = search (rules, return-operand)
 
-pub returns-then-m-lt1 : goal.returns-then-m-lt1
-returns-then-m-lt1 c = search back-out
+pub returns-in_err-c : goal.returns-in_err-c
+returns-in_err-c c = search (rules, return-outside, c.in_ok-no_operand.ensures)
 
-pub returns-then-r-ge-WORDS : goal.returns-then-r-ge-WORDS
-returns-then-r-ge-WORDS c = search back-large
+pub returns-in_err-r : goal.returns-in_err-r
+returns-in_err-r c = search (rules, return-none, c.in_ok-no_operand.ensures, c.in_ok-c.ensures)
 
 pub returns : goal.returns
-returns c = search backs
+returns c = Rows.returns c.in_ok-no_operand.ensures c.in_ok-c.ensures c.in_ok-r.ensures

@@ -1,15 +1,13 @@
 -- `player::row::field` meets its contract.
-use Rattle.player.proofs.Rows.{a-field, large-receiver, no_field, no-receiver}
+use borrow.Author.Rules.{rules}
+use Rattle.player.proofs.Rows.{large-receiver, no_field, a-field}
 use Rattle.player.proofs.row.field.Goals as goal
 
-pub returns-then-receiver-lt1 : goal.returns-then-receiver-lt1
-returns-then-receiver-lt1 c = search no-receiver
+pub returns-in_err-r : goal.returns-in_err-r
+returns-in_err-r c = search (rules, large-receiver)
 
-pub returns-then-receiver-ge-WORDS : goal.returns-then-receiver-ge-WORDS
-returns-then-receiver-ge-WORDS c = search large-receiver
-
-pub returns-then-j-words : goal.returns-then-j-words
-returns-then-j-words c = search a-field
+pub returns-then-r-lt1 : goal.returns-then-r-lt1
+returns-then-r-lt1 c = no_field c.in_ok-r.ensures c.then-r-lt1.either
 
 pub returns : goal.returns
-returns c = search no_field
+returns c = a-field c.in_ok-r.ensures c.if-r-lt1.false c.if-words-j.false

@@ -1,15 +1,13 @@
 -- `player::row::held` meets its contract.
-use Rattle.player.proofs.Rows.{in_field, in-none, in_row, no_call}
+use borrow.Author.Rules.{rules}
+use Rattle.player.proofs.Rows.{in_row, in-none, in_field}
 use Rattle.player.proofs.row.held.Goals as goal
 
-pub returns-then-m-lt1 : goal.returns-then-m-lt1
-returns-then-m-lt1 c = search no_call
-
 pub returns-then-x-lt-ROW : goal.returns-then-x-lt-ROW
-returns-then-x-lt-ROW c = search in_row
+returns-then-x-lt-ROW c = search (rules, in_row)
 
-pub returns-then-j-m : goal.returns-then-j-m
-returns-then-j-m c = search in_field
+pub returns-in_err-j : goal.returns-in_err-j
+returns-in_err-j c = search (rules, in-none)
 
 pub returns : goal.returns
-returns c = search in-none
+returns c = in_field c.if-x-lt-ROW.false c.in_ok-j.ensures c.cell.ensures

@@ -1,18 +1,19 @@
 -- `player::row::receiver` meets its contract.
-use Rattle.player.proofs.Rows.{self-full, self-large, self-operand, self-out, selfs}
+use borrow.Author.Rules.{rules}
+use Rattle.player.proofs.Rows.{self-operand, self-full, self-outside, self-none, selves}
 use Rattle.player.proofs.row.receiver.Goals as goal
 
-pub returns-then-x-gt0 : goal.returns-then-x-gt0
-returns-then-x-gt0 c = search self-operand
+pub returns-in_err-no_operand : goal.returns-in_err-no_operand
+returns-in_err-no_operand c = search (rules, self-operand)
 
-pub returns-then-stack-top : goal.returns-then-stack-top
-returns-then-stack-top c = search self-full
+pub returns-in_err-top : goal.returns-in_err-top
+returns-in_err-top c = search (rules, self-full, c.in_ok-no_operand.ensures)
 
-pub returns-then-m-lt1 : goal.returns-then-m-lt1
-returns-then-m-lt1 c = search self-out
+pub returns-in_err-c : goal.returns-in_err-c
+returns-in_err-c c = search (rules, self-outside, c.in_ok-no_operand.ensures, c.in_ok-top.ensures)
 
-pub returns-then-r-ge-WORDS : goal.returns-then-r-ge-WORDS
-returns-then-r-ge-WORDS c = search self-large
+pub returns-in_err-r : goal.returns-in_err-r
+returns-in_err-r c = search (rules, self-none, c.in_ok-no_operand.ensures, c.in_ok-top.ensures, c.in_ok-c.ensures)
 
 pub returns : goal.returns
-returns c = search selfs
+returns c = selves c.in_ok-no_operand.ensures c.in_ok-top.ensures c.in_ok-c.ensures c.in_ok-r.ensures

@@ -1,22 +1,19 @@
 -- `player::row::save` meets its contract.
 use borrow.Author.Rules.{rules}
-use Rattle.player.proofs.Rows.{has_value, save-none, save-out, saves-field, saves-row}
+use Rattle.player.proofs.Rows.{save-none, save-outside, saves-row, save-nowhere, saves-field}
 use Rattle.player.proofs.row.save.Goals as goal
 
-pub returns-then-v-ge-WORDS : goal.returns-then-v-ge-WORDS
-returns-then-v-ge-WORDS c = search save-none
+pub returns-in_err-v : goal.returns-in_err-v
+returns-in_err-v c = search (rules, save-none)
 
-pub returns-then-m-lt1 : goal.returns-then-m-lt1
-returns-then-m-lt1 c = search save-out
-
-pub overflow_sub-m : goal.overflow_sub-m
-overflow_sub-m c = search has_value
+pub returns-in_err-c : goal.returns-in_err-c
+returns-in_err-c c = search (rules, save-outside, c.in_ok-v.ensures)
 
 pub returns-then-place-lt-ROW : goal.returns-then-place-lt-ROW
-returns-then-place-lt-ROW c = search saves-row
+returns-then-place-lt-ROW c = saves-row c.in_ok-v.ensures c.in_ok-c.ensures c.if-place-lt-ROW.true
 
-pub save_field-requires : goal.save_field-requires
-save_field-requires c = (search rules, search has_value, search rules, search rules, search rules, search rules)
+pub returns-in_err-j : goal.returns-in_err-j
+returns-in_err-j c = search (rules, save-nowhere, c.in_ok-v.ensures, c.in_ok-c.ensures)
 
 pub returns : goal.returns
-returns c = search saves-field
+returns c = saves-field c.in_ok-v.ensures c.in_ok-c.ensures c.if-place-lt-ROW.false c.in_ok-j.ensures c.put_cell.ensures

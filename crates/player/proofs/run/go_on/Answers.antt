@@ -1,12 +1,10 @@
 -- `player::run::go_on` meets its contract.
-use Rattle.player.proofs.Parts.{unfit-record, further-part, goes_on}
+use mathlib.Core.Path.{refl}
+use Rattle.player.proofs.Parts.{unfit-record, goes_on}
 use Rattle.player.proofs.run.go_on.Goals as goal
 
-pub returns-then-fine-lt1 : goal.returns-then-fine-lt1
-returns-then-fine-lt1 c = search unfit-record
-
-pub part-requires : goal.part-requires
-part-requires c = search further-part
+pub returns-then-not-fits : goal.returns-then-not-fits
+returns-then-not-fits c = unfit-record refl c.fits.ensures c.if-not-fits.true c.refused.ensures
 
 pub returns : goal.returns
-returns c = search goes_on
+returns c = goes_on refl c.fits.ensures c.if-not-fits.false c.show.ensures c.part.ensures

@@ -1,15 +1,12 @@
 -- `player::run::run` meets its contract.
-use Rattle.player.proofs.Parts.{is-admitted, run-refused, run-form, run-begun}
+use Rattle.player.proofs.Parts.{run-refused, is-admitted, run-begun}
 use Rattle.player.proofs.run.run.Goals as goal
 
-pub returns-then-number-gt0 : goal.returns-then-number-gt0
-returns-then-number-gt0 c = search run-refused
-
-pub returns-then-at-text : goal.returns-then-at-text
-returns-then-at-text c = search run-form
+pub returns-in-Err : goal.returns-in-Err
+returns-in-Err c = run-refused c.in-Err.ensures c.refused.ensures
 
 pub begin-requires : goal.begin-requires
-begin-requires c = search is-admitted
+begin-requires c = is-admitted c.in_default.ensures
 
 pub returns : goal.returns
-returns c = search run-begun
+returns c = run-begun c.in_default.ensures c.begin.ensures
