@@ -25,10 +25,9 @@ use Rattle.parser.specs.promises.Post.{kind_in_table, is_atom_lem}
 use Rattle.reader.specs.promises.Matches.{operator_kind}
 use Rattle.typesystem.specs.ClassTable.{Context, meaning, fields_of}
 use Rattle.typesystem.specs.Judge.{arity, judge}
-use Rattle.std.specs.Prelude.{Result, Ok, Err}
-use Rattle.base.specs.declared.refusal.Reason.TheVariants as reason
+use Rattle.std.specs.Prelude.{Ok, Err}
 use Rattle.base.specs.declared.refusal.Refusal.{Refusal}
-use Rattle.lookup.specs.promises.Answers.{Judged, Typed}
+use Rattle.lookup.specs.promises.Answers.{Typed}
 use Rattle.lookup.specs.promises.Answers.{Judges, well, ill}
 use Rattle.lookup.specs.promises.HeldClasses.{word_at, NameNumber, Lexemes, code_fixed, code-plain, number_of_fixed}
 use Rattle.lookup.specs.laws.HeldLaws.{same_codes, other-codes}
@@ -364,7 +363,7 @@ times-code G Γ l times is {b} e = rw (sym e) (by b)
     by false = refl
 
 -- whether an answer is that for fixed
-judged-fixed : {tab : List ℕ} {n : ℕ} {ts : List Token} → Lexemes tab n ts → {o : Outcome Ty} {v : Judged} {t : ℕ} → Judges ts o v
+judged-fixed : {tab : List ℕ} {n : ℕ} {ts : List Token} → Lexemes tab n ts → {o : Outcome Ty} {v : Typed} {t : ℕ} → Judges ts o v
     → v ≡ Ok t → eqb t number_of_fixed ≡ judged_fixed o
 judged-fixed lx {t = t} (well {w = w} d) is =
     let z : w ≡ t = cc in
@@ -374,7 +373,7 @@ judged-fixed lx {t = t} (well {w = w} d) is =
     ])
 judged-fixed lx ill is = apart (cc)
 
-judged-none : {ts : List Token} {o : Outcome Ty} {v : Judged} {z : Refusal} → Judges ts o v → v ≡ Err z → false ≡ judged_fixed o
+judged-none : {ts : List Token} {o : Outcome Ty} {v : Typed} {z : Refusal} → Judges ts o v → v ≡ Err z → false ≡ judged_fixed o
 judged-none (well d) is = apart (cc)
 judged-none ill is = refl
 
@@ -382,7 +381,7 @@ module _ {tab : List ℕ} {s : Scope} {k row : ℕ} where
   pub scales-other : (k ≡ k_times → ⊥) → ScalesPost tab s k row false
   scales-other other = record { says = λ ts G Γ w o is l h. other-code G Γ l o (λ e. other (is ∙ e)) }
 
-  module _ (times : k ≡ k_times) {from end : ℕ} (low : from ≡ 0) (high : end ≡ s.tokens) {v : Judged}
+  module _ (times : k ≡ k_times) {from end : ℕ} (low : from ≡ 0) (high : end ≡ s.tokens) {v : Typed}
       (f : Bodies.ExpressionPost tab s from end row v) where
     pub scales-judged : {t : ℕ} → v ≡ Ok t → ScalesPost tab s k row (eqb t number_of_fixed)
     scales-judged fine =

@@ -3,4 +3,4 @@ use Rattle.writer.proofs.ProgramLaws.{begun}
 use Rattle.writer.proofs.program.begin.Goals as goal
 
 pub returns : goal.returns
-returns c = search begun
+returns c = begun _ (c.fill.ensures.after (λ y e. e)) c.sizes.ensures c.fill-2.ensures
