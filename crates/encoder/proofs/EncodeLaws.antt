@@ -34,6 +34,7 @@ use Rattle.writer.specs.promises.Preparing.{CodeWritten, Prepares}
 use Rattle.writer.specs.laws.Stored.{StandAt, stored}
 use Rattle.writer.specs.laws.Lengths.{sized}
 use Rattle.writer.specs.laws.Room.{compile-length}
+use Rattle.writer.proofs.PrepareLaws.{tokens_of, classes_of}
 use Rattle.frames.specs.Lines.{text}
 use Rattle.frames.specs.Encode.{place_of, class_number, declared, once, method_names, tables, frames_of}
 use Rattle.frames.specs.Operations as Operations
@@ -53,17 +54,6 @@ use Rattle.encoder.specs.promises.Encoding.{Whole, PassPost, BothPost, WritesFra
 use Rattle.encoder.specs.laws.Bytes.{puts_then, text-length, leading}
 use Rattle.encoder.specs.laws.Order.{place_in, place_none}
 use Rattle.encoder.specs.laws.Placing.{program-placed}
-
--- WHAT IS FOUND
-
--- how many tokens and classes
-abbrev tokens_of : Finding → ℕ
-tokens_of (Ok z) = z.tokens
-tokens_of (Err q) = 0
-
-abbrev classes_of : Finding → ℕ
-classes_of (Ok z) = z.classes
-classes_of (Err q) = 0
 
 -- A PASS
 

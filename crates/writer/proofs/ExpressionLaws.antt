@@ -25,8 +25,7 @@ use Rattle.parser.specs.promises.Post.{kind_in_table, is_atom_lem}
 use Rattle.reader.specs.promises.Matches.{operator_kind}
 use Rattle.typesystem.specs.ClassTable.{Context, meaning, fields_of}
 use Rattle.typesystem.specs.Judge.{arity, judge}
-use Rattle.std.specs.Prelude.{Result, Ok, Err}
-use Rattle.base.specs.declared.refusal.Reason.TheVariants as reason
+use Rattle.std.specs.Prelude.{Ok, Err}
 use Rattle.base.specs.declared.refusal.Refusal.{Refusal}
 use Rattle.lookup.specs.promises.Answers.{Typed}
 use Rattle.lookup.specs.promises.Answers.{Judges, well, ill}

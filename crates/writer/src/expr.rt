@@ -1,12 +1,14 @@
 // Expressions. The answer is the place behind the code.
 ghost use Rattle.std.specs.Prelude.{◌≤◌, ◌<◌, length};
 ghost use Rattle.base.specs.Word.{modulus};
+ghost use Rattle.base.specs.Codes.{table_least};
 ghost use Rattle.base.specs.promises.Table.{c_begin};
 ghost use Rattle.parser.specs.Tree.{Sort};
 ghost use Rattle.lookup.specs.promises.HeldClasses.{word_at};
 ghost use Rattle.lookup.specs.promises.Shows.{Form, form_atom};
+ghost use Rattle.bodies.specs.promises.Scoping.{Judgeable};
 ghost use Rattle.codegen.specs.promises.Code.{i_mark};
-ghost use Rattle.writer.specs.promises.Posts.{room, Placed, PutPost, LoadPost, WritePost, ExpressionPost, CompoundPost};
+ghost use Rattle.writer.specs.promises.Posts.{room, Writable, PutPost, LoadPost, WritePost, ExpressionPost, CompoundPost};
 ghost use Rattle.writer.specs.promises.Posts.{FollowedPost, LocatedPost, PairPost, ConjunctionPost, ScalesPost};
 
 use crate::code::{next, put};
@@ -25,7 +27,7 @@ use parser::kinds::is_atom;
 
 // The mark before a node: the position where it begins.
 pub fn mark(v: &View, code: &mut [u32], row: usize, at: usize) -> usize
-    requires { at ≤ room }
+    requires { (table_least ≤ length v.now.table.now) × (at ≤ room) }
     ensures { PutPost at i_mark (word_at v.now.table.now c_begin row) 0 0 code.old code.new result }
 {
     let start = v.word(columns::BEGIN, row);
@@ -34,7 +36,7 @@ pub fn mark(v: &View, code: &mut [u32], row: usize, at: usize) -> usize
 
 // The value of the variable whose name stands in a row.
 pub fn loaded(v: &View, code: &mut [u32], p: Job) -> usize
-    requires { Placed p }
+    requires { Writable v.now.table.now v.now.names.now v.now.scope p }
     ensures { LoadPost v.now.table.now v.now.names.now v.now.scope p code.old code.new result }
 {
     let place = slot(v, v.word(columns::NUMBER, p.row));
@@ -43,7 +45,7 @@ pub fn loaded(v: &View, code: &mut [u32], p: Job) -> usize
 
 // An expression of one token, of kind k.
 fn atom(v: &View, code: &mut [u32], k: u32, p: Job) -> usize
-    requires { Placed p }
+    requires { Writable v.now.table.now v.now.names.now v.now.scope p }
     ensures { ExpressionPost v.now.table.now v.now.names.now v.now.scope (form_atom k) p code.old code.new result }
 {
     if k == kinds::LITERAL {
@@ -68,7 +70,7 @@ fn atom(v: &View, code: &mut [u32], k: u32, p: Job) -> usize
 
 // `new C()`: the number of the class's name, and how many fields it has.
 fn creation(v: &View, code: &mut [u32], p: Job) -> usize
-    requires { Placed p }
+    requires { Writable v.now.table.now v.now.names.now v.now.scope p }
     ensures { ExpressionPost v.now.table.now v.now.names.now v.now.scope Form.a_new_object p code.old code.new result }
 {
     let x = v.word(columns::NUMBER, p.row + 1);
@@ -82,6 +84,7 @@ fn creation(v: &View, code: &mut [u32], p: Job) -> usize
 
 // Whether an operator of kind k is the `*` of thousandths: the type of its left operand, which stands in a row, tells.
 fn scales(v: &View, k: u32, row: usize) -> bool
+    requires { Judgeable v.now.table.now v.now.names.now v.now.scope }
     ensures { ScalesPost v.now.table.now v.now.scope k row result }
 {
     if k == kinds::TIMES {
@@ -101,7 +104,7 @@ fn scales(v: &View, k: u32, row: usize) -> bool
 // An expression.
 #[cycle(arguments_binary_call_compound_conjunction_expression_followed_located_located_pair_pair)]
 pub fn expression(v: &View, code: &mut [u32], mut p: Job) -> usize
-    requires { Placed p }
+    requires { Writable v.now.table.now v.now.names.now v.now.scope p }
     ensures { WritePost v.now.table.now v.now.names.now v.now.scope Sort.expression p code.old code.new result }
 {
     if p.left == 0 {
@@ -119,7 +122,7 @@ pub fn expression(v: &View, code: &mut [u32], mut p: Job) -> usize
 // An expression of more than one token, of which this one is of kind k.
 #[cycle(arguments_binary_call_compound_conjunction_expression_followed_located_located_pair_pair)]
 fn compound(v: &View, code: &mut [u32], k: u32, p: Job) -> usize
-    requires { Placed p }
+    requires { Writable v.now.table.now v.now.names.now v.now.scope p }
     ensures { CompoundPost v.now.table.now v.now.names.now v.now.scope k p code.old code.new result }
 {
     if k == kinds::NEW {
@@ -150,7 +153,7 @@ fn compound(v: &View, code: &mut [u32], k: u32, p: Job) -> usize
 // Both values and the operator; of `&&` the right value only where it is needed.
 #[cycle(arguments_binary_call_compound_conjunction_expression_followed_located_located_pair_pair)]
 fn binary(v: &View, code: &mut [u32], p: Job) -> usize
-    requires { Placed p }
+    requires { Writable v.now.table.now v.now.names.now v.now.scope p }
     ensures { ExpressionPost v.now.table.now v.now.names.now v.now.scope Form.a_binary p code.old code.new result }
 {
     let k = v.kind(p.row);
@@ -167,7 +170,7 @@ fn binary(v: &View, code: &mut [u32], p: Job) -> usize
 // An expression, and an instruction behind it.
 #[cycle(arguments_binary_call_compound_conjunction_expression_followed_located_located_pair_pair)]
 pub fn followed(v: &View, code: &mut [u32], op: usize, arg: usize, p: Job) -> usize
-    requires { Placed p × (op < modulus) × (arg < modulus) }
+    requires { Writable v.now.table.now v.now.names.now v.now.scope p × (op < modulus) × (arg < modulus) }
     ensures { FollowedPost v.now.table.now v.now.names.now v.now.scope op arg p code.old code.new result }
 {
     let a = expression(v, code, p);
@@ -177,7 +180,7 @@ pub fn followed(v: &View, code: &mut [u32], op: usize, arg: usize, p: Job) -> us
 // A node's first part, and an instruction that has the position where the node begins.
 #[cycle(arguments_binary_call_compound_conjunction_expression_followed_located_located_pair_pair)]
 pub fn located(v: &View, code: &mut [u32], op: usize, p: Job) -> usize
-    requires { Placed p × (op < modulus) }
+    requires { Writable v.now.table.now v.now.names.now v.now.scope p × (op < modulus) }
     ensures { LocatedPost v.now.table.now v.now.names.now v.now.scope op p code.old code.new result }
 {
     let start = v.word(columns::BEGIN, p.row);
@@ -188,7 +191,7 @@ pub fn located(v: &View, code: &mut [u32], op: usize, p: Job) -> usize
 // A node's first part, and the second, followed by an instruction.
 #[cycle(arguments_binary_call_compound_conjunction_expression_followed_located_located_pair_pair)]
 fn pair(v: &View, code: &mut [u32], op: usize, arg: usize, p: Job) -> usize
-    requires { Placed p × (op < modulus) × (arg < modulus) }
+    requires { Writable v.now.table.now v.now.names.now v.now.scope p × (op < modulus) × (arg < modulus) }
     ensures { PairPost v.now.table.now v.now.names.now v.now.scope op arg p code.old code.new result }
 {
     let first = v.part(columns::FIRST, p, p.at);
@@ -200,7 +203,7 @@ fn pair(v: &View, code: &mut [u32], op: usize, arg: usize, p: Job) -> usize
 // A node's two parts, and an instruction that has the position where the node begins.
 #[cycle(arguments_binary_call_compound_conjunction_expression_followed_located_located_pair_pair)]
 pub fn located_pair(v: &View, code: &mut [u32], op: usize, p: Job) -> usize
-    requires { Placed p × (op < modulus) }
+    requires { Writable v.now.table.now v.now.names.now v.now.scope p × (op < modulus) }
     ensures { PairPost v.now.table.now v.now.names.now v.now.scope op (word_at v.now.table.now c_begin p.row) p code.old
         code.new result }
 {
@@ -211,7 +214,7 @@ pub fn located_pair(v: &View, code: &mut [u32], op: usize, p: Job) -> usize
 // The left value, the right one, and before it the jump over it.
 #[cycle(arguments_binary_call_compound_conjunction_expression_followed_located_located_pair_pair)]
 fn conjunction(v: &View, code: &mut [u32], p: Job) -> usize
-    requires { Placed p }
+    requires { Writable v.now.table.now v.now.names.now v.now.scope p }
     ensures { ConjunctionPost v.now.table.now v.now.names.now v.now.scope p code.old code.new result }
 {
     let first = v.part(columns::FIRST, p, p.at);
@@ -225,7 +228,7 @@ fn conjunction(v: &View, code: &mut [u32], p: Job) -> usize
 // The receiver, the arguments, and the call.
 #[cycle(arguments_binary_call_compound_conjunction_expression_followed_located_located_pair_pair)]
 fn call(v: &View, code: &mut [u32], p: Job) -> usize
-    requires { Placed p }
+    requires { Writable v.now.table.now v.now.names.now v.now.scope p }
     ensures { ExpressionPost v.now.table.now v.now.names.now v.now.scope Form.a_call_shown p code.old code.new result }
 {
     let start = v.word(columns::BEGIN, p.row);
@@ -241,7 +244,7 @@ fn call(v: &View, code: &mut [u32], p: Job) -> usize
 // The arguments from a row on.
 #[cycle(arguments_binary_call_compound_conjunction_expression_followed_located_located_pair_pair)]
 fn arguments(v: &View, code: &mut [u32], mut p: Job) -> usize
-    requires { Placed p }
+    requires { Writable v.now.table.now v.now.names.now v.now.scope p }
     ensures { WritePost v.now.table.now v.now.names.now v.now.scope Sort.arguments p code.old code.new result }
 {
     if p.left == 0 {

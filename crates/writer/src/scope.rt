@@ -1,5 +1,6 @@
 // Names by number. What a body sees is a scope of `bodies`; what the fields of the declaring class and those above it mean stands in
 // `names` (see `fields` of `lookup`).
+ghost use Rattle.bodies.specs.promises.Scoping.{Judgeable};
 ghost use Rattle.writer.specs.promises.Scoping.{SlotPost};
 
 use crate::places::place;
@@ -13,6 +14,7 @@ const SLOTS: usize = 2048;
 
 // What a name means: a parameter or local by its place among these, else the nearest field upwards from the declaring class.
 pub fn slot(v: &View, x: usize) -> usize
+    requires { Judgeable v.now.table.now v.now.names.now v.now.scope }
     ensures { SlotPost v.now.table.now v.now.scope x result }
 {
     let s = v.scope;

@@ -2,7 +2,7 @@
 ghost use Rattle.std.specs.Prelude.{◌≤◌};
 ghost use Rattle.parser.specs.Tree.{Sort};
 ghost use Rattle.lookup.specs.promises.Shows.{Form};
-ghost use Rattle.writer.specs.promises.Posts.{room, Placed, WritePost, form_tested, StatementPost, BranchesPost, OtherwisePost};
+ghost use Rattle.writer.specs.promises.Posts.{room, Writable, WritePost, form_tested, StatementPost, BranchesPost, OtherwisePost};
 ghost use Rattle.writer.specs.promises.Posts.{BodyPost};
 
 use crate::code::{next, put};
@@ -17,7 +17,7 @@ use parser::columns::ABSENT;
 
 // The value, and its store.
 fn assigned(v: &View, code: &mut [u32], p: Job) -> usize
-    requires { Placed p }
+    requires { Writable v.now.table.now v.now.names.now v.now.scope p }
     ensures { StatementPost v.now.table.now v.now.names.now v.now.scope Form.an_assignment p code.old code.new result }
 {
     let place = slot(v, v.word(columns::NUMBER, p.row));
@@ -27,7 +27,7 @@ fn assigned(v: &View, code: &mut [u32], p: Job) -> usize
 
 // The array, the index, the value, and the store.
 fn element(v: &View, code: &mut [u32], mut p: Job) -> usize
-    requires { Placed p }
+    requires { Writable v.now.table.now v.now.names.now v.now.scope p }
     ensures { StatementPost v.now.table.now v.now.names.now v.now.scope Form.an_element_store p code.old code.new result }
 {
     let i = loaded(v, code, p);
@@ -38,7 +38,7 @@ fn element(v: &View, code: &mut [u32], mut p: Job) -> usize
 // A statement.
 #[cycle(body_branches_list_otherwise_single_tested)]
 pub fn single(v: &View, code: &mut [u32], mut p: Job) -> usize
-    requires { Placed p }
+    requires { Writable v.now.table.now v.now.names.now v.now.scope p }
     ensures { WritePost v.now.table.now v.now.names.now v.now.scope Sort.statement p code.old code.new result }
 {
     if p.left == 0 {
@@ -72,7 +72,7 @@ pub fn single(v: &View, code: &mut [u32], mut p: Job) -> usize
 // The test, then what it decides: of `if`, whose kind is k, the branches, and else the body of `while`.
 #[cycle(body_branches_list_otherwise_single_tested)]
 fn tested(v: &View, code: &mut [u32], k: u32, p: Job) -> usize
-    requires { Placed p }
+    requires { Writable v.now.table.now v.now.names.now v.now.scope p }
     ensures { StatementPost v.now.table.now v.now.names.now v.now.scope (form_tested k) p code.old code.new result }
 {
     let first = v.part(columns::FIRST, p, p.at);
@@ -86,7 +86,7 @@ fn tested(v: &View, code: &mut [u32], k: u32, p: Job) -> usize
 // From the place behind the test on the first branch, behind a jump over it, and the second.
 #[cycle(body_branches_list_otherwise_single_tested)]
 fn branches(v: &View, code: &mut [u32], p: Job, at: usize) -> usize
-    requires { Placed p × (at ≤ room) }
+    requires { Writable v.now.table.now v.now.names.now v.now.scope p × (at ≤ room) }
     ensures { BranchesPost v.now.table.now v.now.names.now v.now.scope p at code.old code.new result }
 {
     let second = v.part(columns::SECOND, p, next(at));
@@ -99,7 +99,7 @@ fn branches(v: &View, code: &mut [u32], p: Job, at: usize) -> usize
 // From the place behind the first branch on the second, behind a jump over it.
 #[cycle(body_branches_list_otherwise_single_tested)]
 fn otherwise(v: &View, code: &mut [u32], p: Job, at: usize) -> usize
-    requires { Placed p × (at ≤ room) }
+    requires { Writable v.now.table.now v.now.names.now v.now.scope p × (at ≤ room) }
     ensures { OtherwisePost v.now.table.now v.now.names.now v.now.scope p at code.old code.new result }
 {
     let third = v.part(columns::THIRD, p, next(at));
@@ -111,7 +111,7 @@ fn otherwise(v: &View, code: &mut [u32], p: Job, at: usize) -> usize
 // From the place behind the test on the body of a `while`, behind a jump over it, and the jump back to the test.
 #[cycle(body_branches_list_otherwise_single_tested)]
 fn body(v: &View, code: &mut [u32], p: Job, at: usize) -> usize
-    requires { Placed p × (at ≤ room) }
+    requires { Writable v.now.table.now v.now.names.now v.now.scope p × (at ≤ room) }
     ensures { BodyPost v.now.table.now v.now.names.now v.now.scope p at code.old code.new result }
 {
     let second = v.part(columns::SECOND, p, next(at));
@@ -124,7 +124,7 @@ fn body(v: &View, code: &mut [u32], p: Job, at: usize) -> usize
 // The statements from a row on.
 #[cycle(body_branches_list_otherwise_single_tested)]
 pub fn list(v: &View, code: &mut [u32], mut p: Job) -> usize
-    requires { Placed p }
+    requires { Writable v.now.table.now v.now.names.now v.now.scope p }
     ensures { WritePost v.now.table.now v.now.names.now v.now.scope Sort.statements p code.old code.new result }
 {
     if p.left == 0 {

@@ -1,7 +1,11 @@
 // What the code of a body is written from: the work table, what names mean to the body, by number, and its scope.
-ghost use Rattle.std.specs.Prelude.{◌≤◌, length};
-ghost use Rattle.bodies.specs.promises.Scoping.{Judgeable};
-ghost use Rattle.writer.specs.promises.Sizing.{names_least};
+// What is asked of them (`Judgeable`) stands in the contracts, not in a ghost field: no proof shows that it is a proposition.
+ghost use Rattle.std.specs.Prelude.{◌≡◌, ◌≤◌, ◌<◌, length};
+ghost use Rattle.base.specs.Codes.{table_least};
+ghost use Rattle.base.specs.Word.{modulus};
+ghost use Rattle.parser.specs.promises.Post.{kind_in_table};
+ghost use Rattle.lookup.specs.promises.HeldClasses.{word_at};
+ghost use Rattle.writer.specs.promises.Jobs.{PartPost};
 
 use crate::job;
 use crate::job::Job;
@@ -14,20 +18,12 @@ pub struct View<'a> {
     pub table: &'a [u32],
     pub names: &'a [u32],
     pub scope: Scope,
-    ghost judgeable: { Judgeable table.now names.now scope },
-    ghost long: { names_least ≤ length names.now },
 }
 
 impl View<'_> {
-    ghost use Rattle.std.specs.Prelude.{◌≡◌, ◌<◌};
-    ghost use Rattle.base.specs.Word.{modulus};
-    ghost use Rattle.parser.specs.promises.Post.{kind_in_table};
-    ghost use Rattle.lookup.specs.promises.HeldClasses.{word_at};
-    ghost use Rattle.writer.specs.promises.Jobs.{PartPost};
-
     // Column k of a row, ABSENT past the last row.
     pub fn word(&self, k: usize, row: usize) -> usize
-        requires { k < 8 }
+        requires { (table_least ≤ length self.now.table.now) × (k < 8) }
         ensures { (result ≡ word_at self.now.table.now k row) × (result < modulus) }
     {
         rows::word(self.table, k, row)
@@ -35,6 +31,7 @@ impl View<'_> {
 
     // The kind of token i, 0 past the last.
     pub fn kind(&self, i: usize) -> u32
+        requires { self.now.scope.tokens ≤ length self.now.table.now }
         ensures { result ≡ kind_in_table self.now.table.now self.now.scope.tokens i }
     {
         table::kind(self.table, self.scope.tokens, i)
@@ -42,7 +39,7 @@ impl View<'_> {
 
     // The part to which column k of a node's row leads, from a place on; it has at most as many nodes.
     pub fn part(&self, k: usize, p: Job, at: usize) -> Job
-        requires { k < 8 }
+        requires { (table_least ≤ length self.now.table.now) × (k < 8) }
         ensures { PartPost self.now.table.now k p at result }
     {
         job::part(self.table, k, p, at)
