@@ -21,8 +21,8 @@ use Rattle.frames.specs.Lines.{Line}
 use Rattle.frames.specs.Machine.{State, Around, Turn, goes, sure, allowed, word, reference, all_words_lem, last_values, value_at}
 use Rattle.frames.specs.Machine.{opens, entered, call_on, do_call}
 use Rattle.player.specs.declared.state.Machine.{Machine}
-use Rattle.player.specs.promises.Reading.{lines_in, followed, EntryAt}
-use Rattle.player.specs.promises.Turning.{CalledOn, Dispatched, Opened, Enters, OnCall, Header, IsWord, Cell, state_of, turn_of}
+use Rattle.player.specs.promises.Reading.{lines_in, followed}
+use Rattle.player.specs.promises.Turning.{CalledOn, Dispatched, Opened, Enters, OnCall, IsWord, state_of, turn_of}
 use Rattle.player.proofs.Tests.{sure-yes, sure-no, allowed-yes, allowed-no}
 use Rattle.player.proofs.Makings.{stored-part}
 
@@ -105,22 +105,6 @@ module _ {stack : List ℕ} {height n : ℕ} where
       → CalledOn stack height n r
   a-receiver b l w i u =
       record { says = λ s e f k. enough stack height n b l s e f k ∙ sure-yes _ _ (sym w ∙ i) ∙ u.says k; few = λ v q. (b, l) }
-
--- THE LINE
-
-module _ {text : List ℕ} {heap : List ℤ} {words receiver table : ℕ} where
-  pub no-object : {r : Result ℕ Reason} {n : Reason} → Header words receiver (Err n) → r ≡ Err n → Dispatched text heap words receiver table r
-  no-object w e = record { says = λ s p q k. w.says s p _ ∙ sym (ap (λ (r : Result ℕ Reason). followed r k) e) }
-
-  pub looked-up : {r : Result ℕ Reason} {i v : ℕ} → Header words receiver (Ok i) → Cell heap i v → EntryAt text (table + v) r
-      → Dispatched text heap words receiver table r
-  looked-up {r} {i} {v} w c u =
-      record {
-        says = λ s p q k.
-            w.says s p _
-            ∙ ap₂ (λ (t : List ℤ) (j : ℕ). entered (lines_in text) (table + low 32 (get_or t j (pos 0))) k) q (sym (w.at i refl).0)
-            ∙ ap (λ (j : ℕ). entered (lines_in text) (table + j) k) (sym c.is) ∙ u.says k;
-      }
 
 -- THE ENTRIES
 

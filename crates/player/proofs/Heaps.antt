@@ -10,8 +10,7 @@ use borrow.Author.Tests.{lt-ltb, le-ltb, le-leb, lt-leb, eq-eqb, ne_eqb}
 use Rattle.std.specs.Prelude.{Option as Maybe, Some, Result, Ok, Err}
 use Rattle.base.specs.declared.refusal.Reason.{Reason}
 use Rattle.base.specs.declared.refusal.Reason.TheVariants as reason
-use Rattle.base.specs.Word.{low, signed}
-use Rattle.base.specs.laws.WordLaws.{low_signed}
+use Rattle.base.specs.Word.{low}
 use Rattle.frames.specs.Machine as Machine
 use Rattle.frames.specs.Machine.{State, Around, Turn, goes, ends, leave, making, reference, element, heap_word}
 use Rattle.frames.specs.Machine.{do_fetch, do_measure, do_store_element, do_print, showing}
@@ -22,12 +21,6 @@ use Rattle.player.proofs.Tests.{sure-yes, sure-no, allowed-yes, allowed-no, yes-
 use Rattle.player.proofs.Stacks.{next, two-is, not-two, three-is, three-not, not-three}
 
 -- WHAT IS READ AND WRITTEN
-
-pub is-cell : {heap : List ℤ} {i r : ℕ} → signed r ≡ get_or heap i (pos 0) → r < 4294967296 → Cell heap i r
-is-cell {heap} {i} {r} e b = record { is = sym (low_signed r b) ∙ ap (low 32) e }
-
-pub stores : {heap : List ℤ} {i v : ℕ} {z : ℤ} → z ≡ signed v → Stored heap i v (set heap i z)
-stores {heap} {i} e = record { is = ap (set heap i) e }
 
 pub null : {words r : ℕ} → r < 1 → Header words r (Err reason.NullReference)
 unfolding reference

@@ -8,7 +8,7 @@ use mathlib.Core.List.{List, [], ◌∷◌}
 use mathlib.Core.Option.{Option, none, some}
 use mathlib.Core.Path.{◌≡◌, refl, sym, ap, ap₂, ◌∙◌, subst}
 use lib.ListN.{length, get_or, get_elem?, set, drop, length-drop, length-set}
-use lib.Seq.{set_out, drop-cons, drop-drop, get_or-set_same, get_or-set_other}
+use lib.Seq.{drop-cons, drop-drop, get_or-set_same, get_or-set_other}
 use lib.Dec.{ltb, eqb}
 use borrow.Author.Tests.{ltb-true, ltb-false, eq-eqb, ne_eqb}
 use Rattle.base.specs.Choice.{if◌then◌otherwise◌, option}
@@ -252,9 +252,6 @@ pub record Decoding (s : List ℕ) (held : List OwnLine) (i : ℕ) : Type 0 wher
   pub small : (j : ℕ) → j < i → word_at s (11 * j) < 1099511627776
   pub first : (j : ℕ) (d : OwnLine) → j < 8192 → j < i
       → (number_of_line (get_or held j d) ≡ word_at s (11 * j)) × ((get_or held j d).operand < 4294967296)
-
-pub past-the-array : {held : List OwnLine} {i : ℕ} (x : OwnLine) → length held ≡ 8192 → 8192 ≤ i → held ≡ set held i x
-past-the-array {held} {i} x e l = sym (set_out held i x (omega (arith, e, l)))
 
 pub decoding-more : {s : List ℕ} {held held' : List OwnLine} {i : ℕ} {x : OwnLine} → Decoding s held i → LineAt s (11 * i) (Some x)
     → held' ≡ set held i x

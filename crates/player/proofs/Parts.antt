@@ -2,18 +2,13 @@
 use Prim.Native.Nat.{ℕ, ◌+◌, ◌/◌}
 use mathlib.Core.Bool.{Bool, true, false}
 use mathlib.Core.List.{List}
-use mathlib.Core.Option.{Option}
 use mathlib.Core.Path.{◌≡◌, refl, sym, ap, ap₂, ◌∙◌}
 use lib.IntN.{ℤ}
 use lib.ListN.{length}
-use Rattle.std.specs.Prelude.{Result, Ok, Err}
-use Rattle.base.specs.declared.refusal.Reason.{Reason}
+use Rattle.std.specs.Prelude.{Ok, Err}
 use Rattle.base.specs.declared.refusal.Refusal.{Refusal}
 use Rattle.base.specs.promises.Refusals.{number_of}
-use Rattle.base.specs.Choice.{option}
-use Rattle.base.specs.Outcome.{Outcome}
 use Rattle.device.specs.promises.Holding.{held_in, registers_of}
-use Rattle.frames.specs.Lines.{Line, lines}
 use Rattle.frames.specs.Operations as Operations
 use Rattle.frames.specs.Operations.{Strips, answer, begins, going_on, run, continue}
 use Rattle.frames.specs.Parts.{run_frames}
@@ -23,12 +18,12 @@ use Rattle.player.specs.declared.run.Answer.{Answer}
 use Rattle.player.specs.declared.run.Limits.{Limits}
 use Rattle.player.specs.declared.run.Record.{Record}
 use Rattle.player.specs.declared.state.Machine.{Machine}
-use Rattle.player.specs.promises.Reading.{lines_in, Form}
+use Rattle.player.specs.promises.Reading.{lines_in}
 use Rattle.player.specs.promises.Turning.{state_of}
 use Rattle.player.specs.promises.Running.{Ran, around_in}
 use Rattle.player.specs.Answering.{answer_of, strips_of, limits_of_lem, record_from, Runs, Continues}
-use Rattle.player.specs.promises.Ending.{started_from, refusal_of, Lent, Fits, EndsAs, Parted}
-use Rattle.player.specs.promises.Ending.{Admitted, Admits, Begun, GoesOn}
+use Rattle.player.specs.promises.Ending.{started_from, refusal_of, Fits, EndsAs, Parted}
+use Rattle.player.specs.promises.Ending.{Admits, Begun, GoesOn}
 use Rattle.player.proofs.Lining.{lines-length}
 use Rattle.player.proofs.Tests.{yes-is, no-is}
 
@@ -84,36 +79,6 @@ module _ {text tape : List ℕ} {l : Limits} {p : Record} {heap output : List �
       }
 
 -- THE OPERATIONS
-
-pub unfit-is : {text : List ℕ} {decoded : List OwnLine} {l : Limits} {heap registers stack : ℕ} {n : Reason}
-    → Lent l heap registers stack (Err n) → Admits text decoded l heap registers stack (Err (record { reason = n; position = 0 }))
-unfit-is {text} {l = l} {n = n} w =
-    record {
-      refuses = λ e q m p r s k f.
-          let z : ◌≡◌ {A = Refusal} (record { reason = n; position = 0 }) e = cc in
-          ap (λ (o : Option ℕ). option o (k (lines text)) λ n. Operations.refusal n 0 m) (w.says m p r s)
-          ∙ ap (λ (e : Refusal). Operations.refusal (number_of e.reason) e.position m) z;
-      admits = λ u q. absurd (cc);
-      given = λ u q. absurd (cc);
-    }
-
-pub form-is : {text : List ℕ} {decoded : List OwnLine} {l : Limits} {heap registers stack : ℕ} {u : Unit {0}} {r : Result (Unit {0}) Refusal}
-    → Lent l heap registers stack (Ok u) → Form text decoded r → Admits text decoded l heap registers stack r
-form-is {text} {l = l} {u = u} w f =
-    record {
-      refuses = λ e q m p r s k g.
-          ap₂ (λ (o : Option ℕ) (x : Outcome (List Line)). option o (k x) λ n. Operations.refusal n 0 m) (w.says m p r s) (f.other e q)
-          ∙ g (number_of e.reason) e.position;
-      admits = λ v q m p r s k.
-          ap₂ (λ (o : Option ℕ) (x : Outcome (List Line)). option o (k x) λ n. Operations.refusal n 0 m) (w.says m p r s) (f.fine v q).lines;
-      given = λ v q. let b = w.bounds u refl in (f.fine v q, b.0, b.1, b.2, b.3);
-    }
-
-pub is-admitted : {text : List ℕ} {decoded : List OwnLine} {l : Limits} {registers stack : List ℕ} {heap : ℕ} {u : Unit {0}}
-    → Admits text decoded l heap (length registers) (length stack) (Ok u) → Admitted text decoded l registers stack
-is-admitted {u = u} w =
-    let b = w.given u refl in
-    record { lines = b.0; most = b.1; paid = b.2; sixteen = b.3; long = b.4 }
 
 module _ {text tape : List ℕ} {decoded : List OwnLine} {l : Limits} {heap output : List ℤ} {registers stack : List ℕ} {a : Answer} where
   pub run-refused : {e : Refusal} → Admits text decoded l (length heap) (length registers) (length stack) (Err e)

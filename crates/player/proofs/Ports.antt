@@ -3,7 +3,7 @@ use Prim.Native.Nat.{ℕ, ◌+◌, ◌-◌, ◌≤◌, ◌<◌}
 use native.Mathlib.Omega.{arith}
 use mathlib.Core.List.{List}
 use mathlib.Core.Path.{◌≡◌, refl, sym, ap, ap₂, ◌∙◌}
-use lib.ListN.{length, get_or, set, take, drop, length-drop, drop_of_length-le}
+use lib.ListN.{length, get_or, set, take, drop, length-drop}
 use lib.Seq.{take_all}
 use lib.Dec.{ltb, eqb}
 use borrow.Author.Tests.{lt-ltb, le-ltb, eq-eqb, ne_eqb}
@@ -11,7 +11,6 @@ use Rattle.base.specs.Choice.{if◌then◌otherwise◌}
 use Rattle.device.specs.Device.{Device, registers, sample, after_get, after_put}
 use Rattle.device.specs.promises.Holding as Holding
 use Rattle.device.specs.promises.Holding.{held_in, registers_of, Alters, Looks}
-use Rattle.device.specs.Bits.{sample-none}
 use Rattle.device.specs.laws.Samples.{samples}
 use Rattle.device.specs.Device.{device_in}
 use Rattle.std.specs.Prelude.{Option as Maybe, Some, Result, Ok, Err}
@@ -132,13 +131,6 @@ takes_one {tape} {g} {g'} {g''} {taken} l w e =
     record {
       shows = ap (λ (t : List ℕ). registers (sample (device_in t g 0))) (sym z) ∙ sym (ap registers (w.says (omega arith)).is) ∙ sym e;
       count = yes-is (ltb taken (length tape)) _ _ (lt-ltb taken (length tape) l);
-    }
-
-pub takes_none : {tape g : List ℕ} {taken : ℕ} → length tape ≤ taken → registers_of (held_in g 0) ≡ g → Sampled tape taken g g taken
-takes_none {tape} {g} {taken} l e =
-    record {
-      shows = ap registers (sample-none (device_in tape g taken) (drop_of_length-le tape l)) ∙ e;
-      count = no-is (ltb taken (length tape)) _ _ (le-ltb taken (length tape) l);
     }
 
 module _ {x : ℕ} {tape : List ℕ} {m : Machine} {g : List ℕ} where

@@ -6,18 +6,17 @@ use mathlib.Core.List.{List}
 use mathlib.Core.Logic.{◌⊎◌, inl, inr}
 use mathlib.Core.Path.{◌≡◌, refl, sym, ap, ap₂, ◌∙◌}
 use lib.ListN.{get_or, set}
-use lib.IntN.{ℤ, pos}
+use lib.IntN.{ℤ}
 use lib.Dec.{ltb, leb}
 use borrow.Author.Tests.{lt-ltb, le-ltb, le-leb, lt-leb}
 use Rattle.std.specs.Prelude.{Option as Maybe, Some, Result, Ok, Err}
 use Rattle.base.specs.declared.refusal.Reason.{Reason}
 use Rattle.base.specs.declared.refusal.Reason.TheVariants as reason
-use Rattle.base.specs.Word.{low}
 use Rattle.frames.specs.Machine as Machine
 use Rattle.frames.specs.Machine.{State, Turn, goes, ends, bad, sure, word, field, leave}
 use Rattle.frames.specs.Machine.{do_load, do_save, do_self, do_return}
 use Rattle.player.specs.promises.Reading.{followed}
-use Rattle.player.specs.promises.Turning.{OnStack, OnHeap, IsWord, Value, Room, NoOperand, Inner, Cell, Stored, Field, Held, state_of}
+use Rattle.player.specs.promises.Turning.{OnStack, OnHeap, IsWord, Value, Room, NoOperand, Inner, Stored, Field, Held, state_of}
 use Rattle.player.specs.declared.state.Machine.{Machine}
 use Rattle.player.proofs.Tests.{sure-yes, sure-no, yes-is, no-is}
 use Rattle.player.proofs.Stacks.{next, ends-on, leaves}
@@ -59,32 +58,6 @@ module _ {words entry : ℕ} where
         says = λ s c i q k.
             tested x w true (le-leb 1 r p) s c i q k ∙ sure-yes (ltb (r + (x - 32)) words) _ (lt-ltb (r + (x - 32)) words b);
         within = λ j f. let e : r + (x - 32) ≡ j = cc in omega (arith, b, e);
-      }
-
--- PLACES
-
-module _ {stack : List ℕ} {heap : List ℤ} {words c x : ℕ} where
-  pub in_row : {r : Result ℕ Reason} → x < 32 → IsWord (get_or stack (c + 2 + x) 0) r → Held stack heap words c x r
-  in_row {r} b w =
-      record {
-        says = λ s p q h k.
-            yes-is (ltb x 32) _ _ (lt-ltb x 32 b) ∙ ap (λ (t : List ℕ). word (get_or t (c + 2 + x) 0) k) q ∙ w.says k;
-      }
-
-  pub in-none : {r : Result ℕ Reason} {n : Reason} → 32 ≤ x → Field words (get_or stack c 0) x (Err n) → r ≡ Err n → Held stack heap words c x r
-  in-none {r} {n} b w e =
-      record {
-        says = λ s p q h k.
-            no-is (ltb x 32) _ _ (le-ltb x 32 b) ∙ w.says s c p (ap (λ (t : List ℕ). get_or t c 0) q) _
-            ∙ sym (ap (λ (r : Result ℕ Reason). followed r k) e);
-      }
-
-  pub in_field : {j v : ℕ} → 32 ≤ x → Field words (get_or stack c 0) x (Ok j) → Cell heap j v → Held stack heap words c x (Ok v)
-  in_field {j} {v} b w u =
-      record {
-        says = λ s p q h k.
-            no-is (ltb x 32) _ _ (le-ltb x 32 b) ∙ w.says s c p (ap (λ (t : List ℕ). get_or t c 0) q) _
-            ∙ ap (λ (t : List ℤ). k (low 32 (get_or t j (pos 0)))) h ∙ ap k (sym u.is);
       }
 
 -- LOAD AND SAVE

@@ -4,7 +4,7 @@ ghost use Rattle.player.specs.promises.Reading.{digit_or, number_or, LineAt, For
 
 use base::refusal::{Reason, Refusal};
 
-// Bytes of a line, its digits and where they lie: two for the code, eight for the operand, then a line feed.
+// Bytes of a line, its digits and where they lie: two for the code and eight for the operand. A line feed ends it.
 pub const LINE: usize = 11;
 
 const CODE_DIGITS: usize = 2;

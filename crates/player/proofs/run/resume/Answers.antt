@@ -1,12 +1,9 @@
 -- `player::run::resume` meets its contract.
-use Rattle.player.proofs.Parts.{resume-refused, is-admitted, resumed}
+use Rattle.player.proofs.Parts.{resume-refused, resumed}
 use Rattle.player.proofs.run.resume.Goals as goal
 
 pub returns-in-Err : goal.returns-in-Err
 returns-in-Err c = resume-refused c.in-Err.ensures c.refused.ensures
-
-pub go_on-requires : goal.go_on-requires
-go_on-requires c = is-admitted c.in_default.ensures
 
 pub returns : goal.returns
 returns c = resumed c.in_default.ensures c.go_on.ensures
