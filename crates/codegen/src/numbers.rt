@@ -1,4 +1,5 @@
-// The numbers of plain instructions.
+// The numbers of plain instructions. Numbers and no enum: they lie as words in lent code, by `i_mark` and the others of the definitions, and
+// code may hold any word.
 
 pub const MARK: usize = 0;
 
