@@ -1,6 +1,6 @@
 // What a run may use.
 #[derive(Drop)]
 pub struct Bounds {
-    pub budget: usize,
+    pub budget: u32,
     pub calls: usize,
 }

@@ -1,6 +1,5 @@
 // The operation Run of document 01: a lesson is checked, and an accepted one is run within its limits.
 ghost use Rattle.std.specs.Prelude.{◌≤◌, ◌<◌, ◌≡◌, length};
-ghost use Rattle.base.specs.Word.{modulus};
 ghost use Rattle.base.specs.promises.Refusals.{number_of};
 ghost use Rattle.base.specs.promises.Table.{rows};
 ghost use Rattle.base.specs.Codes.{calls_most, heap_most, table_least, registers_count};
@@ -71,7 +70,7 @@ fn compiled(
     registers: &mut [u8],
     tape: &[u8],
 ) -> RunAnswer
-    requires { Walkable table.now s.tokens × (s.classes ≤ rows) × (length heap.old ≤ heap_most) × (b.budget < modulus)
+    requires { Walkable table.now s.tokens × (s.classes ≤ rows) × (length heap.old ≤ heap_most)
         × (b.calls ≤ calls_most) × (length fast.old ≤ room) × (length values.old ≤ 200000)
         × (length registers.old ≡ registers_count) }
     ensures { CompletesInRoom table.now code.old fast.old values.old s b
@@ -123,7 +122,7 @@ fn wide(
     registers: &mut [u8],
     tape: &[u8],
 ) -> RunAnswer
-    requires { Walkable table.now s.tokens × (s.classes ≤ rows) × (length heap.old ≤ heap_most) × (b.budget < modulus)
+    requires { Walkable table.now s.tokens × (s.classes ≤ rows) × (length heap.old ≤ heap_most)
         × (b.calls ≤ calls_most) × (length registers.old ≡ registers_count) }
     ensures { Completes table.now s b tape.now heap.old
         (result_strips output.old registers.old) (run_answer_of result)
@@ -157,7 +156,7 @@ fn accepted(
     registers: &mut [u8],
     tape: &[u8],
 ) -> RunAnswer
-    requires { Walkable table.now s.tokens × (s.classes ≤ rows) × (length heap.old ≤ heap_most) × (b.budget < modulus)
+    requires { Walkable table.now s.tokens × (s.classes ≤ rows) × (length heap.old ≤ heap_most)
         × (b.calls ≤ calls_most) × (length registers.old ≡ registers_count) }
     ensures { Completes table.now s b tape.now heap.old
         (result_strips output.old registers.old) (run_answer_of result)
@@ -196,7 +195,7 @@ fn perform(
     tape: &[u8],
     known: Option<Sizes>,
 ) -> RunAnswer
-    requires { (table_least ≤ length table.old) × (length heap.old ≤ heap_most) × (b.budget < modulus) × (b.calls ≤ calls_most)
+    requires { (table_least ≤ length table.old) × (length heap.old ≤ heap_most) × (b.calls ≤ calls_most)
         × LeftByCheck source.now known table.old × (length registers.old ≡ registers_count) }
     ensures { Performed source.now known b tape.now table.old heap.old
         (result_strips output.old registers.old) (run_answer_of result) table.new heap.new
@@ -251,9 +250,6 @@ pub fn run(
     if registers.len() != REGISTERS {
         return unfit(Reason::RegistersNotSixteen);
     }
-    let b = Bounds {
-        budget: budget as usize,
-        calls,
-    };
+    let b = Bounds { budget, calls };
     perform(source, table, b, heap, output, registers, tape, None)
 }

@@ -4,14 +4,14 @@ use Rattle.runner.proofs.RunLaws.{accepted-few, performed, checked, unperformed,
 use Rattle.runner.proofs.run.+perform.Goals as goal
 
 pub accepted-requires : goal.accepted-requires
-accepted-requires t c = search (rules, accepted-few c.requires.4 c.in-Some.is)
+accepted-requires t c = search (rules, accepted-few c.requires.3 c.in-Some.is)
 
 pub returns-in-Some : goal.returns-in-Some
-returns-in-Some t c = performed c.requires.4 c.in-Some.is c.accepted.ensures
+returns-in-Some t c = performed c.requires.3 c.in-Some.is c.accepted.ensures
 
 pub perform-r-requires : goal.perform-r-requires
 perform-r-requires t c =
-    (omega (arith, rw c.in_default.is at c.decreases), (search rules, search rules, search rules, search rules, now-known c.find.ensures c.in-Ok.is, search rules))
+    (omega (arith, rw c.in_default.is at c.decreases), (search rules, search rules, search rules, now-known c.find.ensures c.in-Ok.is, search rules))
 
 pub returns-in-Ok : goal.returns-in-Ok
 returns-in-Ok t c =

@@ -3,4 +3,4 @@ use Rattle.runner.proofs.RunLaws.{small-fits}
 use Rattle.runner.proofs.run.accepted.Goals as goal
 
 pub returns : goal.returns
-returns c = small-fits c.if-s-gt-SMALL.false c.requires.4 c.compiled.ensures
+returns c = small-fits c.if-s-gt-SMALL.false c.requires.3 c.compiled.ensures

@@ -3,4 +3,4 @@ use Rattle.runner.proofs.RunLaws.{wide_fits}
 use Rattle.runner.proofs.run.wide.Goals as goal
 
 pub returns : goal.returns
-returns c = wide_fits c.requires.0.few c.requires.4 c.compiled.ensures
+returns c = wide_fits c.requires.0.few c.requires.3 c.compiled.ensures
