@@ -32,7 +32,8 @@ pub struct Limits {
     pub price: u32,
 }
 
-// Where a run is. At its begin, and after every end but 50, all of it is 0.
+// Where a run is. At its begin, and after every end but 50, all of it is 0. Its fields stand flat, as in the record of the C interface that
+// `engine_continue_frames` takes and hands back, so a machine is made of it and it of a machine field by field.
 #[derive(Clone, Copy, Default)]
 pub struct Record {
     pub line: usize,
