@@ -1,5 +1,5 @@
 -- What the functions of the operation return meets their contracts.
-use Prim.Native.Nat.{ℕ, suc, ◌+◌, ◌-◌, ◌*◌, ◌≤◌, ◌<◌, min}
+use Prim.Native.Nat.{ℕ, suc, ◌+◌, ◌*◌, ◌≤◌, ◌<◌, min}
 use native.Mathlib.Omega.{arith}
 use mathlib.Core.Bool.{Bool, true, false, ◌&&◌}
 use mathlib.Core.Path.{◌≡◌, refl, sym, ap, ap₂, ◌∙◌, subst}
@@ -9,7 +9,7 @@ use lib.Seq.{get_or-set_other}
 use borrow.Author.Tests.{lt-ltb, le-ltb}
 use Rattle.base.specs.Bytes.{same}
 use Rattle.base.specs.Choice.{if◌then◌otherwise◌}
-use Rattle.base.specs.Codes.{table_least, table_too_short}
+use Rattle.base.specs.Codes.{table_least}
 use Rattle.base.specs.Outcome.{Outcome, accepted, refused}
 use Rattle.base.specs.laws.Lists.{get_d_default, get_d-replicate-same}
 use Rattle.base.specs.laws.Tests.{apart}

@@ -1,24 +1,22 @@
 -- What encode_result the frames of plain instructions returns meets its contract.
-use Prim.Native.Nat.{ℕ, zero, suc, ◌+◌, ◌-◌, ◌*◌, ◌≤◌, ◌<◌, min}
+use Prim.Native.Nat.{ℕ, suc, ◌+◌, ◌-◌, ◌*◌, ◌≤◌, ◌<◌, min}
 use native.Mathlib.Omega.{arith}
 use native.Mathlib.Nat.{mul-le-mul}
-use mathlib.Core.Bool.{Bool, true, false, false≢true}
+use mathlib.Core.Bool.{true, false, false≢true}
 use mathlib.Core.Path.{◌≡◌, refl, sym, ap, ap₂, ◌∙◌, subst}
-use mathlib.Core.List.{List, [], ◌∷◌, ◌++◌, map}
+use mathlib.Core.List.{List, [], ◌∷◌, map}
 use lib.ListN.{length, get_or}
-use Rattle.base.specs.All.{All, all_nil, all_cons}
-use Rattle.parser.specs.Tree.{Operator, Operator.and, Operator.less, Operator.plus, Operator.minus, Operator.times}
-use Rattle.reader.specs.promises.Matches.{operator_kind}
-use Rattle.codegen.specs.promises.Code.{Instruction, Code, operate, make_object_lem, call}
+use Rattle.base.specs.All.{All, all_cons}
+use Rattle.codegen.specs.promises.Code.{Instruction, Code}
 use Rattle.writer.specs.promises.Words.{Words, words, encode}
 use Rattle.writer.specs.laws.Stored.{StandAt}
 use Rattle.frames.specs.Lines.{Line, line}
-use Rattle.frames.specs.Encode.{place_of, class_number, method_names, table_line_lem, operator_line, frame_of}
+use Rattle.frames.specs.Encode.{place_of, class_number, method_names, table_line_lem, frame_of}
 use Rattle.encoder.specs.declared.plan.Plan.{Plan}
 use Rattle.encoder.specs.promises.Strip.{Puts}
 use Rattle.encoder.specs.promises.Frames.{Placed, HeldFrom, NumbersHeld, OperatorPost, OperandPost, BehindPost, PlainPost}
 use Rattle.encoder.specs.laws.Bytes.{puts_none, puts_then}
-use Rattle.encoder.specs.laws.Instructions.{special, View, as_is, an-operator, an-object, a_call, view, first_of, stands-first, number_small, held_first, held-rest}
+use Rattle.encoder.specs.laws.Instructions.{special, View, as_is, an-operator, an-object, a_call, view, stands-first, number_small, held_first, held-rest}
 
 -- OPERANDS
 

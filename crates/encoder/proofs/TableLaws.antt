@@ -1,12 +1,12 @@
 -- What encode_result tables returns meets its contract: the row that the look-up by number finds has the address that the climb through the rows of
 -- the code finds.
-use Prim.Native.Nat.{ℕ, zero, suc, ◌+◌, ◌-◌, ◌*◌, ◌≤◌, ◌<◌}
+use Prim.Native.Nat.{ℕ, suc, ◌+◌, ◌-◌, ◌≤◌, ◌<◌}
 use native.Mathlib.Omega.{arith}
 use mathlib.Core.Path.{◌≡◌, refl, sym, ap, ap₂, ◌∙◌, subst}
-use mathlib.Core.List.{List, [], ◌∷◌, ◌++◌, map}
-use mathlib.Core.Option.{Option, none, some, some-injective}
+use mathlib.Core.List.{List, [], ◌∷◌, map}
+use mathlib.Core.Option.{Option, none, some}
 use lib.ListN.{length, get_or, get_elem?}
-use Rattle.base.specs.promises.Table.{c_number, c_next, col}
+use Rattle.base.specs.promises.Table.{c_number, c_next}
 use Rattle.lexer.specs.Tokens.{Token}
 use Rattle.parser.specs.Tree.{Class, Program}
 use Rattle.parser.specs.promises.Layout.{absent, row_classes}
@@ -19,17 +19,17 @@ use Rattle.typing.specs.laws.Members.{method_of-has}
 use Rattle.typing.specs.laws.Programs.{table-acyclic}
 use Rattle.semantics.specs.Machine.{Climbed, search}
 use Rattle.soundness.specs.laws.Search.{search-found}
-use Rattle.lookup.specs.promises.HeldClasses.{word_at, NameNumber, a-name, MethodHeld, ClassHeld, ClassesHeld, more-classes, ClassTableHeld, chain_from}
+use Rattle.lookup.specs.promises.HeldClasses.{word_at, NameNumber, a-name, MethodHeld, ClassesHeld, more-classes}
 use Rattle.lookup.specs.promises.Lookups.{row_found, FindsMethod}
 use Rattle.lookup.specs.laws.HeldLaws.{word_in, name-word, row-there, all-stand, methods-stand}
 use Rattle.declarations.specs.promises.Judgements.{ClassesAt}
-use Rattle.codegen.specs.promises.Code.{Entry, ClassRow, climb}
+use Rattle.codegen.specs.promises.Code.{ClassRow, climb}
 use Rattle.codegen.specs.promises.Compile.{end, entry_for, end_methods, rows_of, compile}
 use Rattle.codegen.proofs.laws.Layout.{compiled}
 use Rattle.codegen.proofs.laws.Dispatch.{Both, neither, both, finds}
 use Rattle.writer.specs.laws.Entries.{entry_at}
 use Rattle.frames.specs.Lines.{Line, line}
-use Rattle.frames.specs.Encode.{entry_line, table_of, tables}
+use Rattle.frames.specs.Encode.{entry_line, tables}
 use Rattle.encoder.specs.declared.plan.Plan.{Plan}
 use Rattle.encoder.specs.promises.Strip.{Puts}
 use Rattle.encoder.specs.promises.Tables.{rows_for, Lesson, line_for, OfClassPost, OfMethodPost, TablesPost}

@@ -1,13 +1,13 @@
 // Calls: the receiver and its arguments, the line of the method, the entries.
 ghost use Rattle.std.specs.Prelude.{◌≡◌, ◌+◌, ◌/◌, ◌≤◌, ◌<◌, length};
-ghost use Rattle.player.specs.promises.Reading.{Counted};
 ghost use Rattle.player.specs.promises.Turning.{Stands, CalledOn, Dispatched, Opened, Enters, OnCall};
 ghost use Rattle.base.specs.Codes.{calls_most};
 ghost use Rattle.frames.specs.Machine.{all_words_lem};
 ghost use Rattle.frames.specs.Numbers.{values_from};
 
+use crate::around::Around;
 use crate::heap::{cell, header};
-use crate::lines::{DECODED, Line, entry_at};
+use crate::lines::entry_at;
 use crate::stack::word;
 use crate::state::{CALL, Machine, PLACES, RETURN, ROW, VALUES, WORDS};
 use base::refusal::Reason;
@@ -39,20 +39,18 @@ fn called_on(stack: &[u64], height: usize, n: usize) -> Result<u32, Reason>
 
 // The line that a call of this receiver goes to: its class is its header, and the table has a line for each class.
 fn dispatched(
-    text: &[u8],
-    decoded: &[Line; DECODED],
-    count: usize,
+    around: Around<'_>,
     heap: &[i32],
     words: usize,
     receiver: u32,
     table: u32,
 ) -> Result<u32, Reason>
-    requires { Counted text.now decoded.now count × (words ≤ length heap.now) × (table < 16777216) }
-    ensures { Dispatched text.now heap.now words receiver table result }
+    requires { (words ≤ length heap.now) × (table < 16777216) }
+    ensures { Dispatched around.entry.text.now heap.now words receiver table result }
 {
     let at = header(receiver, words)?;
     let class = cell(heap, at);
-    entry_at(text, decoded, count, table as usize + class as usize)
+    entry_at(around, table as usize + class as usize)
 }
 
 // The entries of a call: receiver, return line, the n arguments that lie from a place on, zeros.
@@ -104,20 +102,17 @@ fn enter(
 
 // 12 call.
 pub fn call(
-    text: &[u8],
-    decoded: &[Line; DECODED],
-    count: usize,
+    around: Around<'_>,
     stack: &mut [u64],
     heap: &[i32],
     m: Machine,
     x: u32,
-    limit: usize,
 ) -> Result<Machine, Option<Reason>>
-    requires { Counted text.now decoded.now count × Stands m stack.old × (m.words ≤ length heap.now) × (limit ≤ calls_most) }
-    ensures { OnCall text.now limit x m stack.old stack.new heap.now result }
+    requires { Stands m stack.old × (m.words ≤ length heap.now) }
+    ensures { OnCall around.entry.text.now around.entry.limit x m stack.old stack.new heap.now result }
 {
     let n = (x % COUNTS) as usize;
     let r = called_on(stack, m.height, n)?;
-    let line = dispatched(text, decoded, count, heap, m.words, r, x / COUNTS)?;
-    enter(stack, m, limit, n, r, line)
+    let line = dispatched(around, heap, m.words, r, x / COUNTS)?;
+    enter(stack, m, around.limit, n, r, line)
 }

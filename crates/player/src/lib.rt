@@ -1,6 +1,7 @@
 // The runner of frames.
 #![tactic(auto)]
 
+pub mod around;
 pub mod call;
 pub mod heap;
 pub mod lines;

@@ -1,7 +1,8 @@
 // Lines of the text: their form, their codes and operands.
 ghost use Rattle.std.specs.Prelude.{◌≡◌, ◌+◌, ◌/◌, ◌≤◌, ◌<◌, length, set, unwrap_or, IfSome};
-ghost use Rattle.player.specs.promises.Reading.{digit_or, number_or, LineAt, Form, Decoded, Counted, FrameAt, EntryAt};
+ghost use Rattle.player.specs.promises.Reading.{digit_or, number_or, LineAt, Form, FrameAt, EntryAt};
 
+use crate::around::Around;
 use base::refusal::{Reason, Refusal};
 
 // Bytes of a line, its digits and where they lie: two for the code and eight for the operand. A line feed ends it.
@@ -97,30 +98,24 @@ pub fn form(text: &[u8], decoded: &mut [Line; DECODED]) -> Result<(), Refusal>
 }
 
 // Line number i.
-pub fn frame_at(text: &[u8], decoded: &[Line; DECODED], i: usize) -> Line
-    requires { Decoded text.now decoded.now × (i < length text.now / 11) }
-    ensures { FrameAt text.now i result }
+pub fn frame_at(around: Around<'_>, i: usize) -> Line
+    requires { i < around.count }
+    ensures { FrameAt around.entry.text.now i result }
 {
     if i < DECODED {
-        return decoded[i];
+        return around.decoded[i];
     }
-    line_at(text, LINE * i).unwrap()
+    line_at(around.text, LINE * i).unwrap()
 }
 
 // The operand of the `entry` at a line; 70 where the line is past the last or no `entry`.
-pub fn entry_at(
-    text: &[u8],
-    decoded: &[Line; DECODED],
-    count: usize,
-    i: usize,
-) -> Result<u32, Reason>
-    requires { Counted text.now decoded.now count }
-    ensures { EntryAt text.now i result }
+pub fn entry_at(around: Around<'_>, i: usize) -> Result<u32, Reason>
+    ensures { EntryAt around.entry.text.now i result }
 {
-    if count <= i {
+    if around.count <= i {
         return Err(Reason::FrameFault);
     }
-    let line = frame_at(text, decoded, i);
+    let line = frame_at(around, i);
     if line.code != ENTRY {
         return Err(Reason::FrameFault);
     }

@@ -6,6 +6,7 @@ ghost use Rattle.player.specs.promises.Ending.{EndsAs, PartFrom, Parted, Cleared
 ghost use Rattle.base.specs.promises.Refusals.{number_of};
 ghost use Rattle.frames.specs.Numbers.{budget_most, values_from};
 
+use crate::around::Around;
 use crate::lines::{DECODED, LINE, Line, form};
 use crate::rounds::{Meter, rounds};
 use crate::state::{Machine, SUCCESS, VALUES};
@@ -31,7 +32,8 @@ pub struct Limits {
     pub price: u32,
 }
 
-// Where a run is. At its begin, and after every end but 50, all of it is 0.
+// Where a run is. At its begin, and after every end but 50, all of it is 0. Its fields stand flat, as in the record of the C interface that
+// `engine_continue_frames` takes and hands back, so a machine is made of it and it of a machine field by field.
 #[derive(Clone, Copy, Default)]
 pub struct Record {
     pub line: usize,
@@ -213,12 +215,15 @@ fn part(
         (strips_of heap.new output.new registers.new stack.new) result }
 {
     let from = started(r);
-    let e = rounds(
+    let around = Around {
         text,
         decoded,
-        text.len() / LINE,
+        count: text.len() / LINE,
         tape,
-        limits.calls,
+        limit: limits.calls,
+    };
+    let e = rounds(
+        around,
         limits.price as u64,
         stack,
         heap,

@@ -13,7 +13,7 @@ use Rattle.codegen.specs.promises.Code.{ClassRow, climb}
 use Rattle.codegen.specs.promises.Compile.{end, rows_of}
 use Rattle.writer.specs.promises.Classes.{entered_classes}
 use Rattle.typesystem.specs.TypingRules.{class_name, ProgramTyped}
-use Rattle.frames.specs.Lines.{Line, line}
+use Rattle.frames.specs.Lines.{Line}
 use Rattle.frames.specs.Encode.{entry_line, tables}
 use Rattle.encoder.specs.declared.plan.Plan.{Plan}
 use Rattle.encoder.specs.promises.Strip.{Puts}

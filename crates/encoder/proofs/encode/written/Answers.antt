@@ -1,5 +1,4 @@
 -- What the arrays hold is the whole of the lesson.
-use Rattle.std.proofs.Common.{rules}
 use Rattle.encoder.proofs.EncodeLaws.{all-written, lines-few, methods-few}
 use Rattle.encoder.proofs.encode.written.Goals as goal
 

@@ -1,6 +1,5 @@
 -- `count` meets its contract: what stands from here on is all that stands from the first place on.
 use Rattle.std.proofs.Common.{◌≡◌, ◌+◌, ◌-◌, arith}
-use Rattle.encoder.specs.promises.Frames.{BehindPost}
 use Rattle.encoder.proofs.FrameLaws.{behind-end, behind-next}
 use Rattle.encoder.proofs.frame.count.Goals as goal
 
