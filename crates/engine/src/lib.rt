@@ -10,7 +10,7 @@ ghost use Rattle.typecheck.specs.promises.CheckPost.{check_answer_of};
 ghost use Rattle.menu.specs.Menu.{Menus};
 ghost use Rattle.menu.specs.promises.MenuPost.{menu_answer_of};
 ghost use Rattle.semantics.specs.Run.{Runs};
-ghost use Rattle.runner.specs.promises.RunPost.{strips};
+ghost use Rattle.runner.specs.promises.RunPost.{run_answer_of, strips};
 ghost use Rattle.joining.specs.Join.{Joins};
 ghost use Rattle.printing.specs.Print.{Prints};
 ghost use Rattle.frames.specs.Operations.{Encodes, RunsFrames, ContinuesFrames};
@@ -20,10 +20,10 @@ use encoder::encode::encode;
 use joiner::join::join;
 use lookup::sizes::Sizes;
 use menu::menu::menu;
-use player::run::Record;
+use player::run::{Answer, Record};
 use printer::print::print;
 use reader::read::{Counts, read};
-use runner::run::run;
+use runner::run;
 use typecheck::check::check;
 
 // Which header belongs to this library: ENGINE_VERSION there.
@@ -158,6 +158,21 @@ pub struct RunAnswer {
     pub printed: usize,
 }
 
+impl From<run::RunAnswer> for RunAnswer {
+    ghost from_gives = { λ r a. run_answer_of r ≡ record { number = a.number; position = a.position; steps = a.steps; climbs = a.climbs; words = a.words; printed = a.printed } };
+
+    fn from(end: run::RunAnswer) -> RunAnswer {
+        RunAnswer {
+            number: end.number,
+            position: end.position,
+            steps: end.steps,
+            climbs: end.climbs,
+            words: end.words,
+            printed: end.printed,
+        }
+    }
+}
+
 // The limits of a part of a run of frames.
 #[repr(C)]
 #[derive(Drop)]
@@ -165,6 +180,18 @@ pub struct FrameLimits {
     pub budget: u32,
     pub calls: usize,
     pub price: u32,
+}
+
+impl From<FrameLimits> for player::run::Limits {
+    ghost from_gives = { λ l own. own ≡ record { budget = l.budget; calls = l.calls; price = l.price } };
+
+    fn from(limits: FrameLimits) -> player::run::Limits {
+        player::run::Limits {
+            budget: limits.budget,
+            calls: limits.calls,
+            price: limits.price,
+        }
+    }
 }
 
 // Where a run of frames is.
@@ -182,6 +209,42 @@ pub struct FrameRecord {
     pub unspent: u64,
 }
 
+impl From<Record> for FrameRecord {
+    ghost from_gives = { λ r lent. lent ≡ record { line = r.line; height = r.height; calls = r.calls; words = r.words; printed = r.printed; tape = r.tape; marks = r.marks; frames = r.frames; unspent = r.unspent } };
+
+    fn from(record: Record) -> FrameRecord {
+        FrameRecord {
+            line: record.line,
+            height: record.height,
+            calls: record.calls,
+            words: record.words,
+            printed: record.printed,
+            tape: record.tape,
+            marks: record.marks,
+            frames: record.frames,
+            unspent: record.unspent,
+        }
+    }
+}
+
+impl From<FrameRecord> for Record {
+    ghost from_gives = { λ r own. own ≡ record { line = r.line; height = r.height; calls = r.calls; words = r.words; printed = r.printed; tape = r.tape; marks = r.marks; frames = r.frames; unspent = r.unspent } };
+
+    fn from(lent: FrameRecord) -> Record {
+        Record {
+            line: lent.line,
+            height: lent.height,
+            calls: lent.calls,
+            words: lent.words,
+            printed: lent.printed,
+            tape: lent.tape,
+            marks: lent.marks,
+            frames: lent.frames,
+            unspent: lent.unspent,
+        }
+    }
+}
+
 // What a part of a run of frames answers.
 #[repr(C)]
 #[derive(Drop)]
@@ -192,6 +255,32 @@ pub struct FramesAnswer {
     pub words: usize,
     pub printed: usize,
     pub pause: FrameRecord,
+}
+
+impl From<Answer> for FramesAnswer {
+    ghost from_gives = { λ a told. (a.number ≡ told.number) × (a.position ≡ told.position) × (a.frames ≡ told.frames) × (a.words ≡ told.words)
+        × (a.printed ≡ told.printed) × (a.pause ≡ record {
+          line = told.pause.line;
+          height = told.pause.height;
+          calls = told.pause.calls;
+          words = told.pause.words;
+          printed = told.pause.printed;
+          tape = told.pause.tape;
+          marks = told.pause.marks;
+          frames = told.pause.frames;
+          unspent = told.pause.unspent;
+        }) };
+
+    fn from(answer: Answer) -> FramesAnswer {
+        FramesAnswer {
+            number: answer.number,
+            position: answer.position,
+            frames: answer.frames,
+            words: answer.words,
+            printed: answer.printed,
+            pause: FrameRecord::from(answer.pause),
+        }
+    }
 }
 
 // The version of the header that belongs to this library.
@@ -245,7 +334,7 @@ pub extern "C" fn engine_run(
         (record { number = result.number; position = result.position; steps = result.steps; climbs = result.climbs; words = result.words; printed = result.printed })
         (strips table.new heap.new output.new registers.new) }
 {
-    let a = run(
+    RunAnswer::from(run::run(
         source,
         table,
         limits.budget,
@@ -254,15 +343,7 @@ pub extern "C" fn engine_run(
         output,
         registers,
         tape,
-    );
-    RunAnswer {
-        number: a.number,
-        position: a.position,
-        steps: a.steps,
-        climbs: a.climbs,
-        words: a.words,
-        printed: a.printed,
-    }
+    ))
 }
 
 // The operation Join.
@@ -330,32 +411,15 @@ pub extern "C" fn engine_run_frames(
           strips = record { heap = heap.new; output = output.new; registers = registers.new; stack = stack.new };
         }) }
 {
-    let own = player::run::Limits {
-        budget: limits.budget,
-        calls: limits.calls,
-        price: limits.price,
-    };
-    let end = player::run::run(frames, own, heap, output, registers, tape, stack);
-    let p = end.pause;
-    let pause = FrameRecord {
-        line: p.line,
-        height: p.height,
-        calls: p.calls,
-        words: p.words,
-        printed: p.printed,
-        tape: p.tape,
-        marks: p.marks,
-        frames: p.frames,
-        unspent: p.unspent,
-    };
-    FramesAnswer {
-        number: end.number,
-        position: end.position,
-        frames: end.frames,
-        words: end.words,
-        printed: end.printed,
-        pause,
-    }
+    FramesAnswer::from(player::run::run(
+        frames,
+        limits.into(),
+        heap,
+        output,
+        registers,
+        tape,
+        stack,
+    ))
 }
 
 // A further part of a run of frames.
@@ -403,43 +467,14 @@ pub extern "C" fn engine_continue_frames(
           strips = record { heap = heap.new; output = output.new; registers = registers.new; stack = stack.new };
         }) }
 {
-    let own = player::run::Limits {
-        budget: limits.budget,
-        calls: limits.calls,
-        price: limits.price,
-    };
-    let own_record = Record {
-        line: from.line,
-        height: from.height,
-        calls: from.calls,
-        words: from.words,
-        printed: from.printed,
-        tape: from.tape,
-        marks: from.marks,
-        frames: from.frames,
-        unspent: from.unspent,
-    };
-    let end = player::run::resume(
-        frames, own, heap, output, registers, tape, stack, own_record,
-    );
-    let p = end.pause;
-    let pause = FrameRecord {
-        line: p.line,
-        height: p.height,
-        calls: p.calls,
-        words: p.words,
-        printed: p.printed,
-        tape: p.tape,
-        marks: p.marks,
-        frames: p.frames,
-        unspent: p.unspent,
-    };
-    FramesAnswer {
-        number: end.number,
-        position: end.position,
-        frames: end.frames,
-        words: end.words,
-        printed: end.printed,
-        pause,
-    }
+    FramesAnswer::from(player::run::resume(
+        frames,
+        limits.into(),
+        heap,
+        output,
+        registers,
+        tape,
+        stack,
+        from.into(),
+    ))
 }
