@@ -212,17 +212,17 @@ pub struct FrameRecord {
 impl From<Record> for FrameRecord {
     ghost from_gives = { λ r lent. lent ≡ record { line = r.line; height = r.height; calls = r.calls; words = r.words; printed = r.printed; tape = r.tape; marks = r.marks; frames = r.frames; unspent = r.unspent } };
 
-    fn from(record: Record) -> FrameRecord {
+    fn from(own: Record) -> FrameRecord {
         FrameRecord {
-            line: record.line,
-            height: record.height,
-            calls: record.calls,
-            words: record.words,
-            printed: record.printed,
-            tape: record.tape,
-            marks: record.marks,
-            frames: record.frames,
-            unspent: record.unspent,
+            line: own.line,
+            height: own.height,
+            calls: own.calls,
+            words: own.words,
+            printed: own.printed,
+            tape: own.tape,
+            marks: own.marks,
+            frames: own.frames,
+            unspent: own.unspent,
         }
     }
 }

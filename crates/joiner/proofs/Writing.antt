@@ -1,16 +1,12 @@
 -- What each return of the functions that size and write the text shows.
-use Prim.Native.Nat.{ℕ, suc, min, ◌+◌, ◌-◌, ◌*◌, ◌≤◌, ◌<◌}
+use Prim.Native.Nat.{ℕ, suc, ◌+◌, ◌-◌, ◌*◌, ◌≤◌, ◌<◌}
 use mathlib.Core.Path.{◌≡◌, refl, sym, ap, ◌∙◌, subst}
 use mathlib.Core.List.{List, [], ◌∷◌, ◌++◌, append_assoc}
 use mathlib.Core.Logic.{◌≢◌}
 use mathlib.Core.Bool.{Bool, true, false}
 use native.Mathlib.Omega.{arith}
-use lib.ListN.{length, set, take, drop, length-append, length-set, length-take, length-drop}
-use lib.Seq.{length-take-le}
-use Rattle.std.proofs.lemmas.List.{take-append-drop, take_all}
-use native.Mathlib.Decide.{dec_lt}
-use borrow.Rule.Slice.PartMut.{put_mid}
-use Rattle.std.specs.List.{slice_range}
+use lib.ListN.{length, get_or, set, take, drop, length-append, length-set, length-take, length-drop}
+use lib.Seq.{take-add, take-length, length-take-le, get_or-take, get_or-drop, drop-cons}
 use borrow.Author.Tests.{lt-ltb, le-ltb}
 use Rattle.base.specs.promises.Table.{col, c_start, c_next}
 use Rattle.lexer.specs.Bytes.{b_line_feed}
@@ -82,47 +78,42 @@ unfolding overlay
 overlay-long [] strip p = refl
 overlay-long (x ∷ xs) strip p = overlay-long xs (set strip p x) (p + 1) ∙ length-set strip p x
 
--- bytes written from the front on
-pub front : (xs pre rest : List ℕ) → length xs ≤ length rest → overlay (pre ++ rest) (length pre) xs ≡ pre ++ (xs ++ drop (length xs) rest)
-unfolding overlay
-front [] pre rest l = refl
-front (x ∷ xs) pre [] l = absurd (omega arith)
-front (x ∷ xs) pre (r ∷ rest) l =
-    let n : length pre + 1 ≡ length (pre ++ x ∷ []) = omega (arith, length-append pre (x ∷ [])) in
-    let one : set (pre ++ r ∷ rest) (length pre) x ≡ (pre ++ x ∷ []) ++ rest = put-at pre in
-    (λ j. overlay (one j) (n j) xs) ∙ front xs (pre ++ x ∷ []) rest (omega arith) ∙ append_assoc pre (x ∷ []) (xs ++ drop (length xs) rest)
-  where
-    put-at : (pre : List ℕ) → set (pre ++ r ∷ rest) (length pre) x ≡ (pre ++ x ∷ []) ++ rest
-    put-at [] = refl
-    put-at (p ∷ pre) = ap (λ (l : List ℕ). p ∷ l) (put-at pre)
+-- after i turns the first i bytes were written
+pub record Copied (bytes : List ℕ) (from end : ℕ) (before : List ℕ) (place : ℕ) (strip : List ℕ) (i : ℕ) : Type 0 where
+  pub within : i ≤ part_size_lem (length bytes) from end
+  pub long : length strip ≡ length before
+  pub is : strip ≡ overlay before place (take i (slice from end bytes))
 
--- bytes in the place of those that lay there
-pub overlay-mid : (before xs : List ℕ) (place n : ℕ) → n ≡ length xs → place + length xs ≤ length before
-    → put_mid place n before xs ≡ overlay before place xs
-overlay-mid before xs place n e l =
-    let long : length (take place before) ≡ place = length-take-le place before (omega arith) in
-    let room : length xs ≤ length (drop place before) = omega (arith, length-drop place before) in
-    ap (λ (k : ℕ). take place before ++ (xs ++ drop k (drop place before))) e
-    ∙ sym (front xs (take place before) (drop place before) room)
-    ∙ (λ j. overlay (take-append-drop place before j) (long j) xs)
+module _ (bytes : List ℕ) (from end : ℕ) (before : List ℕ) (place : ℕ) where
+  pub copied_none : Copied bytes from end before place before 0
+  unfolding overlay
+  copied_none = record { within = omega arith; long = refl; is = refl }
 
--- what lies from one position up to another ends with the bytes
-pub slice-short : (bytes : List ℕ) (from end m : ℕ) → m ≡ min end (length bytes) → slice_range bytes from m ≡ slice from end bytes
-slice-short bytes from end m e =
-    let rest = drop from bytes in
-    let long = length-drop from bytes in
-    elim (dec_lt (length bytes) end) [
-      | yes l ↦ take_all (m - from) rest (omega (arith, long)) ∙ sym (take_all (end - from) rest (omega (arith, long)))
-      | no l ↦ let z : m ≡ end = omega arith in ap (λ (k : ℕ). take (k - from) rest) z
-    ]
+  pub copied_more : {strip : List ℕ} {i : ℕ} → i < part_size_lem (length bytes) from end → Copied bytes from end before place strip i
+      → Copied bytes from end before place (set strip (place + i) (get_or bytes (from + i) 0)) (i + 1)
+  unfolding overlay
+  copied_more {strip} {i} l c =
+      let xs = slice from end bytes in
+      let n = part-long from end bytes in
+      let y : get_or xs i 0 ≡ get_or bytes (from + i) 0 = get_or-take (end - from) (drop from bytes) i 0 (omega arith) ∙ get_or-drop from bytes i 0
+      in
+      let one : take 1 (drop i xs) ≡ get_or xs i 0 ∷ [] = ap (take 1) (drop-cons xs i 0 (omega (arith, n))) in
+      let front : take (i + 1) xs ≡ take i xs ++ get_or bytes (from + i) 0 ∷ [] =
+      take-add i 1 xs ∙ ap (λ (l : List ℕ). take i xs ++ l) (one ∙ ap (λ (z : ℕ). z ∷ []) y) in
+      let long : length (take i xs) ≡ i = length-take-le i xs (omega (arith, n)) in
+      record {
+        within = omega arith;
+        long = length-set strip (place + i) (get_or bytes (from + i) 0) ∙ c.long;
+        is = (λ j. set (c.is j) (place + sym long j) (get_or bytes (from + i) 0))
+            ∙ sym (overlay-append (take i xs) (get_or bytes (from + i) 0 ∷ []) before place) ∙ ap (overlay before place) (sym front);
+      }
 
--- nothing lies there
-pub slice-none : (bytes : List ℕ) (from end m : ℕ) → m ≡ min end (length bytes) → m < from → slice from end bytes ≡ []
-slice-none bytes from end m e l = nil (slice from end bytes) (omega (arith, part-long from end bytes))
-  where
-    nil : (xs : List ℕ) → length xs ≡ 0 → xs ≡ []
-    nil [] z = refl
-    nil (x ∷ xs) z = absurd (omega arith)
+  pub copied_all : {strip : List ℕ} {i : ℕ} → part_size_lem (length bytes) from end ≤ i → Copied bytes from end before place strip i
+      → Overlaid before place (slice from end bytes) strip
+  copied_all {strip} {i} l c =
+      let xs = slice from end bytes in
+      let z : i ≡ length xs = omega (arith, c.within, part-long from end bytes) in
+      record { is = c.is ∙ ap (overlay before place) (ap (λ (n : ℕ). take n xs) z ∙ take-length xs) }
 
 pub class-written : (lib tab : List ℕ) (n row next place : ℕ) (before : List ℕ) {from end b u : ℕ} {strip after : List ℕ}
     → from ≡ col tab c_start (row - 1) → end ≡ end_before_lem tab n next → Overlaid before place (slice from end lib) strip

@@ -75,8 +75,10 @@ pub fn copy(bytes: &[u8], from: usize, end: usize, strip: &mut [u8], place: usiz
     requires { place + part_size_lem (length bytes.now) from end ≤ length strip.old }
     ensures { Overlaid strip.old place (slice from end bytes.now) strip.new }
 {
-    if let Some(part) = bytes.get(from..end.min(bytes.len())) {
-        strip[place..place + part.len()].copy_from_slice(part);
+    // Byte by byte: `copy_from_slice` calls memmove, and the library calls nothing but memset (include/engine.h).
+    let count = part_size(bytes.len(), from, end);
+    for i in 0..count {
+        strip[place + i] = bytes[from + i];
     }
 }
 

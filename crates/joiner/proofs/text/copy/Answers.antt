@@ -1,26 +1,13 @@
--- `copy` meets its contract: the part lies in the place of as many bytes, or nothing is to be copied.
-use Rattle.std.proofs.Common.{◌≡◌, ◌∙◌, ap, sym, length, arith, inl, inr}
-use Rattle.joining.specs.Join.{slice}
-use Rattle.joiner.specs.promises.Texts.{overlay}
-use Rattle.joiner.proofs.Writing.{overlay-mid, slice-short, slice-none, part-long}
+-- `copy` meets its contract: after i turns the first i bytes were written.
+use native.Mathlib.Omega.{arith}
+use Rattle.joiner.proofs.Writing.{copied_none, copied_more, copied_all}
 use Rattle.joiner.proofs.text.copy.Goals as goal
 
-pub returns-in-Some : goal.returns-in-Some
-returns-in-Some c =
-    let a = c.args in
-    let part = slice a.from a.end a.bytes.now in
-    let e : c.copy_from_slice.new.self ≡ part =
-    c.copy_from_slice.ensures.after ∙ c.in-Some.ensures.lookup.0.2 ∙ slice-short a.bytes.now a.from a.end _ c.min.ensures in
-    let long : length c.in-Some.part.now ≡ length part = ap length (c.in-Some.ensures.lookup.0.2 ∙ slice-short a.bytes.now a.from a.end _ c.min.ensures) in
-    record {
-      is = rw e (overlay-mid a.strip.now part a.place _ (omega arith) (omega (arith, part-long a.from a.end a.bytes.now)));
-    }
+pub loop-i-init : goal.loop-i-init
+loop-i-init c = copied_none _ _ _ _ _
 
-pub returns-in_default : goal.returns-in_default
-unfolding overlay
-returns-in_default c =
-    let a = c.args in
-    elim c.in_default.ensures.lookup.0 [
-      | inl l ↦ record { is = sym (ap (overlay a.strip.now a.place) (slice-none a.bytes.now a.from a.end _ c.min.ensures l)) }
-      | inr l ↦ absurd (omega arith)
-    ]
+pub loop-i-preserved : goal.loop-i-preserved
+loop-i-preserved c = copied_more _ _ _ _ _ (omega (arith, c.loop-i-test.true, c.part_size-count.ensures.0)) c.loop-i.invariant
+
+pub returns : goal.returns
+returns c = copied_all _ _ _ _ _ (omega (arith, c.loop-i-test.false, c.part_size-count.ensures.0)) c.loop-i.invariant
