@@ -78,6 +78,20 @@ unfolding overlay
 overlay-long [] strip p = refl
 overlay-long (x ∷ xs) strip p = overlay-long xs (set strip p x) (p + 1) ∙ length-set strip p x
 
+-- bytes written from the front on
+pub front : (xs pre rest : List ℕ) → length xs ≤ length rest → overlay (pre ++ rest) (length pre) xs ≡ pre ++ (xs ++ drop (length xs) rest)
+unfolding overlay
+front [] pre rest l = refl
+front (x ∷ xs) pre [] l = absurd (omega arith)
+front (x ∷ xs) pre (r ∷ rest) l =
+    let n : length pre + 1 ≡ length (pre ++ x ∷ []) = omega (arith, length-append pre (x ∷ [])) in
+    let one : set (pre ++ r ∷ rest) (length pre) x ≡ (pre ++ x ∷ []) ++ rest = put-at pre in
+    (λ j. overlay (one j) (n j) xs) ∙ front xs (pre ++ x ∷ []) rest (omega arith) ∙ append_assoc pre (x ∷ []) (xs ++ drop (length xs) rest)
+  where
+    put-at : (pre : List ℕ) → set (pre ++ r ∷ rest) (length pre) x ≡ (pre ++ x ∷ []) ++ rest
+    put-at [] = refl
+    put-at (p ∷ pre) = ap (λ (l : List ℕ). p ∷ l) (put-at pre)
+
 -- after i turns the first i bytes were written
 pub record Copied (bytes : List ℕ) (from end : ℕ) (before : List ℕ) (place : ℕ) (strip : List ℕ) (i : ℕ) : Type 0 where
   pub within : i ≤ part_size_lem (length bytes) from end
