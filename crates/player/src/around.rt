@@ -1,6 +1,4 @@
 // What does not change in a run: the text of its frames, the tape and the call limit.
-ghost use Rattle.std.specs.Prelude.{◌≤◌};
-ghost use Rattle.base.specs.Codes.{calls_most};
 ghost use Rattle.player.specs.promises.Reading.{Counted};
 
 use crate::lines::{DECODED, Line};
@@ -14,5 +12,4 @@ pub struct Around<'a> {
     pub tape: &'a [u8],
     pub limit: usize,
     pub ghost counted: { Counted text.now decoded.now count },
-    pub ghost most: { limit ≤ calls_most },
 }

@@ -108,7 +108,7 @@ pub fn call(
     m: Machine,
     x: u32,
 ) -> Result<Machine, Option<Reason>>
-    requires { Stands m stack.old × (m.words ≤ length heap.now) }
+    requires { Stands m stack.old × (m.words ≤ length heap.now) × (around.limit ≤ calls_most) }
     ensures { OnCall around.entry.text.now around.entry.limit x m stack.old stack.new heap.now result }
 {
     let n = (x % COUNTS) as usize;

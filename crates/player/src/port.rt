@@ -25,7 +25,7 @@ pub fn print(
     stack: &[u64],
     output: &mut [i32],
     m: Machine,
-    x: u32,
+    x: u64,
 ) -> Result<Machine, Option<Reason>>
     requires { Stands m stack.now × (m.printed < many_lines) }
     ensures { OnOutput do_print x m stack.now output.old output.new result }
@@ -48,7 +48,7 @@ pub fn send(
     stack: &[u64],
     registers: &mut [u8],
     m: Machine,
-    x: u32,
+    x: u64,
 ) -> Result<Machine, Option<Reason>>
     requires { Stands m stack.now × (length registers.old ≡ registers_count) }
     ensures { OnPort do_put x m stack.now stack.now registers.old registers.new result }
@@ -75,7 +75,7 @@ pub fn receive(
     stack: &mut [u64],
     registers: &mut [u8],
     m: Machine,
-    x: u32,
+    x: u64,
 ) -> Result<Machine, Option<Reason>>
     requires { Stands m stack.old × (length registers.old ≡ registers_count) }
     ensures { OnPort do_get x m stack.old stack.new registers.old registers.new result }
@@ -109,7 +109,7 @@ fn sampled(tape: &[u8], registers: &mut [u8], taken: usize) -> usize
 }
 
 // 00 mark.
-pub fn mark(tape: &[u8], registers: &mut [u8], m: Machine, x: u32) -> Machine
+pub fn mark(tape: &[u8], registers: &mut [u8], m: Machine, x: u64) -> Machine
     requires { (m.line < many_lines) × (m.marks ≤ 99) × (length registers.old ≡ registers_count)
         × (registers_of (held_in registers.old 0) ≡ registers.old) }
     ensures { Marks x tape.now m registers.old registers.new result }

@@ -82,7 +82,7 @@ pub fn save(
 }
 
 // 04 self.
-pub fn receiver(stack: &mut [u64], m: Machine, x: u32) -> Result<Machine, Option<Reason>>
+pub fn receiver(stack: &mut [u64], m: Machine, x: u64) -> Result<Machine, Option<Reason>>
     requires { Stands m stack.old × (m.calls ≤ calls_most) }
     ensures { OnStack do_self x m stack.old stack.new result }
 {
@@ -99,7 +99,7 @@ pub fn receiver(stack: &mut [u64], m: Machine, x: u32) -> Result<Machine, Option
 }
 
 // 06 return.
-pub fn back(stack: &[u64], m: Machine, x: u32) -> Result<Machine, Option<Reason>>
+pub fn back(stack: &[u64], m: Machine, x: u64) -> Result<Machine, Option<Reason>>
     requires { Stands m stack.now × (m.calls ≤ calls_most) }
     ensures { OnStack do_return x m stack.now stack.now result }
 {

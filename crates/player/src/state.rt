@@ -58,7 +58,7 @@ pub fn last_call(m: Machine) -> Result<usize, Reason>
 }
 
 // 70 where a frame that takes no operand has one.
-pub fn no_operand(x: u32) -> Result<(), Reason>
+pub fn no_operand(x: u64) -> Result<(), Reason>
     ensures { NoOperand x result }
 {
     if 0 < x {
