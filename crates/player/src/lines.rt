@@ -28,7 +28,7 @@ pub struct Line {
 const ENTRY: u8 = 22;
 
 // What a lower-case hexadecimal digit stands for.
-fn digit(b: u8) -> Option<u8>
+pub fn digit(b: u8) -> Option<u8>
     ensures { (unwrap_or result 16 ≡ digit_or b) × IfSome result (λ d. d < 16) }
 {
     match b {
@@ -39,7 +39,7 @@ fn digit(b: u8) -> Option<u8>
 }
 
 // The number that `count` digits from `at` on say, highest first.
-fn digits(text: &[u8], at: usize, count: usize) -> Option<u32>
+pub fn digits(text: &[u8], at: usize, count: usize) -> Option<u32>
     requires { (at + count ≤ length text.now) × (count ≤ 8) }
     ensures { unwrap_or result 4294967296 ≡ number_or text.now at count }
 {
@@ -51,7 +51,7 @@ fn digits(text: &[u8], at: usize, count: usize) -> Option<u32>
 }
 
 // The line from a byte on, where it is of the form.
-fn line_at(text: &[u8], at: usize) -> Option<Line>
+pub fn line_at(text: &[u8], at: usize) -> Option<Line>
     requires { at ≤ length text.now }
     ensures { LineAt text.now at result }
 {
