@@ -2,13 +2,18 @@
 use Prim.Native.Nat.{ℕ, ◌+◌, ◌/◌}
 use mathlib.Core.Bool.{Bool, true, false}
 use mathlib.Core.List.{List}
+use mathlib.Core.Option.{Option}
 use mathlib.Core.Path.{◌≡◌, refl, sym, ap, ap₂, ◌∙◌}
 use lib.IntN.{ℤ}
 use lib.ListN.{length}
 use Rattle.std.specs.Prelude.{Ok, Err}
+use Rattle.base.specs.Choice.{option}
+use Rattle.base.specs.Outcome.{Outcome}
+use Rattle.base.specs.declared.refusal.Reason.{Reason}
 use Rattle.base.specs.declared.refusal.Refusal.{Refusal}
 use Rattle.base.specs.promises.Refusals.{number_of}
 use Rattle.device.specs.promises.Holding.{held_in, registers_of}
+use Rattle.frames.specs.Lines.{Line, lines}
 use Rattle.frames.specs.Operations as Operations
 use Rattle.frames.specs.Operations.{Strips, answer, begins, going_on, run, continue}
 use Rattle.frames.specs.Parts.{run_frames}
@@ -18,12 +23,12 @@ use Rattle.player.specs.declared.run.Answer.{Answer}
 use Rattle.player.specs.declared.run.Limits.{Limits}
 use Rattle.player.specs.declared.run.Record.{Record}
 use Rattle.player.specs.declared.state.Machine.{Machine}
-use Rattle.player.specs.promises.Reading.{lines_in}
+use Rattle.player.specs.promises.Reading.{lines_in, Form}
 use Rattle.player.specs.promises.Turning.{state_of}
 use Rattle.player.specs.promises.Running.{Ran, around_in}
 use Rattle.player.specs.Answering.{answer_of, strips_of, limits_of_lem, record_from, Runs, Continues}
-use Rattle.player.specs.promises.Ending.{started_from, refusal_of, Fits, EndsAs, Parted}
-use Rattle.player.specs.promises.Ending.{Admits, Begun, GoesOn}
+use Rattle.player.specs.promises.Ending.{started_from, refusal_of, Lent, Fits, EndsAs, Parted}
+use Rattle.player.specs.promises.Ending.{Begun, GoesOn}
 use Rattle.player.proofs.Lining.{lines-length}
 use Rattle.player.proofs.Tests.{yes-is, no-is}
 
@@ -80,41 +85,76 @@ module _ {text tape : List ℕ} {l : Limits} {p : Record} {heap output : List �
 
 -- THE OPERATIONS
 
-module _ {text tape : List ℕ} {decoded : List OwnLine} {l : Limits} {heap output : List ℤ} {registers stack : List ℕ} {a : Answer} where
-  pub run-refused : {e : Refusal} → Admits text decoded l (length heap) (length registers) (length stack) (Err e)
-      → a ≡ refusal_of (number_of e.reason) e.position
+module _ {text tape : List ℕ} {l : Limits} {heap output : List ℤ} {registers stack : List ℕ} {a : Answer} where
+  pub run-refused : {e : Reason} → Lent l (length heap) (length registers) (length stack) (Err e) → a ≡ refusal_of (number_of e) 0
       → Runs text tape l (strips_of heap output registers stack) (strips_of heap output registers stack) a
   unfolding run
   run-refused {e} w q =
       let m = strips_of heap output registers stack in
       record {
         is = ap (λ (a : Answer). answer_of a m) q
-            ∙ sym (w.refuses e refl m refl refl refl (λ x. begins x tape (limits_of_lem l) m) λ n p. refl);
+            ∙ sym (ap (λ (o : Option ℕ). option o (begins (lines text) tape (limits_of_lem l) m) λ n. Operations.refusal n 0 m)
+            (w.says m refl refl refl));
       }
 
-  pub run-begun : {m : Strips} {u : Unit {0}} → Admits text decoded l (length heap) (length registers) (length stack) (Ok u)
-      → Begun text tape l (strips_of heap output registers stack) m a
+  pub run-form : {decoded : List OwnLine} {u : Unit {0}} {e : Refusal} → Lent l (length heap) (length registers) (length stack) (Ok u)
+      → Form text decoded (Err e) → a ≡ refusal_of (number_of e.reason) e.position
+      → Runs text tape l (strips_of heap output registers stack) (strips_of heap output registers stack) a
+  unfolding run
+  run-form {decoded} {u} {e} w f q =
+      let m = strips_of heap output registers stack in
+      record {
+        is = ap (λ (a : Answer). answer_of a m) q
+            ∙ sym (ap₂ (λ (o : Option ℕ) (x : Outcome (List Line)). option o (begins x tape (limits_of_lem l) m) λ n. Operations.refusal n 0 m)
+            (w.says m refl refl refl) (f.other e refl));
+      }
+
+  pub run-begun : {decoded : List OwnLine} {m : Strips} {u v : Unit {0}} → Lent l (length heap) (length registers) (length stack) (Ok u)
+      → Form text decoded (Ok v) → Begun text tape l (strips_of heap output registers stack) m a
       → Runs text tape l (strips_of heap output registers stack) m a
   unfolding run
-  run-begun {m} {u} w v =
+  run-begun {decoded} {m} {u} {v} w f g =
       let b = strips_of heap output registers stack in
-      record { is = v.is ∙ sym (w.admits u refl b refl refl refl λ x. begins x tape (limits_of_lem l) b) }
+      record {
+        is = g.is
+            ∙ sym (ap₂ (λ (o : Option ℕ) (x : Outcome (List Line)). option o (begins x tape (limits_of_lem l) b) λ n. Operations.refusal n 0 b)
+            (w.says b refl refl refl) (f.fine v refl).lines);
+      }
 
-  pub resume-refused : {p : Record} {e : Refusal} → Admits text decoded l (length heap) (length registers) (length stack) (Err e)
-      → a ≡ refusal_of (number_of e.reason) e.position
+  pub resume-refused : {p : Record} {e : Reason} → Lent l (length heap) (length registers) (length stack) (Err e)
+      → a ≡ refusal_of (number_of e) 0
       → Continues text tape l p (strips_of heap output registers stack) (strips_of heap output registers stack) a
   unfolding continue
   resume-refused {p} {e} w q =
       let m = strips_of heap output registers stack in
       record {
         is = ap (λ (a : Answer). answer_of a m) q
-            ∙ sym (w.refuses e refl m refl refl refl (λ x. going_on x tape (limits_of_lem l) (record_from p) m) λ n p. refl);
+            ∙ sym (ap (λ (o : Option ℕ). option o (going_on (lines text) tape (limits_of_lem l) (record_from p) m) λ n.
+            Operations.refusal n 0 m) (w.says m refl refl refl));
       }
 
-  pub resumed : {p : Record} {m : Strips} {u : Unit {0}} → Admits text decoded l (length heap) (length registers) (length stack) (Ok u)
-      → GoesOn text tape l p (strips_of heap output registers stack) m a
+  pub resume-form : {p : Record} {decoded : List OwnLine} {u : Unit {0}} {e : Refusal}
+      → Lent l (length heap) (length registers) (length stack) (Ok u)
+      → Form text decoded (Err e) → a ≡ refusal_of (number_of e.reason) e.position
+      → Continues text tape l p (strips_of heap output registers stack) (strips_of heap output registers stack) a
+  unfolding continue
+  resume-form {p} {decoded} {u} {e} w f q =
+      let m = strips_of heap output registers stack in
+      record {
+        is = ap (λ (a : Answer). answer_of a m) q
+            ∙ sym (ap₂ (λ (o : Option ℕ) (x : Outcome (List Line)). option o (going_on x tape (limits_of_lem l) (record_from p) m) λ n.
+            Operations.refusal n 0 m) (w.says m refl refl refl) (f.other e refl));
+      }
+
+  pub resumed : {p : Record} {decoded : List OwnLine} {m : Strips} {u v : Unit {0}}
+      → Lent l (length heap) (length registers) (length stack) (Ok u)
+      → Form text decoded (Ok v) → GoesOn text tape l p (strips_of heap output registers stack) m a
       → Continues text tape l p (strips_of heap output registers stack) m a
   unfolding continue
-  resumed {p} {m} {u} w v =
+  resumed {p} {decoded} {m} {u} {v} w f g =
       let b = strips_of heap output registers stack in
-      record { is = v.is ∙ sym (w.admits u refl b refl refl refl λ x. going_on x tape (limits_of_lem l) (record_from p) b) }
+      record {
+        is = g.is
+            ∙ sym (ap₂ (λ (o : Option ℕ) (x : Outcome (List Line)). option o (going_on x tape (limits_of_lem l) (record_from p) b) λ n.
+            Operations.refusal n 0 b) (w.says b refl refl refl) (f.fine v refl).lines);
+      }

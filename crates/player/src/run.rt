@@ -1,8 +1,8 @@
 // The operations: a run from its begin, and one that goes on from a record.
-ghost use Rattle.std.specs.Prelude.{◌≡◌, ◌+◌, ◌/◌, ◌≤◌, ◌<◌, leb, length};
+ghost use Rattle.std.specs.Prelude.{◌≡◌, ◌+◌, ◌/◌, ◌≤◌, ◌<◌, leb};
 ghost use Rattle.player.specs.Answering.{Runs, Continues, strips_of};
 ghost use Rattle.player.specs.promises.Ending.{far_line, started_from, recorded_of, none_of, refusal_of, is_price, Lent, Fits, Answered};
-ghost use Rattle.player.specs.promises.Ending.{EndsAs, PartFrom, Parted, Cleared, Admits, Admitted, Begun, GoesOn};
+ghost use Rattle.player.specs.promises.Ending.{EndsAs, PartFrom, Parted, Cleared, Admitted, Begun, GoesOn};
 ghost use Rattle.base.specs.promises.Refusals.{number_of};
 ghost use Rattle.frames.specs.Numbers.{budget_most, values_from};
 
@@ -14,10 +14,10 @@ use base::bounds::{CALLS_MOST, HEAP_MOST};
 use base::refusal::{Reason, Refusal};
 use device::state::{REGISTERS, show};
 
-// The bounds of what is lent, and of all that a run can spend.
 // The number of a pause.
 const BUDGET_SPENT: u32 = Reason::BudgetSpent as u32;
 
+// The bounds of what is lent, and of all that a run can spend.
 const STACK_LEAST: usize = 140000;
 
 const MARKS_MOST: usize = 99;
@@ -314,27 +314,6 @@ fn go_on(
     )
 }
 
-// What is refused before anything is touched; else the first lines are decoded.
-fn admit(
-    text: &[u8],
-    decoded: &mut [Line; DECODED],
-    limits: Limits,
-    heap: usize,
-    registers: usize,
-    stack: usize,
-) -> Result<(), Refusal>
-    requires { length decoded.old ≡ 8192 }
-    ensures { Admits text.now decoded.new limits heap registers stack result }
-{
-    if let Err(reason) = fit(limits, heap, registers, stack) {
-        return Err(Refusal {
-            reason,
-            position: 0,
-        });
-    }
-    form(text, decoded)
-}
-
 // A run from its begin.
 pub fn run(
     text: &[u8],
@@ -349,15 +328,14 @@ pub fn run(
         (strips_of heap.old output.old registers.old stack.old)
         (strips_of heap.new output.new registers.new stack.new) result }
 {
+    if let Err(reason) = fit(limits, heap.len(), registers.len(), stack.len()) {
+        return refused(Refusal {
+            reason,
+            position: 0,
+        });
+    }
     let mut decoded = [Line::default(); DECODED];
-    if let Err(refusal) = admit(
-        text,
-        &mut decoded,
-        limits,
-        heap.len(),
-        registers.len(),
-        stack.len(),
-    ) {
+    if let Err(refusal) = form(text, &mut decoded) {
         return refused(refusal);
     }
     begin(text, &decoded, tape, limits, heap, output, registers, stack)
@@ -378,15 +356,14 @@ pub fn resume(
         (strips_of heap.old output.old registers.old stack.old)
         (strips_of heap.new output.new registers.new stack.new) result }
 {
+    if let Err(reason) = fit(limits, heap.len(), registers.len(), stack.len()) {
+        return refused(Refusal {
+            reason,
+            position: 0,
+        });
+    }
     let mut decoded = [Line::default(); DECODED];
-    if let Err(refusal) = admit(
-        text,
-        &mut decoded,
-        limits,
-        heap.len(),
-        registers.len(),
-        stack.len(),
-    ) {
+    if let Err(refusal) = form(text, &mut decoded) {
         return refused(refusal);
     }
     go_on(

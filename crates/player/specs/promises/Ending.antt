@@ -2,11 +2,10 @@
 use Rattle.std.specs.Prelude.{ℕ, ◌+◌, ◌*◌, ◌/◌, ◌≤◌, ◌<◌, ◌||◌, List, ◌≡◌, ℤ, pos, length, replicate, eqb, Bool, true, Result, Ok, Err}
 use Rattle.std.proofs.Math.Option.{Option, none, some}
 use Rattle.base.specs.declared.refusal.Reason.{Reason}
-use Rattle.base.specs.declared.refusal.Refusal.{Refusal}
 use Rattle.base.specs.promises.Refusals.{number_of}
-use Rattle.base.specs.Choice.{if◌then◌otherwise◌, option}
-use Rattle.base.specs.Outcome.{Outcome, accepted, refused}
-use Rattle.frames.specs.Lines.{Line, lines}
+use Rattle.base.specs.Choice.{if◌then◌otherwise◌}
+use Rattle.base.specs.Outcome.{accepted}
+use Rattle.frames.specs.Lines.{Line}
 use Rattle.frames.specs.Operations as Operations
 use Rattle.frames.specs.Operations.{Strips, answer, begins, going_on}
 use Rattle.frames.specs.Parts.{Report, run_frames}
@@ -141,18 +140,6 @@ pub record Admitted (text : List ℕ) (decoded : List OwnLine) (l : Limits) (reg
   pub paid : 1 ≤ l.price
   pub sixteen : length registers ≡ registers_count
   pub long : stack_least ≤ length stack
-
--- what is refused before anything is touched, whatever is done with the lines; else what is not refused
-pub record Admits (text : List ℕ) (decoded : List OwnLine) (l : Limits) (heap registers stack : ℕ) (r : Result (Unit {0}) Refusal) : Type 0 where
-  pub refuses : (e : Refusal) → r ≡ Err e → (m : Strips) → length m.heap ≡ heap → length m.registers ≡ registers → length m.stack ≡ stack
-      → (k : Outcome (List Line) → Operations.Answer) → ((n p : ℕ) → k (refused n p) ≡ Operations.refusal n p m)
-      → (option (Operations.unfit (limits_of_lem l) m) (k (lines text)) λ n. Operations.refusal n 0 m)
-      ≡ Operations.refusal (number_of e.reason) e.position m
-  pub admits : (u : Unit {0}) → r ≡ Ok u → (m : Strips) → length m.heap ≡ heap → length m.registers ≡ registers → length m.stack ≡ stack
-      → (k : Outcome (List Line) → Operations.Answer)
-      → (option (Operations.unfit (limits_of_lem l) m) (k (lines text)) λ n. Operations.refusal n 0 m) ≡ k (accepted (lines_in text))
-  pub given : (u : Unit {0}) → r ≡ Ok u
-      → Decoded text decoded × (l.calls ≤ calls_most) × (1 ≤ l.price) × (registers ≡ registers_count) × (stack_least ≤ stack)
 
 pub record Begun (text tape : List ℕ) (l : Limits) (m m' : Strips) (a : Answer) : Type 0 where
   pub is : answer_of a m' ≡ begins (accepted (lines_in text)) tape (limits_of_lem l) m
