@@ -9,8 +9,7 @@ loop-k-init c =
     λ r h. rw n at h
 
 pub returns-then-cell : goal.returns-then-cell
-returns-then-cell c =
-    c.loop-k.invariant _ (behind-end c.cell.ensures.0 c.if-cell.true)
+returns-then-cell c = c.loop-k.invariant _ (search behind-end)
 
 pub loop-k-preserved : goal.loop-k-preserved
 loop-k-preserved c = λ r h.
