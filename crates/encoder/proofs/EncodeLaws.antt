@@ -195,8 +195,7 @@ rows_long (k ∷ ks) i = ap suc (rows_long ks (end_methods k.methods i))
 module _ {tab : List ℕ} {tokens many : ℕ} {code entries : List ℕ} (w : Prepares tokens many tab (replicate 32768 255) code (replicate 2048 0) entries)
     {first : ℕ} (e₆ : first ≡ word_at tab c_next 0) {classes : List ℕ} (f : ClassesNumbered tab many first 0 (replicate 2049 2048) classes)
     {marks names : List ℕ} {methods : ℕ} (h : EachPost tab tokens many first 0 (replicate 2049 no_place) (replicate 8192 0) marks names methods)
-    {lines : ℕ} (b : BehindPost code 0 8192 lines) (few_classes : many ≤ 2048) (few_lines : lines ≤ 8192)
-    (few_methods : methods ≤ 4194304) where
+    {lines : ℕ} (b : BehindPost code 0 8192 lines) (few_classes : many ≤ 2048) where
   abbrev plan : Plan
   plan = record {
     tokens = tokens;
@@ -204,8 +203,6 @@ module _ {tab : List ℕ} {tokens many : ℕ} {code entries : List ℕ} (w : Pre
     lines = lines;
     methods = methods;
     few_classes = few_classes;
-    few_lines = few_lines;
-    few_methods = few_methods;
   }
 
   module _ (s : List ℕ) (g : Program) (C : Checked s g (found tokens many) tab) where

@@ -8,7 +8,7 @@ ghost use Rattle.base.specs.promises.Answers.{write_answer_of, write_result_of};
 ghost use Rattle.frames.specs.Operations.{Encodes};
 ghost use Rattle.encoder.specs.promises.Encoding.{PassPost, BothPost, WritesFrames};
 
-use crate::frame::{END, count, plain};
+use crate::frame::{END, behind, plain};
 use crate::names::{NONE, classes, each};
 use crate::plan::{Lesson, Plan};
 use crate::tables::tables;
@@ -30,15 +30,17 @@ const NAMES: usize = 8192;
 
 // All frames, where the strip reaches; the answer is how many bytes they have.
 fn pass(l: &Lesson, strip: &mut [u8]) -> usize
+    requires { Walkable l.now.table.now l.now.plan.tokens × (l.now.plan.lines ≤ 8192) × (l.now.plan.methods ≤ 4194304) }
     ensures { PassPost l.now.table.now l.now.code.now l.now.entries.now l.now.classes.now l.now.methods.now
         l.now.names.now l.now.plan strip.old strip.new result }
 {
-    let at = plain(l, strip);
-    tables(l, strip, at)
+    let at = plain(l, strip, 0, l.plan.lines, 0);
+    tables(l, strip, 0, l.plan.methods, at)
 }
 
 // Counts the bytes, with a strip to which nothing of them goes that is kept, and writes them where the strip is long enough.
 fn both(l: &Lesson, strip: &mut [u8]) -> Result<usize, Refusal>
+    requires { Walkable l.now.table.now l.now.plan.tokens × (l.now.plan.lines ≤ 8192) × (l.now.plan.methods ≤ 4194304) }
     ensures { BothPost l.now.table.now l.now.code.now l.now.entries.now l.now.classes.now l.now.methods.now
         l.now.names.now l.now.plan strip.old strip.new result }
 {
@@ -71,7 +73,7 @@ fn written(table: &[u32], strip: &mut [u8], tokens: usize, many: usize) -> Resul
     let plan = Plan {
         tokens,
         classes: many,
-        lines: count(&code),
+        lines: behind(&code, 0, ROOM),
         methods,
     };
     let l = Lesson {

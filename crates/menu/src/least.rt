@@ -31,6 +31,7 @@ fn mend(tree: &mut [u32; NODES], v: usize)
     ensures { Mended v tree.old tree.new }
 {
     let mut node = v;
+    // A while, since the node is halved from turn to turn: no count of an index.
     while node != 0 {
         let least = cell(tree, 2 * node).min(cell(tree, 2 * node + 1));
         put(tree, node, least);

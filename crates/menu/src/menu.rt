@@ -36,7 +36,7 @@ fn fill(table: &[u32], strip: &mut [u32], classes: usize) -> Result<usize, Refus
         classes,
         word(table, columns::NEXT, columns::CLASS_LIST),
     );
-    let unwritten = write(table, &mut tree, &first, &next, strip, classes);
+    let unwritten = write(table, &mut tree, &first, &next, strip, 0, classes);
     // Never: where each chain ends, each class is written.
     if unwritten != 0 {
         return Err(Refusal {

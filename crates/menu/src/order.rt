@@ -1,6 +1,6 @@
 // The order in which Menu writes: the classes that may stand are a set of rows, of which the least is the earliest in the lesson. When a
 // class is written, it leaves the set and its children join it.
-ghost use Rattle.std.specs.Prelude.{◌≤◌, ◌<◌, length};
+ghost use Rattle.std.specs.Prelude.{◌+◌, ◌≤◌, ◌<◌, length};
 ghost use Rattle.base.specs.promises.Table.{rows};
 ghost use Rattle.base.specs.Codes.{table_least};
 ghost use Rattle.base.specs.Word.{modulus};
@@ -72,25 +72,26 @@ fn free(tree: &mut [u32; NODES], next: &[u32], most: usize, row: usize)
     }
 }
 
-// Writes the positions of the names of classes into the first `classes` places of the strip. Answers how many of these may not stand.
+// Writes the positions of the names of `left` classes into the strip, from place i on. Answers how many of them may not stand.
 pub fn write(
     table: &[u32],
     tree: &mut [u32; NODES],
     first: &[u32],
     next: &[u32],
     strip: &mut [u32],
-    classes: usize,
+    i: usize,
+    left: usize,
 ) -> usize
-    requires { (table_least ≤ length table.now) × (classes ≤ length strip.old) }
-    ensures { StripWritten table.now tree.old first.now next.now 0 classes
+    requires { (table_least ≤ length table.now) × (i + left ≤ length strip.old) }
+    ensures { StripWritten table.now tree.old first.now next.now i left
         strip.old strip.new result }
 {
-    for i in 0..classes {
+    for k in i..i + left {
         let row = cell(tree, 1);
         if ABSENT <= row {
-            return classes - i;
+            return i + left - k;
         }
-        put(strip, i, word(table, columns::START, row));
+        put(strip, k, word(table, columns::START, row));
         remove(tree, row);
         free(tree, next, 2048, cell(first, row));
     }

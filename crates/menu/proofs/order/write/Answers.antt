@@ -4,16 +4,22 @@ use Rattle.menu.specs.promises.MenuPost.{StripWritten}
 use Rattle.menu.proofs.OrderLaws.{write-none, write-past, write-next}
 use Rattle.menu.proofs.order.write.Goals as goal
 
-pub returns-then-row-ge-ABSENT : goal.returns-then-row-ge-ABSENT
-returns-then-row-ge-ABSENT c = c.loop-i.invariant c.loop-i.strip _ (search (write-past, rules))
+pub loop-k-init : goal.loop-k-init
+loop-k-init c =
+    let all : c.args.i + c.args.left - c.args.i ≡ c.args.left = omega arith in
+    λ after r w. rw all at w
 
-pub loop-i-preserved : goal.loop-i-preserved
-loop-i-preserved c = λ after r w.
-    let fewer : c.args.classes - (c.loop-i.i + 1) ≡ c.args.classes - c.loop-i.i - 1 = omega arith in
+pub returns-then-row-ge-ABSENT : goal.returns-then-row-ge-ABSENT
+returns-then-row-ge-ABSENT c = c.loop-k.invariant c.loop-k.strip _ (search (write-past, rules))
+
+pub loop-k-preserved : goal.loop-k-preserved
+loop-k-preserved c = λ after r w.
+    let behind = c.args.i + c.args.left in
+    let fewer : behind - (c.loop-k.k + 1) ≡ behind - c.loop-k.k - 1 = omega arith in
     let rest =
-    subst (λ (k : ℕ). StripWritten c.args.table.now c.free.new.tree c.args.first.now c.args.next.now (c.loop-i.i + 1) k c.put.new.words after r)
+    subst (λ (n : ℕ). StripWritten c.args.table.now c.free.new.tree c.args.first.now c.args.next.now (c.loop-k.k + 1) n c.put.new.words after r)
     fewer w in
-    c.loop-i.invariant after r (search (write-next, rest, rules))
+    c.loop-k.invariant after r (search (write-next, rest, rules))
 
 pub returns : goal.returns
-returns c = c.loop-i.invariant c.loop-i.strip 0 (write-none (search rules))
+returns c = c.loop-k.invariant c.loop-k.strip 0 (write-none (search rules))
