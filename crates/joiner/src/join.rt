@@ -1,6 +1,6 @@
 // The operation Join of document 02, (x): a course library joined to a lesson in a lent byte strip.
 ghost use Rattle.std.specs.Prelude.{◌∷◌, ◌++◌, ◌+◌, ◌≤◌, length};
-ghost use Rattle.base.specs.Codes.{table_least};
+ghost use Rattle.base.specs.Codes.{table_least, source_most};
 ghost use Rattle.base.specs.Outcome.{accepted};
 ghost use Rattle.lexer.specs.Bytes.{b_line_feed};
 ghost use Rattle.joining.specs.Join.{join_result, joining, Joins};
@@ -15,13 +15,13 @@ use crate::sources::Sources;
 use crate::text::{copy, kept_size, write_kept};
 use base::bounds::TABLE_LEAST;
 use base::refusal::{Reason, Refusal};
-use lexer::bytes::byte_kinds;
 use reader::read::fill;
 
 // Writes the lesson, a line feed and the kept classes.
 fn write_text(s: &Sources, first: usize, strip: &mut [u8])
-    requires { length s.now.lesson.now + 1 + length (kept_from s.now.lesson.now s.now.names.now (length s.now.names.now) s.now.library.now
-        s.now.table.now s.now.n first classes_most) ≤ length strip.old }
+    requires { (length s.now.lesson.now ≤ source_most)
+        × (length s.now.lesson.now + 1 + length (kept_from s.now.lesson.now s.now.names.now (length s.now.names.now) s.now.library.now
+        s.now.table.now s.now.n first classes_most) ≤ length strip.old) }
     ensures { Overlaid strip.old 0
         (s.now.lesson.now ++ b_line_feed ∷ kept_from s.now.lesson.now s.now.names.now (length s.now.names.now) s.now.library.now
         s.now.table.now s.now.n first classes_most) strip.new }
@@ -34,6 +34,7 @@ fn write_text(s: &Sources, first: usize, strip: &mut [u8])
 
 // The text, where the strip is long enough.
 fn text(s: &Sources, first: usize, strip: &mut [u8]) -> Result<usize, Refusal>
+    requires { length s.now.lesson.now ≤ source_most }
     ensures { JoinAnswered (join_result (accepted (s.now.lesson.now ++ b_line_feed ∷
         kept_from s.now.lesson.now s.now.names.now (length s.now.names.now) s.now.library.now s.now.table.now s.now.n first classes_most))
         strip.old) result strip.new }
@@ -65,14 +66,12 @@ fn under(
     let count = keep(table, &mut names);
     match library::fill(library, table) {
         Ok((n, first)) => {
-            let kinds = byte_kinds();
             let s = Sources {
                 lesson,
                 names: &names[..count],
                 library,
                 table,
                 n,
-                kinds: &kinds,
             };
             text(&s, first, strip)
         }

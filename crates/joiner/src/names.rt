@@ -7,7 +7,7 @@ ghost use Rattle.base.specs.promises.Table.{rows};
 ghost use Rattle.base.specs.promises.Table as Table;
 ghost use Rattle.joiner.specs.promises.Names.{part_at, same_within_lem, taken_within_lem, name_room, farthest, classes_most, NamesKept};
 
-use lexer::bytes::is_name_part;
+use lexer::bytes::{byte_kinds, is_name_part};
 use parser::columns;
 
 // A source has at most so many classes, with main's: a class has four tokens or more.
@@ -50,12 +50,13 @@ fn same(a: &[u8], i: usize, b: &[u8], j: usize, kinds: &[u8; 256]) -> bool
 }
 
 // Whether the name at a position of the library is one of those of the lesson that are listed.
-pub fn taken(lesson: &[u8], names: &[u32], library: &[u8], at: usize, kinds: &[u8; 256]) -> bool
-    requires { RightTable kinds.now × (at < modulus) }
+pub fn taken(lesson: &[u8], names: &[u32], library: &[u8], at: usize) -> bool
+    requires { at < modulus }
     ensures { result ≡ taken_within_lem lesson.now names.now 0 (length names.now) library.now at }
 {
+    let kinds = byte_kinds();
     for own in names {
-        if same(lesson, *own as usize, library, at, kinds) {
+        if same(lesson, *own as usize, library, at, &kinds) {
             return true;
         }
     }

@@ -64,7 +64,7 @@ pub fn kept_size(s: &Sources, row: usize, left: usize) -> usize
     let next = word(s.table, columns::NEXT, row);
     let rest = kept_size(s, next, left - 1);
     let name = word(s.table, columns::START, row);
-    if taken(s.lesson, s.names, s.library, name, s.kinds) {
+    if taken(s.lesson, s.names, s.library, name) {
         return rest;
     }
     rest + own_size(s, row, next)
@@ -114,7 +114,7 @@ pub fn write_kept(s: &Sources, row: usize, left: usize, strip: &mut [u8], place:
     }
     let next = word(s.table, columns::NEXT, row);
     let name = word(s.table, columns::START, row);
-    if taken(s.lesson, s.names, s.library, name, s.kinds) {
+    if taken(s.lesson, s.names, s.library, name) {
         write_kept(s, next, left - 1, strip, place);
         return;
     }

@@ -40,6 +40,7 @@ fn member(lesson: &Lesson, strip: &mut [u8], row: usize, at: usize) -> usize
 // An expression in a place that wants this class: with a pair of parentheses where its own class is below.
 #[cycle(arguments_binary_dotted_element_enclosed_expression_form_given)]
 pub fn expression(lesson: &Lesson, strip: &mut [u8], wanted: u32, mut p: Job) -> usize
+    requires { (p.row < modulus) × (p.at ≤ text_room) }
     ensures { PartPut lesson.now.source.now lesson.now.table.now lesson.now.n Sort.expression wanted p strip.old
         strip.new result }
 {
@@ -60,7 +61,7 @@ pub fn expression(lesson: &Lesson, strip: &mut [u8], wanted: u32, mut p: Job) ->
 // The expression in a row, whose token is of kind k and the one two behind it of kind `third`.
 #[cycle(arguments_binary_dotted_element_enclosed_expression_form_given)]
 fn form(lesson: &Lesson, strip: &mut [u8], k: u32, third: u32, p: Job) -> usize
-    requires { (k ≡ kind_in_table lesson.now.table.now lesson.now.n p.row) ×
+    requires { (p.row < modulus) × (p.at ≤ text_room) × (k ≡ kind_in_table lesson.now.table.now lesson.now.n p.row) ×
         (third ≡ kind_in_table lesson.now.table.now lesson.now.n (p.row + 2)) }
     ensures { FormPut lesson.now.source.now lesson.now.table.now lesson.now.n (form_at lesson.now.table.now lesson.now.n p.row) p strip.old
         strip.new result }
@@ -96,6 +97,7 @@ fn form(lesson: &Lesson, strip: &mut [u8], k: u32, third: u32, p: Job) -> usize
 // An expression, and a mark behind it.
 #[cycle(arguments_binary_dotted_element_enclosed_expression_form_given)]
 pub fn enclosed(lesson: &Lesson, strip: &mut [u8], close: u8, p: Job) -> usize
+    requires { (p.row < modulus) × (p.at ≤ text_room) }
     ensures { EnclosedPut lesson.now.source.now lesson.now.table.now lesson.now.n close p strip.old strip.new result }
 {
     let a = expression(lesson, strip, ANY, p);
@@ -106,7 +108,7 @@ pub fn enclosed(lesson: &Lesson, strip: &mut [u8], close: u8, p: Job) -> usize
 // `.length` or a call.
 #[cycle(arguments_binary_dotted_element_enclosed_expression_form_given)]
 fn dotted(lesson: &Lesson, strip: &mut [u8], p: Job) -> usize
-    requires { kind_in_table lesson.now.table.now lesson.now.n p.row ≡ k_dot }
+    requires { (p.row < modulus) × (p.at ≤ text_room) × (kind_in_table lesson.now.table.now lesson.now.n p.row ≡ k_dot) }
     ensures { FormPut lesson.now.source.now lesson.now.table.now lesson.now.n (form_at lesson.now.table.now lesson.now.n p.row) p strip.old
         strip.new result }
 {
@@ -126,6 +128,7 @@ fn dotted(lesson: &Lesson, strip: &mut [u8], p: Job) -> usize
 // Arguments, and `)`.
 #[cycle(arguments_binary_dotted_element_enclosed_expression_form_given)]
 fn given(lesson: &Lesson, strip: &mut [u8], p: Job) -> usize
+    requires { (p.row < modulus) × (p.at ≤ text_room) }
     ensures { GivenPut lesson.now.source.now lesson.now.table.now lesson.now.n p strip.old strip.new result }
 {
     let a = arguments(lesson, strip, p);
@@ -135,6 +138,7 @@ fn given(lesson: &Lesson, strip: &mut [u8], p: Job) -> usize
 // An element of an array.
 #[cycle(arguments_binary_dotted_element_enclosed_expression_form_given)]
 fn element(lesson: &Lesson, strip: &mut [u8], p: Job) -> usize
+    requires { (p.row < modulus) × (p.at ≤ text_room) }
     ensures { FormPut lesson.now.source.now lesson.now.table.now lesson.now.n Form.an_element p strip.old strip.new result }
 {
     let a = expression(lesson, strip, INDEXED, lesson.part(columns::FIRST, p, p.at));
@@ -145,8 +149,8 @@ fn element(lesson: &Lesson, strip: &mut [u8], p: Job) -> usize
 // An operator of class w and its operands.
 #[cycle(arguments_binary_dotted_element_enclosed_expression_form_given)]
 fn binary(lesson: &Lesson, strip: &mut [u8], w: u32, p: Job) -> usize
-    requires { w ≡ tightness_of (kind_in_table lesson.now.table.now lesson.now.n p.row)
-        (kind_in_table lesson.now.table.now lesson.now.n (p.row + 2)) }
+    requires { (p.row < modulus) × (p.at ≤ text_room) × (w ≡ tightness_of (kind_in_table lesson.now.table.now lesson.now.n p.row)
+        (kind_in_table lesson.now.table.now lesson.now.n (p.row + 2))) }
     ensures { FormPut lesson.now.source.now lesson.now.table.now lesson.now.n Form.a_binary p strip.old strip.new result }
 {
     let a = expression(lesson, strip, w, lesson.part(columns::FIRST, p, p.at));
@@ -162,6 +166,7 @@ fn binary(lesson: &Lesson, strip: &mut [u8], w: u32, p: Job) -> usize
 // The arguments from a row on, commas between them.
 #[cycle(arguments_binary_dotted_element_enclosed_expression_form_given)]
 fn arguments(lesson: &Lesson, strip: &mut [u8], mut p: Job) -> usize
+    requires { (p.row < modulus) × (p.at ≤ text_room) }
     ensures { PartPut lesson.now.source.now lesson.now.table.now lesson.now.n Sort.arguments 0 p strip.old strip.new result }
 {
     if p.left == 0 || ABSENT <= p.row {

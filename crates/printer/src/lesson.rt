@@ -47,7 +47,7 @@ impl Lesson<'_> {
 
     // The part to which column k of a node's row leads, from a place on; it has at most as many nodes.
     pub fn part(&self, k: usize, p: Job, at: usize) -> Job
-        requires { (k < 8) × (at ≤ text_room) }
+        requires { k < 8 }
         ensures { PartReached self.now.table.now k p at result }
     {
         Job {

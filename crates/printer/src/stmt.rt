@@ -1,5 +1,6 @@
 // Statements. The answer is the place behind what is written.
-ghost use Rattle.std.specs.Prelude.{◌≡◌, ◌+◌, ◌≤◌};
+ghost use Rattle.std.specs.Prelude.{◌≡◌, ◌+◌, ◌≤◌, ◌<◌};
+ghost use Rattle.base.specs.Word.{modulus};
 ghost use Rattle.parser.specs.Tree.{Sort};
 ghost use Rattle.parser.specs.promises.Post.{kind_in_table};
 ghost use Rattle.lookup.specs.promises.Shows.{Form, form_s};
@@ -17,6 +18,7 @@ use parser::columns::ABSENT;
 
 // An expression, and `;`.
 pub fn value(lesson: &Lesson, strip: &mut [u8], p: Job) -> usize
+    requires { (p.row < modulus) × (p.at ≤ text_room) }
     ensures { ValuePut lesson.now.source.now lesson.now.table.now lesson.now.n p strip.old strip.new result }
 {
     let a = expression(lesson, strip, ANY, p);
@@ -25,6 +27,7 @@ pub fn value(lesson: &Lesson, strip: &mut [u8], p: Job) -> usize
 
 // An expression, `)` and `;`.
 fn finished(lesson: &Lesson, strip: &mut [u8], p: Job) -> usize
+    requires { (p.row < modulus) × (p.at ≤ text_room) }
     ensures { FinishedPut lesson.now.source.now lesson.now.table.now lesson.now.n p strip.old strip.new result }
 {
     let a = enclosed(lesson, strip, b')', p);
@@ -33,6 +36,7 @@ fn finished(lesson: &Lesson, strip: &mut [u8], p: Job) -> usize
 
 // A register put.
 fn port_put(lesson: &Lesson, strip: &mut [u8], p: Job) -> usize
+    requires { (p.row < modulus) × (p.at ≤ text_room) }
     ensures { StatementPut lesson.now.source.now lesson.now.table.now lesson.now.n Form.a_port_put p strip.old
         strip.new result }
 {
@@ -44,6 +48,7 @@ fn port_put(lesson: &Lesson, strip: &mut [u8], p: Job) -> usize
 
 // A name and its value.
 fn assigned(lesson: &Lesson, strip: &mut [u8], p: Job) -> usize
+    requires { (p.row < modulus) × (p.at ≤ text_room) }
     ensures { StatementPut lesson.now.source.now lesson.now.table.now lesson.now.n Form.an_assignment p strip.old
         strip.new result }
 {
@@ -54,6 +59,7 @@ fn assigned(lesson: &Lesson, strip: &mut [u8], p: Job) -> usize
 
 // An element of a named array and its value.
 fn store(lesson: &Lesson, strip: &mut [u8], p: Job) -> usize
+    requires { (p.row < modulus) × (p.at ≤ text_room) }
     ensures { StatementPut lesson.now.source.now lesson.now.table.now lesson.now.n Form.an_element_store p strip.old
         strip.new result }
 {
@@ -67,6 +73,7 @@ fn store(lesson: &Lesson, strip: &mut [u8], p: Job) -> usize
 // A statement.
 #[cycle(braced_branches_list_single_stated)]
 pub fn single(lesson: &Lesson, strip: &mut [u8], mut p: Job) -> usize
+    requires { (p.row < modulus) × (p.at ≤ text_room) }
     ensures { PartPut lesson.now.source.now lesson.now.table.now lesson.now.n Sort.statement 0 p strip.old strip.new result }
 {
     if p.left == 0 {
@@ -79,7 +86,7 @@ pub fn single(lesson: &Lesson, strip: &mut [u8], mut p: Job) -> usize
 // The statement in a row, whose token is of kind k.
 #[cycle(braced_branches_list_single_stated)]
 fn stated(lesson: &Lesson, strip: &mut [u8], k: u32, p: Job) -> usize
-    requires { k ≡ kind_in_table lesson.now.table.now lesson.now.n p.row }
+    requires { (p.row < modulus) × (p.at ≤ text_room) × (k ≡ kind_in_table lesson.now.table.now lesson.now.n p.row) }
     ensures { StatementPut lesson.now.source.now lesson.now.table.now lesson.now.n (form_s (kind_in_table lesson.now.table.now lesson.now.n p.row)
         (kind_in_table lesson.now.table.now lesson.now.n (p.row + 1))) p strip.old strip.new result }
 {
@@ -113,6 +120,7 @@ fn stated(lesson: &Lesson, strip: &mut [u8], k: u32, p: Job) -> usize
 // Statements, and `}`.
 #[cycle(braced_branches_list_single_stated)]
 pub fn braced(lesson: &Lesson, strip: &mut [u8], p: Job) -> usize
+    requires { (p.row < modulus) × (p.at ≤ text_room) }
     ensures { BracedPut lesson.now.source.now lesson.now.table.now lesson.now.n p strip.old strip.new result }
 {
     let a = list(lesson, strip, p);
@@ -133,6 +141,7 @@ fn branches(lesson: &Lesson, strip: &mut [u8], p: Job, at: usize) -> usize
 // The statements from a row on.
 #[cycle(braced_branches_list_single_stated)]
 pub fn list(lesson: &Lesson, strip: &mut [u8], mut p: Job) -> usize
+    requires { (p.row < modulus) × (p.at ≤ text_room) }
     ensures { PartPut lesson.now.source.now lesson.now.table.now lesson.now.n Sort.statements 0 p strip.old strip.new result }
 {
     if p.left == 0 || ABSENT <= p.row {

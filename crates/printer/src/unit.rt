@@ -1,5 +1,6 @@
 // Classes and the program. The answer is the place behind what is written.
-ghost use Rattle.std.specs.Prelude.{◌≤◌};
+ghost use Rattle.std.specs.Prelude.{◌≤◌, ◌<◌};
+ghost use Rattle.base.specs.Word.{modulus};
 ghost use Rattle.printer.specs.promises.Puts.{text_room};
 ghost use Rattle.printer.specs.promises.Units.{ClassPut, ClassesPut, ProgramPut, class_parent, class_head, class_members, whole_class};
 ghost use Rattle.printer.specs.promises.Units.{main_name_lem, main_parameter_lem, main_head_tokens};
@@ -21,6 +22,7 @@ const MAIN_PARAMETER: usize = 11;
 
 // `extends` and the parent's name, where there is one, and `{`.
 fn extended(lesson: &Lesson, strip: &mut [u8], p: Job) -> usize
+    requires { (p.row < modulus) × (p.at ≤ text_room) }
     ensures { ClassPut lesson.now.source.now lesson.now.table.now lesson.now.n class_parent p strip.old strip.new result }
 {
     let parent = lesson.word(columns::PARENT, p.row);
@@ -34,6 +36,7 @@ fn extended(lesson: &Lesson, strip: &mut [u8], p: Job) -> usize
 
 // A class up to its `{`.
 fn titled(lesson: &Lesson, strip: &mut [u8], mut p: Job) -> usize
+    requires { (p.row < modulus) × (p.at ≤ text_room) }
     ensures { ClassPut lesson.now.source.now lesson.now.table.now lesson.now.n class_head p strip.old strip.new result }
 {
     let a = spell(strip, p.at, b"class", b' ');
@@ -43,6 +46,7 @@ fn titled(lesson: &Lesson, strip: &mut [u8], mut p: Job) -> usize
 
 // The fields, the methods and `}`.
 fn members(lesson: &Lesson, strip: &mut [u8], p: Job) -> usize
+    requires { (p.row < modulus) × (p.at ≤ text_room) }
     ensures { ClassPut lesson.now.source.now lesson.now.table.now lesson.now.n class_members p strip.old strip.new result }
 {
     let a = variables(lesson, strip, lesson.part(columns::FIELDS, p, p.at));
@@ -52,6 +56,7 @@ fn members(lesson: &Lesson, strip: &mut [u8], p: Job) -> usize
 
 // The class whose name is in a row; its lists have at most `left` members.
 fn class(lesson: &Lesson, strip: &mut [u8], mut p: Job) -> usize
+    requires { (p.row < modulus) × (p.at ≤ text_room) }
     ensures { ClassPut lesson.now.source.now lesson.now.table.now lesson.now.n whole_class p strip.old strip.new result }
 {
     p.at = titled(lesson, strip, p);
@@ -60,6 +65,7 @@ fn class(lesson: &Lesson, strip: &mut [u8], mut p: Job) -> usize
 
 // The classes from a row on.
 fn classes(lesson: &Lesson, strip: &mut [u8], mut p: Job) -> usize
+    requires { (p.row < modulus) × (p.at ≤ text_room) }
     ensures { ClassesPut lesson.now.source.now lesson.now.table.now lesson.now.n p strip.old strip.new result }
 {
     if p.left == 0 || ABSENT <= p.row {

@@ -5,7 +5,6 @@ use Rattle.std.proofs.Common.{◌∙◌, subst, arith}
 use mathlib.Core.List.{List, [], ◌∷◌, ◌++◌, append_assoc}
 use Rattle.std.proofs.Math.ListN.{length}
 use Rattle.base.specs.Bytes.{bytes}
-use Rattle.base.specs.Word.{modulus}
 use Rattle.base.specs.promises.Table.{c_type, c_next}
 use Rattle.lexer.specs.Bytes.{b_space, b_line_feed}
 use Rattle.lexer.specs.Kinds.{words, k_comma, k_semicolon, k_open_bracket, k_close_bracket}
@@ -63,7 +62,7 @@ module _ {s tab : List ℕ} {n : ℕ} {job : Job} where
         go ts lx rows (array_of u) m = absurd (other (read ∙ kinds rows (job.row + 1) ∙ m.1.is))
 
   pub variable-put : {row a r : ℕ} {c c₁ c₂ : List ℕ} → row ≡ word_at tab c_type job.row
-      → {l1 : row < modulus} {w1 : job.at ≤ text_room} → TypePut s tab n (record { left = job.left; row = row; at = job.at; low = l1; within = w1 }) c c₁ a → TokenPut s tab job.row a c₁ c₂ r
+      → TypePut s tab n (record { left = job.left; row = row; at = job.at }) c c₁ a → TokenPut s tab job.row a c₁ c₂ r
       → VariablePut s tab n job c c₂ r
   variable-put leads f t = record {
     within = t.within;
@@ -106,7 +105,7 @@ module _ {s tab : List ℕ} {n : ℕ} {job : Job} where
 
   pub variables-more : {next a b r : ℕ} {c c₁ c₂ c₃ : List ℕ} → (job.left ≡ 0 → ⊥) → job.row < absent → next ≡ word_at tab c_next job.row
       → VariablePut s tab n job c c₁ a → Puts a (bytes ";" ++ b_line_feed ∷ []) c₁ c₂ b
-      → {l2 : next < modulus} {w2 : b ≤ text_room} → VariablesPut s tab n (record { left = job.left - 1; row = next; at = b; low = l2; within = w2 }) c₂ c₃ r → VariablesPut s tab n job c c₃ r
+      → VariablesPut s tab n (record { left = job.left - 1; row = next; at = b }) c₂ c₃ r → VariablesPut s tab n job c c₃ r
   unfolding render spelling words marks separator declarations_tokens HoldsVariables VariablesMatch
   variables-more {r = r} {c = c} {c₃ = c₃} some near leads f p w = record { within = w.within; says = go }
     where
@@ -155,7 +154,7 @@ module _ {s tab : List ℕ} {n : ℕ} {job : Job} where
             absurd (omega (arith, z, far, m.1.0.name.token.there, rows.count, rows.few))
 
     pub parameters-more : {b r : ℕ} {c₂ c₃ : List ℕ} → next < absent → Puts a (bytes "," ++ b_space ∷ []) c₁ c₂ b
-        → {l3 : next < modulus} {w3 : b ≤ text_room} → ParametersPut s tab n (record { left = job.left - 1; row = next; at = b; low = l3; within = w3 }) c₂ c₃ r → ParametersPut s tab n job c c₃ r
+        → ParametersPut s tab n (record { left = job.left - 1; row = next; at = b }) c₂ c₃ r → ParametersPut s tab n job c c₃ r
     unfolding render spelling words marks separator parameters_tokens HoldsVariables VariablesMatch
     parameters-more {b} {r} {c₂} {c₃} close p w = record { within = w.within; says = go }
       where

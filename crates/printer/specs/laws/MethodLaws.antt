@@ -5,7 +5,6 @@ use Rattle.std.proofs.Common.{◌∙◌, subst, arith}
 use mathlib.Core.List.{List, [], ◌∷◌, ◌++◌, append_assoc}
 use Rattle.std.proofs.Math.ListN.{length}
 use Rattle.base.specs.Bytes.{bytes}
-use Rattle.base.specs.Word.{modulus}
 use Rattle.base.specs.promises.Table.{col, c_next, c_parameters, c_locals, c_body, c_value}
 use Rattle.lexer.specs.Bytes.{b_space, b_line_feed}
 use Rattle.lexer.specs.Kinds.{words, k_public, k_return, k_semicolon, k_open, k_close, k_open_brace, k_close_brace}
@@ -52,7 +51,7 @@ named-near rows {m} h = omega (arith, h.after.there, rows.count, rows.few)
 
 module _ {s tab : List ℕ} {n : ℕ} {job : Job} where
   pub head-put : {a b r : ℕ} {c c₁ c₂ c₃ : List ℕ} → Puts job.at (bytes "public" ++ b_space ∷ []) c c₁ a
-      → {l1 : job.row < modulus} {w1 : a ≤ text_room} → VariablePut s tab n (record { left = job.left; row = job.row; at = a; low = l1; within = w1 }) c₁ c₂ b → Puts b (bytes "(" ++ b_space ∷ []) c₂ c₃ r
+      → VariablePut s tab n (record { left = job.left; row = job.row; at = a }) c₁ c₂ b → Puts b (bytes "(" ++ b_space ∷ []) c₂ c₃ r
       → MethodPut s tab n method_head job c c₃ r
   unfolding render spelling words marks separator method_head
   head-put p f q = record {
@@ -116,8 +115,8 @@ module _ {s tab : List ℕ} {n : ℕ} {job : Job} where
   }
 
   pub method-put : {a b r : ℕ} {c c₁ c₂ c₃ : List ℕ} → MethodPut s tab n method_head job c c₁ a
-      → {l2 : job.row < modulus} {w2 : a ≤ text_room} → MethodPut s tab n method_front (record { left = job.left; row = job.row; at = a; low = l2; within = w2 }) c₁ c₂ b
-      → {l3 : job.row + 1 < modulus} {w3 : b ≤ text_room} → RestPut s tab n (record { left = job.left; row = job.row + 1; at = b; low = l3; within = w3 }) c₂ c₃ r → MethodPut s tab n whole_method job c c₃ r
+      → MethodPut s tab n method_front (record { left = job.left; row = job.row; at = a }) c₁ c₂ b
+      → RestPut s tab n (record { left = job.left; row = job.row + 1; at = b }) c₂ c₃ r → MethodPut s tab n whole_method job c c₃ r
   unfolding method_head method_front method_rest whole_method
   method-put f g v = record {
     within = v.within;
@@ -154,8 +153,8 @@ module _ {s tab : List ℕ} {n : ℕ} {job : Job} where
       go ts lx rows (m ∷ ms) at (more-methods held x more) few = absurd (omega (arith, named-near rows held, at))
 
   pub methods-more : {next a r : ℕ} {c c₁ c₂ : List ℕ} → (job.left ≡ 0 → ⊥) → job.row < absent → next ≡ word_at tab c_next job.row
-      → {l4 : job.row < modulus} {w4 : job.at ≤ text_room} → MethodPut s tab n whole_method (record { left = n; row = job.row; at = job.at; low = l4; within = w4 }) c c₁ a
-      → {l5 : next < modulus} {w5 : a ≤ text_room} → MethodsPut s tab n (record { left = job.left - 1; row = next; at = a; low = l5; within = w5 }) c₁ c₂ r → MethodsPut s tab n job c c₂ r
+      → MethodPut s tab n whole_method (record { left = n; row = job.row; at = job.at }) c c₁ a
+      → MethodsPut s tab n (record { left = job.left - 1; row = next; at = a }) c₁ c₂ r → MethodsPut s tab n job c c₂ r
   unfolding methods_tokens whole_method
   methods-more {r = r} {c = c} {c₂ = c₂} some near leads f w = record { within = w.within; says = go }
     where

@@ -6,7 +6,6 @@ use mathlib.Core.List.{List, [], ◌∷◌, ◌++◌, append_assoc}
 use borrow.Author.Tests.{ne_eqb}
 use Rattle.base.specs.Bytes.{bytes}
 use Rattle.base.specs.Codes.{tokens_most}
-use Rattle.base.specs.Word.{modulus}
 use Rattle.base.specs.promises.Table.{c_first, c_second, c_third, c_next}
 use Rattle.lexer.specs.Bytes.{b_space, b_line_feed, b_close, b_close_bracket}
 use Rattle.lexer.specs.Kinds.{words, k_out, k_println, k_put, k_else, k_if, k_port, k_system, k_while, k_assign, k_dot, k_comma, k_semicolon}
@@ -301,16 +300,15 @@ fewer_s row left = record {
   of-port-put = λ at w. (omega arith, omega arith);
 }
 
-abbrev one_less : (job : Job) → job.row < modulus → job.at ≤ text_room → Job
-one_less job l w = record { left = job.left - 1; row = job.row; at = job.at; low = l; within = w }
+abbrev one_less : Job → Job
+one_less job = record { left = job.left - 1; row = job.row; at = job.at }
 
 module _ {s tab : List ℕ} {n : ℕ} {job : Job} where
   pub single-none : {c : List ℕ} → job.left ≡ 0 → job.at ≤ text_room → PartPut s tab n statement 0 job c c job.at
   single-none z h = record { within = h; says = λ ts lx rows t p. absurd (omega (arith, p.within, positive-statement t, z)) }
 
   pub single-stated : {r : ℕ} {c c' : List ℕ} → (job.left ≡ 0 → ⊥)
-      → {l : job.row < modulus} {w : job.at ≤ text_room}
-      → StatementPut s tab n (form_s (kind_in_table tab n job.row) (kind_in_table tab n (job.row + 1))) (one_less job l w) c c' r
+      → StatementPut s tab n (form_s (kind_in_table tab n job.row) (kind_in_table tab n (job.row + 1))) (one_less job) c c' r
       → PartPut s tab n statement 0 job c c' r
   single-stated some f = record {
     within = f.within;
@@ -352,7 +350,7 @@ first-and-rest row left some t ss at h = (omega arith, omega (arith, positive-st
 module _ {s tab : List ℕ} {n : ℕ} {job : Job} where
   pub list-more : {next a r : ℕ} {c c₁ c₂ : List ℕ} → (job.left ≡ 0 → ⊥) → job.row < absent → next ≡ word_at tab c_next job.row
       → PartPut s tab n statement 0 job c c₁ a
-      → {l1 : next < modulus} {w1 : a ≤ text_room} → PartPut s tab n statements 0 (record { left = job.left - 1; row = next; at = a; low = l1; within = w1 }) c₁ c₂ r → PartPut s tab n statements 0 job c c₂ r
+      → PartPut s tab n statements 0 (record { left = job.left - 1; row = next; at = a }) c₁ c₂ r → PartPut s tab n statements 0 job c c₂ r
   list-more {next} {a} {r} {c} {c₁} {c₂} some near leads f v = record {
     within = v.within;
     says = λ ts lx rows ss h. go ts lx rows ss (goes-on_s (first-and-rest job.row job.left some) near ss h);

@@ -7,7 +7,6 @@ use Rattle.std.proofs.Math.Option.{Option, none, some}
 use Rattle.std.proofs.Math.ListN.{length}
 use Rattle.base.specs.Bytes.{bytes}
 use Rattle.base.specs.Outcome.{accepted}
-use Rattle.base.specs.Word.{modulus}
 use Rattle.base.specs.promises.Table.{c_next, c_parent, c_fields, c_methods}
 use Rattle.lexer.specs.Bytes.{b_space, b_line_feed}
 use Rattle.lexer.specs.Kinds.{words, is_name_lem, k_class, k_extends, k_main, k_public, k_static, k_string, k_void, k_open, k_close, k_open_bracket}
@@ -87,7 +86,7 @@ module _ {s tab : List ℕ} {n : ℕ} {job : Job} where
           (named_put {n = n} t ts lx rows x.text (subst (λ (i : ℕ). NameIs ts i x.text) (sym e) m.token)) q)
 
   pub titled-put : {a b r : ℕ} {c c₁ c₂ c₃ : List ℕ} → Puts job.at (bytes "class" ++ b_space ∷ []) c c₁ a
-      → TokenPut s tab job.row a c₁ c₂ b → {l1 : job.row < modulus} {w1 : b ≤ text_room} → ClassPut s tab n class_parent (record { left = job.left; row = job.row; at = b; low = l1; within = w1 }) c₂ c₃ r
+      → TokenPut s tab job.row a c₁ c₂ b → ClassPut s tab n class_parent (record { left = job.left; row = job.row; at = b }) c₂ c₃ r
       → ClassPut s tab n class_head job c c₃ r
   unfolding render spelling words marks separator class_head
   titled-put p t f = record {
@@ -119,7 +118,7 @@ module _ {s tab : List ℕ} {n : ℕ} {job : Job} where
   }
 
   pub class-put : {a r : ℕ} {c c₁ c₂ : List ℕ} → ClassPut s tab n class_head job c c₁ a
-      → {l2 : job.row < modulus} {w2 : a ≤ text_room} → ClassPut s tab n class_members (record { left = job.left; row = job.row; at = a; low = l2; within = w2 }) c₁ c₂ r → ClassPut s tab n whole_class job c c₂ r
+      → ClassPut s tab n class_members (record { left = job.left; row = job.row; at = a }) c₁ c₂ r → ClassPut s tab n whole_class job c c₂ r
   unfolding class_parent class_head class_members whole_class
   class-put f g = record {
     within = g.within;
@@ -152,8 +151,8 @@ module _ {s tab : List ℕ} {n : ℕ} {job : Job} where
       go ts lx rows (k ∷ ks) at (more-classes held x more) few = absurd (omega (arith, class-near rows held, at))
 
   pub classes-more : {next a r : ℕ} {c c₁ c₂ : List ℕ} → (job.left ≡ 0 → ⊥) → job.row < absent → next ≡ word_at tab c_next job.row
-      → {l3 : job.row < modulus} {w3 : job.at ≤ text_room} → ClassPut s tab n whole_class (record { left = n; row = job.row; at = job.at; low = l3; within = w3 }) c c₁ a
-      → {l4 : next < modulus} {w4 : a ≤ text_room} → ClassesPut s tab n (record { left = job.left - 1; row = next; at = a; low = l4; within = w4 }) c₁ c₂ r → ClassesPut s tab n job c c₂ r
+      → ClassPut s tab n whole_class (record { left = n; row = job.row; at = job.at }) c c₁ a
+      → ClassesPut s tab n (record { left = job.left - 1; row = next; at = a }) c₁ c₂ r → ClassesPut s tab n job c c₂ r
   unfolding classes_tokens whole_class
   classes-more {r = r} {c = c} {c₂ = c₂} left near leads f w = record { within = w.within; says = go }
     where
@@ -208,8 +207,8 @@ module _ {s tab : List ℕ} {n : ℕ} where
   }
 
   pub program-put : {first a b d r : ℕ} {c c₁ c₂ c₃ c₄ : List ℕ} → first ≡ word_at tab c_next 0 → ProgramPut s tab n main_head_tokens 0 c c₁ a
-      → {l5 : main_row < modulus} {w5 : a ≤ text_room} → PartPut s tab n statement 0 (record { left = n; row = main_row; at = a; low = l5; within = w5 }) c₁ c₂ b → Puts b (bytes "}\n}" ++ b_line_feed ∷ []) c₂ c₃ d
-      → {l6 : first < modulus} {w6 : d ≤ text_room} → ClassesPut s tab n (record { left = n; row = first; at = d; low = l6; within = w6 }) c₃ c₄ r → ProgramPut s tab n program_tokens 0 c c₄ r
+      → PartPut s tab n statement 0 (record { left = n; row = main_row; at = a }) c₁ c₂ b → Puts b (bytes "}\n}" ++ b_line_feed ∷ []) c₂ c₃ d
+      → ClassesPut s tab n (record { left = n; row = first; at = d }) c₃ c₄ r → ProgramPut s tab n program_tokens 0 c c₄ r
   unfolding render spelling words marks separator main_name_lem main_parameter_lem main_head_tokens
   program-put leads f t q w = record {
     within = w.within;

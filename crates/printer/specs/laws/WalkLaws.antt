@@ -7,7 +7,6 @@ use mathlib.Core.List.{List, [], ◌∷◌, ◌++◌}
 use borrow.Author.Tests.{le-leb, lt-leb, ne_eqb}
 use Rattle.base.specs.Bytes.{bytes}
 use Rattle.base.specs.Codes.{tokens_most}
-use Rattle.base.specs.Word.{modulus}
 use Rattle.base.specs.promises.Table.{c_first, c_second, c_next}
 use Rattle.lexer.specs.Bytes.{b_space, b_close, b_close_bracket}
 use Rattle.lexer.specs.Kinds.{words, is_name_lem, k_new, k_dot, k_not, k_port, k_length, k_get, k_open, k_close, k_comma, k_open_bracket, k_close_bracket}
@@ -130,13 +129,12 @@ fewer row left = record {
 }
 
 -- the same without the node itself
-abbrev one_less : (job : Job) (at : ℕ) → job.row < modulus → at ≤ text_room → Job
-one_less job at l w = record { left = job.left - 1; row = job.row; at = at; low = l; within = w }
+abbrev one_less : Job → ℕ → Job
+one_less job at = record { left = job.left - 1; row = job.row; at = at }
 
 module _ (s tab : List ℕ) (n : ℕ) (job : Job) where
   -- the tokens of a form that is not the empty one
-  form_of : {at r : ℕ} {c c' : List ℕ} → (job.left ≡ 0 → ⊥) → {low : job.row < modulus} {room : at ≤ text_room}
-      → FormPut s tab n (form_at tab n job.row) (one_less job at low room) c c' r
+  form_of : {at r : ℕ} {c c' : List ℕ} → (job.left ≡ 0 → ⊥) → FormPut s tab n (form_at tab n job.row) (one_less job at) c c' r
       → Whatever s tab n λ ts. (e : Expression) → PartAt tab ts job.row (AtMost job.left expression) e
       → Puts at (render (bare e [])) c c' r
   form_of some f ts lx rows e h =
@@ -160,8 +158,7 @@ module _ {s tab : List ℕ} {n w : ℕ} {job : Job} where
 
   pub expression-bare : {k third ρ r : ℕ} {c c' : List ℕ} → (job.left ≡ 0 → ⊥) → k ≡ kind_in_table tab n job.row
       → third ≡ kind_in_table tab n (job.row + 2) → ρ ≡ tightness_of k third → w ≤ ρ
-      → {low : job.row < modulus} {room : job.at ≤ text_room}
-      → FormPut s tab n (form_at tab n job.row) (one_less job job.at low room) c c' r → PartPut s tab n expression w job c c' r
+      → FormPut s tab n (form_at tab n job.row) (one_less job job.at) c c' r → PartPut s tab n expression w job c c' r
   expression-bare some is is₃ ranks le f = record {
     within = f.within;
     says = λ ts lx rows e h.
@@ -171,8 +168,7 @@ module _ {s tab : List ℕ} {n w : ℕ} {job : Job} where
 
   pub expression-pair : {k third ρ a b r : ℕ} {c c₁ c₂ c₃ : List ℕ} → (job.left ≡ 0 → ⊥) → k ≡ kind_in_table tab n job.row
       → third ≡ kind_in_table tab n (job.row + 2) → ρ ≡ tightness_of k third → ρ < w → Puts job.at (bytes "(" ++ b_space ∷ []) c c₁ a
-      → {low : job.row < modulus} {room : a ≤ text_room}
-      → FormPut s tab n (form_at tab n job.row) (one_less job a low room) c₁ c₂ b → Puts b (bytes ")" ++ b_space ∷ []) c₂ c₃ r
+      → FormPut s tab n (form_at tab n job.row) (one_less job a) c₁ c₂ b → Puts b (bytes ")" ++ b_space ∷ []) c₂ c₃ r
       → PartPut s tab n expression w job c c₃ r
   unfolding render spelling words marks separator
   expression-pair some is is₃ ranks lt p f q = record {
@@ -469,7 +465,7 @@ module _ {s tab : List ℕ} {n : ℕ} {job : Job} where
             (likewise (ap render (in-loosest-place e)) (f.says ts lx rows e x))
 
     pub arguments-more : {b r : ℕ} {c₂ c₃ : List ℕ} → next < absent → Puts a (bytes "," ++ b_space ∷ []) c₁ c₂ b
-        → {l1 : next < modulus} {w1 : b ≤ text_room} → PartPut s tab n arguments 0 (record { left = job.left - 1; row = next; at = b; low = l1; within = w1 }) c₂ c₃ r → PartPut s tab n arguments 0 job c c₃ r
+        → PartPut s tab n arguments 0 (record { left = job.left - 1; row = next; at = b }) c₂ c₃ r → PartPut s tab n arguments 0 job c c₃ r
     unfolding render spelling words marks separator
     arguments-more {b} {r} {c₂} {c₃} close p v = record {
       within = v.within;

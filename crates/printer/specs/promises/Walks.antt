@@ -1,6 +1,7 @@
 -- What the functions that walk a tree ensure, whatever the tree is that the table holds: they write its tokens.
 use Rattle.std.specs.Prelude.{ℕ, ◌+◌, ◌≤◌, ◌<◌, ◌≡◌, List, [], ◌∷◌, ◌++◌, length, leb}
 use Rattle.base.specs.Outcome.{accepted}
+use Rattle.base.specs.Word.{modulus}
 use Rattle.base.specs.promises.Table.{c_second, c_third}
 use Rattle.lexer.specs.Bytes.{b_space}
 use Rattle.lexer.specs.Kinds.{k_new, k_dot, k_else, k_semicolon, k_open, k_close, k_close_brace}
@@ -20,6 +21,7 @@ pub record PartReached (tab : List ℕ) (k : ℕ) (job : Job) (at : ℕ) (r : Jo
   pub nodes : r.left ≡ job.left
   pub leads : r.row ≡ word_at tab k job.row
   pub begins : r.at ≡ at
+  pub low : r.row < modulus
 
 -- the class that the right operand of an operator of class w must reach
 pub record Tighter (w r : ℕ) : Type 0 where

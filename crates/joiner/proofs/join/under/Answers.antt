@@ -17,11 +17,14 @@ pub invariant_of-s : goal.invariant_of-s
 invariant_of-s c =
     let a = c.args in
     record {
-      short = lesson-short a.lesson.now a.table.now a.library.now a.strip.now c.requires.1;
       big = omega arith;
       few = tokens-few a.lesson.now a.table.now a.library.now a.strip.now c.requires.1 c.fill.new.table c.fill.ensures c.in-Ok.is;
-      right = c.byte_kinds-kinds.ensures;
     }
+
+pub text-requires : goal.text-requires
+text-requires c =
+    let a = c.args in
+    lesson-short a.lesson.now a.table.now a.library.now a.strip.now c.requires.1
 
 pub returns-in-Ok : goal.returns-in-Ok
 returns-in-Ok c =

@@ -5,7 +5,7 @@ use Rattle.printer.proofs.decl.+parameters.Goals as goal
 
 pub returns-then-p-eq0 : goal.returns-then-p-eq0
 returns-then-p-eq0 t c =
-    elim c.then-p-eq0.either [ inl z ↦ parameters-none z c.args.p.within | inr f ↦ parameters-end f.1 c.args.p.within ]
+    elim c.then-p-eq0.either [ inl z ↦ parameters-none z c.requires.1 | inr f ↦ parameters-end f.1 c.requires.1 ]
 
 pub returns-then-p-ge-ABSENT-2 : goal.returns-then-p-ge-ABSENT-2
 returns-then-p-ge-ABSENT-2 t c = search parameters-last

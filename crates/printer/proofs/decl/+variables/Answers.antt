@@ -5,7 +5,7 @@ use Rattle.printer.proofs.decl.+variables.Goals as goal
 
 pub returns-then-p-eq0 : goal.returns-then-p-eq0
 returns-then-p-eq0 t c =
-    elim c.then-p-eq0.either [ inl z ↦ variables-none z c.args.p.within | inr f ↦ variables-end f.1 c.args.p.within ]
+    elim c.then-p-eq0.either [ inl z ↦ variables-none z c.requires.1 | inr f ↦ variables-end f.1 c.requires.1 ]
 
 pub returns : goal.returns
 returns t c = search variables-more

@@ -7,7 +7,7 @@ use Rattle.printer.proofs.expr.+arguments_binary_dotted_element_enclosed_express
 
 pub arguments-returns-then-p-eq0 : goal.arguments-returns-then-p-eq0
 arguments-returns-then-p-eq0 t c =
-    elim c.then-p-eq0.either [ inl z ↦ arguments-none z c.args.p.within | inr f ↦ arguments-end f.1 c.args.p.within ]
+    elim c.then-p-eq0.either [ inl z ↦ arguments-none z c.requires.1 | inr f ↦ arguments-end f.1 c.requires.1 ]
 
 pub arguments-returns-then-p-ge-ABSENT-2 : goal.arguments-returns-then-p-ge-ABSENT-2
 arguments-returns-then-p-ge-ABSENT-2 t c = search arguments-last
@@ -17,14 +17,14 @@ arguments-returns t c = search arguments-more
 
 pub binary-returns : goal.binary-returns
 binary-returns t c =
-    binary-put c.requires c.part.ensures c.expression-a.ensures c.token-b.ensures c.tighter.ensures c.part-2.ensures c.expression.ensures
+    binary-put c.requires.2 c.part.ensures c.expression-a.ensures c.token-b.ensures c.tighter.ensures c.part-2.ensures c.expression.ensures
 
 pub dotted-returns-then-kind-eq-LENGTH : goal.dotted-returns-then-kind-eq-LENGTH
 dotted-returns-then-kind-eq-LENGTH t c = search dotted-length
 
 pub dotted-returns : goal.dotted-returns
 dotted-returns t c =
-    dotted-call c.requires c.part.ensures c.expression-a.ensures c.kind.ensures c.if-kind-eq-LENGTH.false c.member-b.ensures
+    dotted-call c.requires.2 c.part.ensures c.expression-a.ensures c.kind.ensures c.if-kind-eq-LENGTH.false c.member-b.ensures
     c.part-2.ensures c.given.ensures
 
 pub element-returns : goal.element-returns
@@ -47,7 +47,7 @@ form-returns-then-is_atom t c = search form-atom
 
 pub form-returns-then-third-eq-OPEN_BRACKET : goal.form-returns-then-third-eq-OPEN_BRACKET
 form-returns-then-third-eq-OPEN_BRACKET t c =
-    form-array c.requires.0 c.requires.1 c.if-k-eq-NEW.true c.if-third-eq-OPEN_BRACKET.true c.made-a.ensures c.spell-b.ensures
+    form-array c.requires.2 c.requires.3 c.if-k-eq-NEW.true c.if-third-eq-OPEN_BRACKET.true c.made-a.ensures c.spell-b.ensures
     c.part.ensures c.enclosed.ensures
 
 pub form-returns-then-k-eq-NEW : goal.form-returns-then-k-eq-NEW

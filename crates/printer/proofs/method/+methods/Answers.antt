@@ -5,7 +5,7 @@ use Rattle.printer.proofs.method.+methods.Goals as goal
 
 pub returns-then-p-eq0 : goal.returns-then-p-eq0
 returns-then-p-eq0 t c =
-    elim c.then-p-eq0.either [ inl z ↦ methods-none z c.args.p.within | inr f ↦ methods-end f.1 c.args.p.within ]
+    elim c.then-p-eq0.either [ inl z ↦ methods-none z c.requires.1 | inr f ↦ methods-end f.1 c.requires.1 ]
 
 pub returns : goal.returns
 returns t c = search methods-more

@@ -13,7 +13,7 @@ branches-returns t c = search branches-put
 
 pub list-returns-then-p-eq0 : goal.list-returns-then-p-eq0
 list-returns-then-p-eq0 t c =
-    elim c.then-p-eq0.either [ inl z ↦ list-none z c.args.p.within | inr f ↦ list-end f.1 c.args.p.within ]
+    elim c.then-p-eq0.either [ inl z ↦ list-none z c.requires.1 | inr f ↦ list-end f.1 c.requires.1 ]
 
 pub list-returns : goal.list-returns
 list-returns t c = search list-more
@@ -31,7 +31,7 @@ pub stated-returns-then-k-eq-IF : goal.stated-returns-then-k-eq-IF
 stated-returns-then-k-eq-IF t c = search stated-if
 
 pub stated-returns-then-k-eq-WHILE : goal.stated-returns-then-k-eq-WHILE
-stated-returns-then-k-eq-WHILE t c = stated-while c.requires c.if-k-eq-WHILE.true c.spell-a-then-k-eq-WHILE.ensures c.part-then-k-eq-WHILE.ensures
+stated-returns-then-k-eq-WHILE t c = stated-while c.requires.2 c.if-k-eq-WHILE.true c.spell-a-then-k-eq-WHILE.ensures c.part-then-k-eq-WHILE.ensures
     c.enclosed-b-then-k-eq-WHILE.ensures c.part-then-k-eq-WHILE-2.ensures c.single.ensures
 
 pub stated-returns-then-k-eq-SYSTEM : goal.stated-returns-then-k-eq-SYSTEM

@@ -5,7 +5,7 @@ use Rattle.printer.proofs.unit.+classes.Goals as goal
 
 pub returns-then-p-eq0 : goal.returns-then-p-eq0
 returns-then-p-eq0 t c =
-    elim c.then-p-eq0.either [ inl z ↦ classes-none z c.args.p.within | inr f ↦ classes-end f.1 c.args.p.within ]
+    elim c.then-p-eq0.either [ inl z ↦ classes-none z c.requires.1 | inr f ↦ classes-end f.1 c.requires.1 ]
 
 pub returns : goal.returns
 returns t c = search classes-more
