@@ -84,7 +84,9 @@ const SEVENS: [([u8; 7], u32); 3] = [
     (*b"println", kinds::PRINTLN),
 ];
 
-// The kind of an identifier or a reserved word.
+// The kind of an identifier or a reserved word. It stays a function of its own: put into `scan::piece_at`, its comparisons would have registers
+// saved at each byte that begins a blank or a mark too.
+#[inline(never)]
 pub fn word_kind(text: &[u8]) -> u32
     ensures { result ≡ word_kind_lem text.now }
 {
