@@ -80,6 +80,7 @@ pub fn keep(table: &[u32], names: &mut [u32]) -> usize
     names[0] = word(table, columns::START, MAIN_NAME) as u32;
     let mut row = word(table, columns::NEXT, columns::CLASS_LIST);
     let mut count = 1;
+    // A chain of links, and no count of an index.
     while count < CLASSES_MOST && row < columns::ABSENT {
         names[count] = word(table, columns::START, row) as u32;
         row = word(table, columns::NEXT, row);
