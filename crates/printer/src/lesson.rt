@@ -5,11 +5,9 @@ ghost use Rattle.base.specs.Codes.{table_least, tokens_most};
 ghost use Rattle.lexer.specs.ByteKinds.{RightTable};
 
 use crate::job::Job;
-use crate::strip::spell;
-use crate::token::after;
-use lexer::scan::{Piece, piece_at};
+use crate::{job, token};
 use lookup::rows;
-use parser::{columns, table};
+use parser::table;
 
 #[derive(Clone, Copy)]
 pub struct Lesson<'a> {
@@ -50,11 +48,7 @@ impl Lesson<'_> {
         requires { k < 8 }
         ensures { PartReached self.now.table.now k p at result }
     {
-        Job {
-            left: p.left,
-            row: self.word(k, p.row),
-            at,
-        }
+        job::part(self.table, k, p, at)
     }
 
     // The token in a row, and what stands after it.
@@ -63,17 +57,6 @@ impl Lesson<'_> {
         ensures { TokenPut self.now.source.now self.now.table.now row at strip.old
             strip.new result }
     {
-        let start = self.word(columns::START, row);
-        if start < self.source.len() {
-            match piece_at(self.source, self.bytes, start) {
-                Piece::Token(kind, end) => {
-                    return spell(strip, at, &self.source[start..end], after(kind));
-                }
-                Piece::Gap(_) | Piece::Unclosed | Piece::Nothing => {
-                    return at;
-                }
-            }
-        }
-        at
+        token::token(self.source, self.bytes, self.table, strip, row, at)
     }
 }

@@ -1,13 +1,13 @@
--- `printer::lesson::Lesson::token` meets its contract: at the position that the row has its token begins, and it is copied as far as it goes.
+-- `printer::token::token` meets its contract: at the position that the row has its token begins, and it is copied as far as it goes.
 use Rattle.std.proofs.Common.{rules, sym, ◌∙◌, inl, inr}
 use Rattle.printer.specs.laws.PutLaws.{starts-before, ends-inside, no_gap, no-unclosed, no-nothing, past-source, token-put}
-use Rattle.printer.proofs.lesson.Lesson.token.Goals as goal
+use Rattle.printer.proofs.token.token.Goals as goal
 
 pub slice_bounds-spell-end : goal.slice_bounds-spell-end
 slice_bounds-spell-end c =
     let e = sym c.in-Token.is ∙ c.piece_at.ensures in
-    let a = starts-before _ _ _ _ c.if-start-self.true e in
-    let b = ends-inside _ _ _ _ c.if-start-self.true e in
+    let a = starts-before _ _ _ _ c.if-start-source.true e in
+    let b = ends-inside _ _ _ _ c.if-start-source.true e in
     search rules
 
 pub returns-in-Token : goal.returns-in-Token
@@ -26,4 +26,4 @@ returns-in-Gap c =
     ]
 
 pub returns : goal.returns
-returns c = past-source (search rules) c.word-start.ensures.0 c.if-start-self.false
+returns c = past-source (search rules) c.word-start.ensures.0 c.if-start-source.false
