@@ -1,5 +1,6 @@
 // The kinds of bytes, by a table.
 ghost use Rattle.std.specs.Prelude.{◌≡◌, get_or};
+ghost use Rattle.base.specs.Bytes.{same};
 ghost use Rattle.lexer.specs.Bytes.{is_name_part_lem};
 ghost use Rattle.lexer.specs.ByteKinds.{byte_kind, RightTable};
 
@@ -78,4 +79,19 @@ pub fn byte_at(source: &[u8], at: usize) -> u8
     ensures { result ≡ get_or source.now at 0 }
 {
     if at < source.len() { source[at] } else { 0 }
+}
+
+// Whether two byte strings are equal. Byte by byte: for strings as short as the reserved words std's `==` takes longer.
+pub fn equal(a: &[u8], b: &[u8]) -> bool
+    ensures { result ≡ same a.now b.now }
+{
+    if a.len() != b.len() {
+        return false;
+    }
+    for i in 0..a.len() {
+        if a[i] != b[i] {
+            return false;
+        }
+    }
+    true
 }

@@ -1,8 +1,9 @@
-// The kinds of words and marks. A word is compared with the reserved words of its length.
+// The kinds of words and marks. A word is compared with the reserved words of its length, byte for byte.
 ghost use Rattle.std.specs.Prelude.{◌≡◌, length};
 ghost use Rattle.lexer.specs.promises.Words.{Listed};
 ghost use Rattle.lexer.specs.Kinds.{word_kind_lem, mark_kind_lem};
 
+use super::bytes::equal;
 use super::kinds;
 
 // The kind of a token of one byte, 0 where there is none.
@@ -35,7 +36,7 @@ fn kind_among<const N: usize>(words: &[([u8; N], u32)], text: &[u8]) -> u32
     ensures { result ≡ word_kind_lem text.now }
 {
     for (word, kind) in words {
-        if word.as_slice() == text {
+        if equal(word.as_slice(), text) {
             return *kind;
         }
     }
@@ -84,9 +85,7 @@ const SEVENS: [([u8; 7], u32); 3] = [
     (*b"println", kinds::PRINTLN),
 ];
 
-// The kind of an identifier or a reserved word. It stays a function of its own: put into `scan::piece_at`, its comparisons would have registers
-// saved at each byte that begins a blank or a mark too.
-#[inline(never)]
+// The kind of an identifier or a reserved word.
 pub fn word_kind(text: &[u8]) -> u32
     ensures { result ≡ word_kind_lem text.now }
 {
